@@ -1,0 +1,43 @@
+-- `little::read_u32` is right because a number is its low half and, 65536 times as much, its high half (`numberAt-add`).
+use borrow.Author.Needs.{needs}
+use native.Mathlib.Omega.{arith}
+use Rattle.little.proofs.Numbers.{numberAt-add}
+use Rattle.little.proofs.read_u32.Statement.{statement}
+use Rattle.little.proofs.read_u32.Tie as tie
+
+read-u16-requires : tie.Need-read-u16-requires
+read-u16-requires c κs = search needs
+
+add-read-u16 : tie.Need-add-read-u16
+add-read-u16 c = search needs
+
+read-u16-requires-2 : tie.Need-read-u16-requires-2
+read-u16-requires-2 c κs = search needs
+
+cast-result : tie.Need-cast-result
+cast-result c = search needs
+
+cast-result-2 : tie.Need-cast-result-2
+cast-result-2 c = search needs
+
+mul-result : tie.Need-mul-result
+mul-result c = search needs
+
+add-result : tie.Need-add-result
+add-result c = search needs
+
+returns : tie.Need-returns
+returns c = rw (numberAt-add _ _ 2 2) (omega arith)
+
+pub read-u32-spec : {M : Type 1} → statement M
+read-u32-spec =
+    tie.close
+    (tie.spec
+    read-u16-requires
+    add-read-u16
+    read-u16-requires-2
+    cast-result
+    cast-result-2
+    mul-result
+    add-result
+    returns)

@@ -1,0 +1,273 @@
+-- Demand 3: a session, seen by one controller, is its slot alone, unless a start of it is refused for what controllers share. Assumes nothing.
+use mathlib.Core.Path.{_≡_, refl, sym, ap, ap₂, subst, _∙_}
+use mathlib.Core.Logic.{_≢_}
+use mathlib.Core.Bool.{Bool, true, false, _&&_, not, cond, true≢false}
+use mathlib.Core.List.{List, [], _∷_, _++_, map}
+use mathlib.Core.Option.{Option, none, some}
+use Prim.Native.Nat.{ℕ, zero, suc, _+_, _≤_, _<_}
+use native.Mathlib.Omega.{arith}
+use native.Mathlib.Nat.{zero-add}
+use lib.Dec.{leb, eqb}
+use lib.ListN.{length, getD, set}
+use lib.Seq.{set-getD}
+use borrow.Author.Tests.{eqb-true, eqb-false, leb-true, le-leb}
+use Rattle.rules.specs.Lists.{all, member, sum, isSome}
+use Rattle.rules.specs.Refusals.{Test, _else_, verdict}
+use Rattle.rules.specs.Settings.{settingsOk, identifiersOf, placeOf, granularityOk}
+use Rattle.rules.specs.Ranges.{listTests}
+use Rattle.rules.specs.StartData.{headerThere, versionOk, rangesThere, granularityOf, countOf, rangesOf}
+use Rattle.rules.specs.Order.{Op, start, stop, write, receive, suspend, resume, Seen, order}
+use Rattle.rules.specs.Device.{heldCount, cleaned, closedSettings}
+use Rattle.rules.specs.Machine.{Answer, refused, off, on, Slot, slot, freshSlot, isSuspended, isTracked, heldBy, pendingIn, accepted, slotStep, State, closed, fresh, soundState, countsIn, slotAt, withSlot, slotOf, seenAt, stepAt, Call, Event, step, after, events, numberOf}
+use Rattle.rules.specs.History.{Did, only, historyOf}
+use Rattle.rules.specs.Demands.{unhindered, sharedRefusals}
+use Rattle.rules.specs.declared.Settings.{Settings}
+use Rattle.rules.proofs.ListLaws.{and-left, and-right}
+use Rattle.rules.proofs.RefusalLaws.{verdict-append, verdict-same}
+use Rattle.rules.proofs.SlotHistory.{did}
+use Rattle.rules.proofs.StateLaws.{Fits, Sized, placeOf-fits, ownStep, step-settings, step-sized, step-own-answer, step-own, step-other, fresh-sized, fresh-slot}
+use Rattle.rules.proofs.SoundLaws.{step-sound}
+
+-- ---- what a controller's call sees, with n counts tracked
+
+abbrev seenFor : Bool → Settings → ℕ → Slot → ℕ → Seen
+seenFor b s a c n = record { sound = b; known = isSome (placeOf s a); suspended = isSuspended c; tracked = isTracked c; counts = n }
+
+-- a slot's step with nobody else tracked
+abbrev aloneStep : Bool → Settings → ℕ → Slot → Op → Answer × Slot
+aloneStep b s a c o = slotStep s (seenFor b s a c 0) c o
+
+-- ---- the counts matter to a start that is refused with 12, and to nothing else
+
+-- the tests of a start before the last
+abbrev startBefore : Settings → Seen → List ℕ → List Test
+startBefore s v x =
+    (v .sound else 1)
+    ∷ (v .known else 2)
+    ∷ (not (v .suspended) else 4)
+    ∷ (not (v .tracked) else 3)
+    ∷ (headerThere x else 8)
+    ∷ (versionOk x else 6)
+    ∷ (granularityOk s (granularityOf x) else 7)
+    ∷ (rangesThere x else 8)
+    ∷ listTests s (granularityOf x) (countOf x) (rangesOf x)
+
+limit-same : {A : Type 0} (k n l : ℕ) (y : A) (refuse : ℕ → ℕ → A) → verdict ((leb (k + n) l else 12) ∷ []) y refuse ≢ refuse 12 0
+    → verdict ((leb (k + 0) l else 12) ∷ []) y refuse ≡ verdict ((leb (k + n) l else 12) ∷ []) y refuse
+limit-same k n l y refuse = go (leb (k + n) l) refl
+  where
+    go : (b : Bool) → leb (k + n) l ≡ b → cond b y (refuse 12 0) ≢ refuse 12 0 → cond (leb (k + 0) l) y (refuse 12 0) ≡ cond b y (refuse 12 0)
+    go true e f = let h = leb-true (k + n) l e in rw (le-leb (k + 0) l (omega arith))
+    go false e f = absurd (f refl)
+
+slotStep-same : (b : Bool) (s : Settings) (a : ℕ) (c : Slot) (n : ℕ) (o : Op) → numberOf ((slotStep s (seenFor b s a c n) c o) .0) ≢ 12
+    → aloneStep b s a c o ≡ slotStep s (seenFor b s a c n) c o
+unfolding order
+slotStep-same b s a c n (start x) f =
+    verdict-append before (last 0) y refuse
+    ∙ verdict-same (refuse 12 0) before (verdict (last n) y refuse) (verdict (last 0) y refuse) refuse (limit-same (countOf x) n (s .limit) y refuse)
+    (λ e. f (ap (λ (r : Answer × Slot). numberOf (r .0)) (verdict-append before (last n) y refuse ∙ e)))
+    ∙ sym (verdict-append before (last n) y refuse)
+  where
+    before : List Test
+    before = startBefore s (seenFor b s a c 0) x
+
+    last : ℕ → List Test
+    last m = (leb (countOf x + m) (s .limit) else 12) ∷ []
+
+    y : Answer × Slot
+    y = accepted c (start x)
+
+    refuse : ℕ → ℕ → Answer × Slot
+    refuse k i = (refused k, c)
+slotStep-same b s a c n stop f = refl
+slotStep-same b s a c n (write w) f = refl
+slotStep-same b s a c n (receive x) f = refl
+slotStep-same b s a c n (suspend kind) f = refl
+slotStep-same b s a c n resume f = refl
+
+-- ---- an unsound device stays as it is, so a device is as sound after a call as it was before
+
+slotStep-unsound : (s : Settings) (v : Seen) (c : Slot) (o : Op) → v .sound ≡ false → slotStep s v c o ≡ (refused 1, c)
+unfolding order
+slotStep-unsound s v c (start x) e = rw e
+slotStep-unsound s v c stop e = rw e
+slotStep-unsound s v c (write w) e = rw e
+slotStep-unsound s v c (receive x) e = rw e
+slotStep-unsound s v c (suspend kind) e = rw e
+slotStep-unsound s v c resume e = rw e
+
+pub withSlot-slotAt : (st : State) (p : Option ℕ) → withSlot st p (slotAt st p) ≡ st
+withSlot-slotAt st none = refl
+withSlot-slotAt st (some i) = ap (λ l. record { settings = st .settings; slots = l }) (set-getD (st .slots) i freshSlot)
+
+pub step-unsound : (st : State) (k : Call) → soundState st ≡ false → step st k ≡ (refused 1, st)
+unfolding step
+step-unsound st k e = go (placeOf (st .settings) (k .id))
+  where
+    go : (p : Option ℕ) → stepAt st p (k .op) ≡ (refused 1, st)
+    go p = rw (slotStep-unsound (st .settings) (seenAt st p) (slotAt st p) (k .op) e) (ap (λ (t : State). (refused 1, t)) (withSlot-slotAt st p))
+
+step-sound-same : (st : State) (k : Call) → soundState ((step st k) .1) ≡ soundState st
+step-sound-same st k = go (soundState st) refl
+  where
+    go : (b : Bool) → soundState st ≡ b → soundState ((step st k) .1) ≡ b
+    go true e = step-sound st k e
+    go false e = ap (λ (r : Answer × State). soundState (r .1)) (step-unsound st k e) ∙ e
+
+-- ---- a controller's calls on its slot alone
+
+abbrev ops : ℕ → List Call → List Op
+ops a [] = []
+ops a (k ∷ ks) = cond (eqb (k .id) a) (k .op ∷ ops a ks) (ops a ks)
+
+abbrev aloneAfter : Bool → Settings → ℕ → Slot → List Op → Slot
+aloneAfter b s a c [] = c
+aloneAfter b s a c (o ∷ os) = aloneAfter b s a ((aloneStep b s a c o) .1) os
+
+abbrev aloneDid : Bool → Settings → ℕ → Slot → List Op → List Did
+aloneDid b s a c [] = []
+aloneDid b s a c (o ∷ os) = did o ((aloneStep b s a c o) .0) ∷ aloneDid b s a ((aloneStep b s a c o) .1) os
+
+-- what a session is for controller a, from a device on
+pub record Seems (a : ℕ) (st : State) (ks : List Call) (os : List Op) : Type 0 where
+  pub history : historyOf a (events st ks) ≡ aloneDid (soundState st) (st .settings) a (slotOf st a) os
+  pub end : slotOf (after st ks) a ≡ aloneAfter (soundState st) (st .settings) a (slotOf st a) os
+
+-- a call to another leaves all of it
+seems-other : (a : ℕ) (st : State) (k : Call) (ks : List Call) (os : List Op) → (k .id ≡ a → ⊥) → Seems a ((step st k) .1) ks os
+    → (historyOf a (events ((step st k) .1) ks) ≡ aloneDid (soundState st) (st .settings) a (slotOf st a) os)
+    × (slotOf (after ((step st k) .1) ks) a ≡ aloneAfter (soundState st) (st .settings) a (slotOf st a) os)
+seems-other a st k ks os f h = (
+  h .history ∙ rw (step-other st k a f, step-sound-same st k, step-settings st k),
+  h .end ∙ rw (step-other st k a f, step-sound-same st k, step-settings st k),
+)
+
+-- a call of its own is a step of the slot alone, if it sees no more
+seems-own : (a : ℕ) (st : State) (k : Call) (ks : List Call) (os : List Op) → Sized st → k .id ≡ a
+    → ownStep st a (k .op) ≡ aloneStep (soundState st) (st .settings) a (slotOf st a) (k .op) → Seems a ((step st k) .1) ks os
+    → (did (k .op) ((step st k) .0) ∷ historyOf a (events ((step st k) .1) ks) ≡ aloneDid (soundState st) (st .settings) a (slotOf st a) (k .op ∷ os))
+    × (slotOf (after ((step st k) .1) ks) a ≡ aloneAfter (soundState st) (st .settings) a (slotOf st a) (k .op ∷ os))
+seems-own a st k ks os z own same h =
+    let to : slotOf ((step st k) .1) a ≡ (aloneStep (soundState st) (st .settings) a (slotOf st a) (k .op)) .1 = step-own st k a z own ∙ ap (λ (r : Answer × Slot). r .1) same in
+    let said : (step st k) .0 ≡ (aloneStep (soundState st) (st .settings) a (slotOf st a) (k .op)) .0 = step-own-answer st k a own ∙ ap (λ (r : Answer × Slot). r .0) same in (
+      ap₂ (λ x l. did (k .op) x ∷ l) said (h .history ∙ rw (to, step-sound-same st k, step-settings st k)),
+      h .end ∙ rw (to, step-sound-same st k, step-settings st k),
+    )
+
+-- ---- a session in which it is not hindered
+
+not-shared : (n : ℕ) → not (member n sharedRefusals) ≡ true → n ≢ 12
+not-shared n e q = true≢false (sym e ∙ ap (λ m. not (member m sharedRefusals)) q)
+
+pub seems-unhindered : (a : ℕ) (ks : List Call) (st : State) → Sized st → unhindered (historyOf a (events st ks)) ≡ true → Seems a st ks (ops a ks)
+seems-unhindered a [] st z f = record { history = refl; end = refl }
+seems-unhindered a (k ∷ ks) st z f =
+    let r = go (eqb (k .id) a) refl (seems-unhindered a ks ((step st k) .1) (step-sized st k z)) f in
+    record { history = r .0; end = r .1 }
+  where
+    st′ : State
+    st′ = (step st k) .1
+
+    es : List Event
+    es = events st′ ks
+
+    d : Did
+    d = did (k .op) ((step st k) .0)
+
+    go : (b : Bool) → eqb (k .id) a ≡ b → (unhindered (historyOf a es) ≡ true → Seems a st′ ks (ops a ks))
+        → unhindered (cond b (d ∷ historyOf a es) (historyOf a es)) ≡ true
+        → (cond b (d ∷ historyOf a es) (historyOf a es) ≡ aloneDid (soundState st) (st .settings) a (slotOf st a) (cond b (k .op ∷ ops a ks) (ops a ks)))
+        × (slotOf (after st′ ks) a ≡ aloneAfter (soundState st) (st .settings) a (slotOf st a) (cond b (k .op ∷ ops a ks) (ops a ks)))
+    go true q ih f =
+        let own : k .id ≡ a = eqb-true (k .id) a q in
+        let free : numberOf ((ownStep st a (k .op)) .0) ≢ 12 =
+        subst (λ (x : Answer). numberOf x ≢ 12) (step-own-answer st k a own) (not-shared (numberOf ((step st k) .0)) (and-left (not (member (numberOf ((step st k) .0)) sharedRefusals)) (unhindered (historyOf a es)) f)) in
+        seems-own a st k ks (ops a ks) z own (sym (slotStep-same (soundState st) (st .settings) a (slotOf st a) (countsIn st) (k .op) free))
+        (ih (and-right (not (member (numberOf ((step st k) .0)) sharedRefusals)) (unhindered (historyOf a es)) f))
+    go false q ih f = seems-other a st k ks (ops a ks) (eqb-false (k .id) a q) (ih f)
+
+-- ---- a session of its calls alone: the counts are its own, which do not matter to it
+
+own-count : (b : Bool) (s : Settings) (a : ℕ) (c : Slot) (o : Op) → slotStep s (seenFor b s a c (heldCount (heldBy c))) c o ≡ aloneStep b s a c o
+unfolding order
+own-count b s a (slot f off) o = refl
+own-count b s a (slot f (on g rs p)) (start x) = go b (isSome (placeOf s a)) f
+  where
+    go : (b known f : Bool)
+        → slotStep s (record { sound = b; known = known; suspended = f; tracked = true; counts = length rs }) (slot f (on g rs p)) (start x)
+        ≡ slotStep s (record { sound = b; known = known; suspended = f; tracked = true; counts = 0 }) (slot f (on g rs p)) (start x)
+    go true true true = refl
+    go true true false = refl
+    go true false f = refl
+    go false known f = refl
+own-count b s a (slot f (on g rs p)) stop = refl
+own-count b s a (slot f (on g rs p)) (write w) = refl
+own-count b s a (slot f (on g rs p)) (receive x) = refl
+own-count b s a (slot f (on g rs p)) (suspend kind) = refl
+own-count b s a (slot f (on g rs p)) resume = refl
+
+-- nobody but a is tracked
+abbrev Lonely : ℕ → State → Type 0
+Lonely a st = countsIn st ≡ heldCount (heldBy (slotOf st a))
+
+sum-set : (cs : List Slot) (i : ℕ) (c : Slot) → i < length cs
+    → sum (map heldCount (map heldBy (set cs i c))) + heldCount (heldBy (getD cs i freshSlot)) ≡ sum (map heldCount (map heldBy cs)) + heldCount (heldBy c)
+sum-set [] i c h = absurd (omega arith)
+sum-set (x ∷ cs) zero c h = omega arith
+sum-set (x ∷ cs) (suc i) c h = omega (arith, sum-set cs i c (omega arith))
+
+lonely-step : (a : ℕ) (st : State) (k : Call) → Sized st → k .id ≡ a → Lonely a st → Lonely a ((step st k) .1)
+unfolding step
+lonely-step a st k z own l =
+    rw (step-own st k a z own) (rw own (go (placeOf (st .settings) a) refl (placeOf-fits st z a)))
+  where
+    go : (p : Option ℕ) → placeOf (st .settings) a ≡ p → Fits p (st .slots) → countsIn ((stepAt st p (k .op)) .1) ≡ heldCount (heldBy ((ownStep st a (k .op)) .1))
+    go none e h =
+        let r : slotOf ((step st k) .1) a ≡ freshSlot = ap (λ (s : Settings). slotAt ((step st k) .1) (placeOf s a)) (step-settings st k) ∙ rw e in
+        let q : (ownStep st a (k .op)) .1 ≡ freshSlot = sym (step-own st k a z own) ∙ r in
+        let z0 : countsIn st ≡ 0 = l ∙ rw e in
+        rw q z0
+    go (some i) e h =
+        let was : countsIn st ≡ heldCount (heldBy (getD (st .slots) i freshSlot)) = rw e at l in
+        rw e (omega (arith, sum-set (st .slots) i ((slotStep (st .settings) (seenAt st (some i)) (getD (st .slots) i freshSlot) (k .op)) .1) h, was))
+
+pub seems-alone : (a : ℕ) (ks : List Call) (st : State) → Sized st → Lonely a st → Seems a st (only a ks) (ops a ks)
+seems-alone a [] st z l = record { history = refl; end = refl }
+seems-alone a (k ∷ ks) st z l = go (eqb (k .id) a) refl (λ t. seems-alone a ks t)
+  where
+    go : (b : Bool) → eqb (k .id) a ≡ b → ((t : State) → Sized t → Lonely a t → Seems a t (only a ks) (ops a ks))
+        → Seems a st (cond b (k ∷ only a ks) (only a ks)) (cond b (k .op ∷ ops a ks) (ops a ks))
+    go true q ih =
+        let own : k .id ≡ a = eqb-true (k .id) a q in
+        let same : ownStep st a (k .op) ≡ aloneStep (soundState st) (st .settings) a (slotOf st a) (k .op) =
+        ap (λ n. slotStep (st .settings) (seenFor (soundState st) (st .settings) a (slotOf st a) n) (slotOf st a) (k .op)) l
+        ∙ own-count (soundState st) (st .settings) a (slotOf st a) (k .op) in
+        let r = seems-own a st k (only a ks) (ops a ks) z own same (ih ((step st k) .1) (step-sized st k z) (lonely-step a st k z own l)) in
+        record { history = rw q (r .0); end = r .1 }
+    go false q ih = ih st z l
+
+-- ---- from a fresh device
+
+fresh-counts : (xs : List ℕ) → sum (map heldCount (map heldBy (map (λ (i : ℕ). freshSlot) xs))) ≡ 0
+fresh-counts [] = refl
+fresh-counts (x ∷ xs) = zero-add _ ∙ fresh-counts xs
+
+fresh-lonely : (s : Settings) (a : ℕ) → Lonely a (fresh s)
+unfolding fresh
+fresh-lonely s a = rw (fresh-slot s a) (go (settingsOk s))
+  where
+    go : (b : Bool) → countsIn (cond b (record { settings = cleaned s; slots = map (λ (i : ℕ). freshSlot) (identifiersOf s) }) closed) ≡ 0
+    go true = fresh-counts (identifiersOf s)
+    go false = refl
+
+-- a session in which a is not hindered is, for it, the session of its calls alone
+pub history-alone : (s : Settings) (a : ℕ) (ks : List Call) → unhindered (historyOf a (events (fresh s) ks)) ≡ true
+    → historyOf a (events (fresh s) ks) ≡ historyOf a (events (fresh s) (only a ks))
+history-alone s a ks f =
+    seems-unhindered a ks (fresh s) (fresh-sized s) f .history ∙ sym (seems-alone a ks (fresh s) (fresh-sized s) (fresh-lonely s a) .history)
+
+pub slot-alone : (s : Settings) (a : ℕ) (ks : List Call) → unhindered (historyOf a (events (fresh s) ks)) ≡ true
+    → slotOf (after (fresh s) ks) a ≡ slotOf (after (fresh s) (only a ks)) a
+slot-alone s a ks f =
+    seems-unhindered a ks (fresh s) (fresh-sized s) f .end ∙ sym (seems-alone a ks (fresh s) (fresh-sized s) (fresh-lonely s a) .end)

@@ -1,0 +1,13 @@
+pub mod ListLaws
+pub mod RefusalLaws
+pub mod UnitLaws
+pub mod RunLaws
+pub mod OrderLaws
+pub mod SlotHistory
+pub mod StateLaws
+pub mod SoundLaws
+pub mod Sessions
+pub mod Isolation
+pub mod StartLaws
+pub mod ReportLaws
+pub mod Theorems

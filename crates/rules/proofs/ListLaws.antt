@@ -1,0 +1,170 @@
+-- Laws of the plain functions of lists, and of what holds of every element. Assumes nothing.
+use mathlib.Core.Path.{_≡_, refl, sym, ap, ap₂, subst, _∙_}
+use mathlib.Core.Bool.{Bool, true, false, _&&_, _||_, not, cond, true≢false}
+use mathlib.Core.List.{List, [], _∷_, _++_, map, append-assoc}
+use mathlib.Core.Option.{Option, none, some}
+use Prim.Native.Nat.{ℕ, zero, suc, _+_, _≤_, _<_}
+use native.Mathlib.Omega.{arith}
+use lib.Dec.{eqb}
+use lib.ListN.{length, take, drop, getD, getElem?, set}
+use lib.Seq.{take-append-seam, drop-append-seam}
+use borrow.Author.Tests.{eqb-true}
+use Rattle.rules.specs.Lists.{all, any, pairs, every, sum, join, placeFrom, isSome}
+
+-- ---- Bools
+
+pub and-left : (a b : Bool) → (a && b) ≡ true → a ≡ true
+and-left true b e = refl
+and-left false b e = e
+
+pub and-right : (a b : Bool) → (a && b) ≡ true → b ≡ true
+and-right true b e = e
+and-right false b e = absurd (true≢false (sym e))
+
+pub and-intro : (a b : Bool) → a ≡ true → b ≡ true → (a && b) ≡ true
+and-intro true b e f = f
+and-intro false b e f = e
+
+pub or-intro-left : (a b : Bool) → a ≡ true → (a || b) ≡ true
+or-intro-left true b e = refl
+or-intro-left false b e = absurd (true≢false (sym e))
+
+pub or-intro-right : (a b : Bool) → b ≡ true → (a || b) ≡ true
+or-intro-right true b e = refl
+or-intro-right false b e = e
+
+pub or-neither : (a b : Bool) → a ≡ false → b ≡ false → (a || b) ≡ false
+or-neither true b e f = e
+or-neither false b e f = f
+
+pub or-cases : (a b : Bool) (C : Type 0) → (a || b) ≡ true → (a ≡ true → C) → (b ≡ true → C) → C
+or-cases true b C e f g = f refl
+or-cases false b C e f g = g e
+
+pub false-intro : (b : Bool) → (b ≡ true → ⊥) → b ≡ false
+false-intro true h = absurd (h refl)
+false-intro false h = refl
+
+pub not-intro : (b : Bool) → b ≡ false → not b ≡ true
+not-intro true e = sym e
+not-intro false e = refl
+
+-- ---- a fact of every element
+
+abbrev pub All : {A : Type 0} → (A → Type 0) → List A → Type 0
+All P [] = Unit {0}
+All P (x ∷ xs) = P x × All P xs
+
+pub All-map : {A : Type 0} {P Q : A → Type 0} → ((x : A) → P x → Q x) → (xs : List A) → All P xs → All Q xs
+All-map f [] h = tt
+All-map f (x ∷ xs) h = (f x (h .0), All-map f xs (h .1))
+
+pub All-both : {A : Type 0} (P Q : A → Type 0) (xs : List A) → All P xs → All Q xs → All (λ x. P x × Q x) xs
+All-both P Q [] p q = tt
+All-both P Q (x ∷ xs) p q = ((p .0, q .0), All-both P Q xs (p .1) (q .1))
+
+pub All-append : {A : Type 0} (P : A → Type 0) (xs ys : List A) → All P xs → All P ys → All P (xs ++ ys)
+All-append P [] ys p q = q
+All-append P (x ∷ xs) ys p q = (p .0, All-append P xs ys (p .1) q)
+
+pub All-left : {A : Type 0} (P : A → Type 0) (xs ys : List A) → All P (xs ++ ys) → All P xs
+All-left P [] ys p = tt
+All-left P (x ∷ xs) ys p = (p .0, All-left P xs ys (p .1))
+
+pub All-right : {A : Type 0} (P : A → Type 0) (xs ys : List A) → All P (xs ++ ys) → All P ys
+All-right P [] ys p = p
+All-right P (x ∷ xs) ys p = All-right P xs ys (p .1)
+
+pub All-take : {A : Type 0} (P : A → Type 0) (k : ℕ) (xs : List A) → All P xs → All P (take k xs)
+All-take P zero xs h = tt
+All-take P (suc k) [] h = tt
+All-take P (suc k) (x ∷ xs) h = (h .0, All-take P k xs (h .1))
+
+pub All-drop : {A : Type 0} (P : A → Type 0) (k : ℕ) (xs : List A) → All P xs → All P (drop k xs)
+All-drop P zero xs h = h
+All-drop P (suc k) [] h = tt
+All-drop P (suc k) (x ∷ xs) h = All-drop P k xs (h .1)
+
+pub All-always : {A : Type 0} {P : A → Type 0} → ((x : A) → P x) → (xs : List A) → All P xs
+All-always f [] = tt
+All-always f (x ∷ xs) = (f x, All-always f xs)
+
+pub All-at : {A : Type 0} (P : A → Type 0) (xs : List A) (n : ℕ) (x : A) → All P xs → getElem? xs n ≡ some x → P x
+All-at P [] n x h e = let z : _≡_ {A = ℕ} 0 1 = cc in absurd (omega arith)
+All-at P (y ∷ xs) zero x h e = let q : y ≡ x = cc in subst P q (h .0)
+All-at P (y ∷ xs) (suc n) x h e = All-at P xs n x (h .1) e
+
+-- ---- map
+
+pub map-cong : {A B : Type 0} (f g : A → B) (xs : List A) → All (λ x. f x ≡ g x) xs → map f xs ≡ map g xs
+map-cong f g [] h = refl
+map-cong f g (x ∷ xs) h = ap₂ (λ a b. a ∷ b) (h .0) (map-cong f g xs (h .1))
+
+pub map-same : {A B : Type 0} {f g : A → B} → ((x : A) → f x ≡ g x) → (xs : List A) → map f xs ≡ map g xs
+map-same {f} {g} e xs = map-cong f g xs (All-always e xs)
+
+pub map-at : {A B : Type 0} (f : A → B) (xs : List A) (n : ℕ) (x : A) → getElem? xs n ≡ some x → getElem? (map f xs) n ≡ some (f x)
+map-at f [] n x e = let z : _≡_ {A = ℕ} 0 1 = cc in absurd (omega arith)
+map-at f (y ∷ xs) zero x e = let q : y ≡ x = cc in ap (λ v. some (f v)) q
+map-at f (y ∷ xs) (suc n) x e = map-at f xs n x e
+
+pub map-set : {A B : Type 0} (f : A → B) (xs : List A) (i : ℕ) (x : A) → map f (set xs i x) ≡ set (map f xs) i (f x)
+map-set f [] i x = refl
+map-set f (y ∷ xs) zero x = refl
+map-set f (y ∷ xs) (suc i) x = ap (λ l. f y ∷ l) (map-set f xs i x)
+
+pub some-inj : {A : Type 0} {x y : A} → some x ≡ some y → x ≡ y
+some-inj e = cc
+
+-- ---- all, every
+
+pub every-at : (bs : List Bool) (i : ℕ) → every bs ≡ true → getD bs i true ≡ true
+every-at [] i e = refl
+every-at (b ∷ bs) zero e = and-left b (every bs) e
+every-at (b ∷ bs) (suc i) e = every-at bs i (and-right b (every bs) e)
+
+pub all-set : {A : Type 0} (f : A → Bool) (xs : List A) (i : ℕ) (x : A) → all f xs ≡ true → f x ≡ true → all f (set xs i x) ≡ true
+all-set f [] i x e h = refl
+all-set f (y ∷ xs) zero x e h = and-intro (f x) (all f xs) h (and-right (f y) (all f xs) e)
+all-set f (y ∷ xs) (suc i) x e h = and-intro (f y) (all f (set xs i x)) (and-left (f y) (all f xs) e) (all-set f xs i x (and-right (f y) (all f xs) e) h)
+
+pub all-getD : {A : Type 0} (f : A → Bool) (xs : List A) (i : ℕ) (d : A) → f d ≡ true → all f xs ≡ true → f (getD xs i d) ≡ true
+all-getD f [] i d z e = z
+all-getD f (x ∷ xs) zero d z e = and-left (f x) (all f xs) e
+all-getD f (x ∷ xs) (suc i) d z e = all-getD f xs i d z (and-right (f x) (all f xs) e)
+
+pub all-append : {A : Type 0} (f : A → Bool) (xs ys : List A) → all f xs ≡ true → all f ys ≡ true → all f (xs ++ ys) ≡ true
+all-append f [] ys e h = h
+all-append f (x ∷ xs) ys e h = and-intro (f x) (all f (xs ++ ys)) (and-left (f x) (all f xs) e) (all-append f xs ys (and-right (f x) (all f xs) e) h)
+
+pub All-all : {A : Type 0} (f : A → Bool) (xs : List A) → All (λ x. f x ≡ true) xs → all f xs ≡ true
+All-all f [] h = refl
+All-all f (x ∷ xs) h = and-intro (f x) (all f xs) (h .0) (All-all f xs (h .1))
+
+-- ---- joined lists
+
+pub join-take-drop : {A : Type 0} (k : ℕ) (xs : List (List A)) → join (take k xs) ++ join (drop k xs) ≡ join xs
+join-take-drop zero xs = refl
+join-take-drop (suc k) [] = refl
+join-take-drop (suc k) (x ∷ xs) = append-assoc x _ _ ∙ ap (λ l. x ++ l) (join-take-drop k xs)
+
+pub take-join : {A : Type 0} (k : ℕ) (xs : List (List A)) → take (length (join (take k xs))) (join xs) ≡ join (take k xs)
+take-join k xs =
+    subst (λ l. take (length (join (take k xs))) l ≡ join (take k xs)) (join-take-drop k xs)
+    (take-append-seam (join (take k xs)) (join (drop k xs)))
+
+pub drop-join : {A : Type 0} (k : ℕ) (xs : List (List A)) → drop (length (join (take k xs))) (join xs) ≡ join (drop k xs)
+drop-join k xs =
+    subst (λ l. drop (length (join (take k xs))) l ≡ join (drop k xs)) (join-take-drop k xs)
+    (drop-append-seam (join (take k xs)) (join (drop k xs)))
+
+-- ---- where a number stands
+
+pub placeFrom-is : (xs : List ℕ) (j a i : ℕ) → placeFrom j xs a ≡ some i → (m : ℕ) × (i ≡ j + m) × (m < length xs) × (getD xs m 0 ≡ a)
+placeFrom-is [] j a i e = let z : _≡_ {A = ℕ} 0 1 = cc in absurd (omega arith)
+placeFrom-is (x ∷ xs) j a i e = go (eqb x a) refl (placeFrom-is xs (suc j) a i) e
+  where
+    go : (b : Bool) → eqb x a ≡ b → (placeFrom (suc j) xs a ≡ some i → (m : ℕ) × (i ≡ suc j + m) × (m < length xs) × (getD xs m 0 ≡ a))
+        → cond b (some j) (placeFrom (suc j) xs a) ≡ some i → (m : ℕ) × (i ≡ j + m) × (m < suc (length xs)) × (getD (x ∷ xs) m 0 ≡ a)
+    go true t ih e = let q : j ≡ i = cc in (0, omega arith, omega arith, eqb-true x a t)
+    go false t ih e = let r = ih e in (suc (r .0), omega (arith, r .1), omega (arith, r .2), r .3)

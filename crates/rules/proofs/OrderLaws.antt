@@ -1,0 +1,54 @@
+-- Laws of the calls' tables: what is known where all tests of a table are passed. Assumes nothing.
+use mathlib.Core.Path.{_≡_, refl, sym, ap, _∙_}
+use mathlib.Core.Bool.{Bool, true, false, not}
+use mathlib.Core.List.{List, [], _∷_, _++_}
+use Prim.Native.Nat.{ℕ, _+_, _≤_}
+use lib.Dec.{leb}
+use borrow.Author.Tests.{leb-true}
+use Rattle.rules.specs.Lists.{pairs}
+use Rattle.rules.specs.Refusals.{Test, _else_}
+use Rattle.rules.specs.Settings.{granularityOk}
+use Rattle.rules.specs.Ranges.{apart, rowsTests, rangeTests, listTests, powersOk, unitsOk}
+use Rattle.rules.specs.StartData.{headerThere, versionOk, rangesThere, granularityOf, countOf, rangesOf}
+use Rattle.rules.specs.Order.{Seen, startOrder}
+use Rattle.rules.specs.declared.Range.{Range}
+use Rattle.rules.specs.declared.Settings.{Settings}
+use Rattle.rules.proofs.ListLaws.{All, All-left, All-right}
+use Rattle.rules.proofs.RefusalLaws.{Passed}
+
+-- ---- ranges
+
+pub rangeTests-apart : (g n : ℕ) (rs : List Range) → Passed (rangeTests g n rs) → pairs (apart g) rs ≡ true
+unfolding rangeTests
+rangeTests-apart g n rs h = All-right (λ (t : Test). t .ok ≡ true) (rowsTests g 0 rs) ((pairs (apart g) rs else 9) ∷ []) (h .1 .1) .0
+
+-- ---- a start
+
+-- what the tests of a start say of the start structure and of the limit, where they are passed
+pub record StartPassed (s : Settings) (v : Seen) (x : List ℕ) : Type 0 where
+  pub untracked : not (v .tracked) ≡ true
+  pub granularity : granularityOk s (granularityOf x) ≡ true
+  pub list : Passed (listTests s (granularityOf x) (countOf x) (rangesOf x))
+  pub limit : countOf x + v .counts ≤ s .limit
+
+pub startOrder-passed : (s : Settings) (v : Seen) (x : List ℕ) → Passed (startOrder s v x) → StartPassed s v x
+startOrder-passed s v x h =
+    record {
+      untracked = h .1 .1 .1 .0;
+      granularity = h .1 .1 .1 .1 .1 .1 .0;
+      list = All-left (λ (t : Test). t .ok ≡ true) tests last rest;
+      limit = leb-true (countOf x + v .counts) (s .limit) (All-right (λ (t : Test). t .ok ≡ true) tests last rest .0);
+    }
+  where
+    tests : List Test
+    tests = listTests s (granularityOf x) (countOf x) (rangesOf x)
+
+    last : List Test
+    last = (leb (countOf x + v .counts) (s .limit) else 12) ∷ []
+
+    rest : Passed (tests ++ last)
+    rest = h .1 .1 .1 .1 .1 .1 .1 .1
+
+pub listTests-apart : (s : Settings) (g n : ℕ) (rs : List Range) → Passed (listTests s g n rs) → pairs (apart g) rs ≡ true
+listTests-apart s g n rs h =
+    rangeTests-apart g n rs (All-left (λ (t : Test). t .ok ≡ true) (rangeTests g n rs) ((powersOk s rs else 10) ∷ (unitsOk g rs else 11) ∷ []) h)

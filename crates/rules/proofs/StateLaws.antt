@@ -1,0 +1,153 @@
+-- Laws of the device: a call changes its own controller's slot as the rules for a slot say, and leaves every other slot and the settings.
+-- Assumes nothing.
+use mathlib.Core.Path.{_≡_, refl, sym, ap, ap₂, subst, _∙_}
+use mathlib.Core.Logic.{_≢_}
+use mathlib.Core.Bool.{Bool, true, false, cond}
+use mathlib.Core.List.{List, [], _∷_, _++_, map}
+use mathlib.Core.Option.{Option, none, some}
+use Prim.Native.Nat.{ℕ, zero, suc, _+_, _-_, _<_}
+use native.Mathlib.Omega.{arith}
+use lib.ListN.{length, take, getD, set, length-set, length-map, replicate}
+use lib.Seq.{getD-set-same, getD-set-other}
+use Rattle.rules.specs.Settings.{identifiersOf, settingsOk, placeOf}
+use Rattle.rules.specs.Order.{Op, start, stop, write, receive, suspend, resume, Seen, order}
+use Rattle.rules.specs.Device.{cleaned, closedSettings}
+use Rattle.rules.specs.Machine.{Answer, refused, Slot, freshSlot, slotStep, State, closed, fresh, slotAt, withSlot, slotOf, seenAt, stepAt, Call, step}
+use Rattle.rules.specs.declared.Settings.{Settings}
+use Rattle.rules.proofs.ListLaws.{placeFrom-is}
+
+-- ---- where a controller stands
+
+-- a place is one of a list's; nowhere is, too
+abbrev pub Fits : {A : Type 0} → Option ℕ → List A → Type 0
+Fits none xs = Prim.Unit {0}
+Fits (some i) xs = i < length xs
+
+-- there is a slot for each identifier
+abbrev pub Sized : State → Type 0
+Sized st = length (st .slots) ≡ length (identifiersOf (st .settings))
+
+pub placeOf-is : (s : Settings) (a i : ℕ) → placeOf s a ≡ some i → (i < length (identifiersOf s)) × (getD (identifiersOf s) i 0 ≡ a)
+unfolding placeOf
+placeOf-is s a i e =
+    let r = placeFrom-is (identifiersOf s) 0 a i e in
+    let q : i ≡ r .0 = omega (arith, r .1) in
+    (omega (arith, r .2), ap (λ m. getD (identifiersOf s) m 0) q ∙ r .3)
+
+-- two controllers of the settings stand apart
+pub placeOf-apart : (s : Settings) (a b i j : ℕ) → placeOf s a ≡ some i → placeOf s b ≡ some j → (a ≡ b → ⊥) → i ≢ j
+placeOf-apart s a b i j p q f e = f (sym (placeOf-is s a i p .1) ∙ ap (λ m. getD (identifiersOf s) m 0) e ∙ placeOf-is s b j q .1)
+
+pub placeOf-fits : (st : State) → Sized st → (a : ℕ) → Fits (placeOf (st .settings) a) (st .slots)
+placeOf-fits st z a = go (placeOf (st .settings) a) refl
+  where
+    go : (p : Option ℕ) → placeOf (st .settings) a ≡ p → Fits p (st .slots)
+    go none e = tt
+    go (some i) e = omega (arith, placeOf-is (st .settings) a i e .0)
+
+-- ---- a call to a controller that the settings lack
+
+pub slotStep-unknown : (s : Settings) (v : Seen) (c : Slot) (o : Op) → v .known ≡ false → slotStep s v c o ≡ (refused (cond (v .sound) 2 1), c)
+unfolding order
+slotStep-unknown s v c o e = go o (v .sound)
+  where
+    go : (o : Op) (b : Bool) → slotStep s (record { sound = b; known = v .known; suspended = v .suspended; tracked = v .tracked; counts = v .counts }) c o ≡ (refused (cond b 2 1), c)
+    go (start x) true = rw e
+    go (start x) false = refl
+    go stop true = rw e
+    go stop false = refl
+    go (write w) true = rw e
+    go (write w) false = refl
+    go (receive x) true = rw e
+    go (receive x) false = refl
+    go (suspend kind) true = rw e
+    go (suspend kind) false = refl
+    go resume true = rw e
+    go resume false = refl
+
+-- ---- one call
+
+-- what a controller's call does to its slot
+abbrev pub ownStep : State → ℕ → Op → Answer × Slot
+ownStep st a o = slotStep (st .settings) (seenAt st (placeOf (st .settings) a)) (slotOf st a) o
+
+pub step-settings : (st : State) (k : Call) → (step st k) .1 .settings ≡ st .settings
+unfolding step
+step-settings st k = go (placeOf (st .settings) (k .id))
+  where
+    go : (p : Option ℕ) → (stepAt st p (k .op)) .1 .settings ≡ st .settings
+    go none = refl
+    go (some i) = refl
+
+pub step-sized : (st : State) (k : Call) → Sized st → Sized ((step st k) .1)
+unfolding step
+step-sized st k z = go (placeOf (st .settings) (k .id))
+  where
+    go : (p : Option ℕ) → Sized ((stepAt st p (k .op)) .1)
+    go none = z
+    go (some i) = length-set (st .slots) i _ ∙ z
+
+pub step-own-answer : (st : State) (k : Call) (a : ℕ) → k .id ≡ a → (step st k) .0 ≡ (ownStep st a (k .op)) .0
+unfolding step
+step-own-answer st k a e = rw e
+
+withSlot-same : (st : State) (p : Option ℕ) (c : Slot) → Fits p (st .slots) → (p ≡ none → c ≡ freshSlot) → slotAt (withSlot st p c) p ≡ c
+withSlot-same st none c h f = sym (f refl)
+withSlot-same st (some i) c h f = getD-set-same (st .slots) i c freshSlot h
+
+pub step-own : (st : State) (k : Call) (a : ℕ) → Sized st → k .id ≡ a → slotOf ((step st k) .1) a ≡ (ownStep st a (k .op)) .1
+unfolding step
+step-own st k a z e =
+    ap (λ s. slotAt ((step st k) .1) (placeOf s a)) (step-settings st k)
+    ∙ rw e (withSlot-same st (placeOf (st .settings) a) ((ownStep st a (k .op)) .1) (placeOf-fits st z a) unknown)
+  where
+    unknown : placeOf (st .settings) a ≡ none → (ownStep st a (k .op)) .1 ≡ freshSlot
+    unknown q = rw q (ap (λ (r : Answer × Slot). r .1) (slotStep-unknown (st .settings) (seenAt st none) freshSlot (k .op) refl))
+
+pub step-other : (st : State) (k : Call) (a : ℕ) → (k .id ≡ a → ⊥) → slotOf ((step st k) .1) a ≡ slotOf st a
+unfolding step
+step-other st k a f =
+    ap (λ s. slotAt ((step st k) .1) (placeOf s a)) (step-settings st k)
+    ∙ go (placeOf (st .settings) (k .id)) refl (placeOf (st .settings) a) refl
+  where
+    go : (q : Option ℕ) → placeOf (st .settings) (k .id) ≡ q → (p : Option ℕ) → placeOf (st .settings) a ≡ p
+        → slotAt ((stepAt st q (k .op)) .1) p ≡ slotAt st p
+    go none e none e′ = refl
+    go none e (some i) e′ = refl
+    go (some j) e none e′ = refl
+    go (some j) e (some i) e′ =
+        getD-set-other (st .slots) j i _ freshSlot (placeOf-apart (st .settings) a (k .id) i j e′ e (λ q. f (sym q)))
+
+-- ---- a fresh device
+
+cleaned-take : (n : ℕ) (l : List ℕ) → take n (take n l ++ replicate (length l - n) 0) ≡ take n l
+cleaned-take zero l = refl
+cleaned-take (suc n) [] = let e : 0 - suc n ≡ 0 = omega arith in rw e
+cleaned-take (suc n) (x ∷ l) =
+    let e : suc (length l) - suc n ≡ length l - n = omega arith in
+    rw e (ap (λ r. x ∷ r) (cleaned-take n l))
+
+pub cleaned-identifiers : (s : Settings) → identifiersOf (cleaned s) ≡ identifiersOf s
+cleaned-identifiers s = cleaned-take (s .count) (s .identifiers)
+
+pub fresh-sized : (s : Settings) → Sized (fresh s)
+unfolding fresh
+fresh-sized s = go (settingsOk s)
+  where
+    go : (b : Bool) → Sized (cond b (record { settings = cleaned s; slots = map (λ (i : ℕ). freshSlot) (identifiersOf s) }) closed)
+    go true = length-map (identifiersOf s) (λ (i : ℕ). freshSlot) ∙ ap length (sym (cleaned-identifiers s))
+    go false = refl
+
+fresh-slots : (xs : List ℕ) (p : Option ℕ) (s : Settings) → slotAt (record { settings = s; slots = map (λ (i : ℕ). freshSlot) xs }) p ≡ freshSlot
+fresh-slots xs none s = refl
+fresh-slots [] (some i) s = refl
+fresh-slots (x ∷ xs) (some zero) s = refl
+fresh-slots (x ∷ xs) (some (suc i)) s = fresh-slots xs (some i) s
+
+pub fresh-slot : (s : Settings) (a : ℕ) → slotOf (fresh s) a ≡ freshSlot
+unfolding fresh
+fresh-slot s a = go (settingsOk s)
+  where
+    go : (b : Bool) → slotOf (cond b (record { settings = cleaned s; slots = map (λ (i : ℕ). freshSlot) (identifiersOf s) }) closed) a ≡ freshSlot
+    go true = fresh-slots (identifiersOf s) (placeOf (cleaned s) a) (cleaned s)
+    go false = fresh-slots [] (placeOf closedSettings a) closedSettings

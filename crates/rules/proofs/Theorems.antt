@@ -1,0 +1,148 @@
+-- The demands, proved of the rules: one declaration for each statement of specs/Demands.antt. Assumes nothing.
+use mathlib.Core.Path.{_≡_, refl, sym, ap, subst, _∙_}
+use mathlib.Core.Bool.{Bool, true, false}
+use mathlib.Core.List.{List, [], _∷_, map}
+use mathlib.Core.Option.{Option, none, some}
+use Prim.Native.Nat.{ℕ, zero, suc, _+_, _*_, _-_, _%_, _^_, _≤_, _<_}
+use native.Mathlib.Omega.{arith}
+use native.Mathlib.Nat.{lt-of-lt-of-le, mul-mod-right}
+use lib.ListN.{getElem?}
+use lib.Pow.{pow-add, pow-mono, shl-lt}
+use Rattle.rules.specs.Refusals.{verdict}
+use Rattle.little.specs.Little.{numberAt, numberBytes, records, recordsAt}
+use Rattle.rules.specs.Settings.{settingsOk, placeOf, granularityOk, unitSize, bytesOf}
+use Rattle.rules.specs.Units.{Unit, units}
+use Rattle.rules.specs.Ranges.{rangeTests, powersOk, unitsOk}
+use Rattle.rules.specs.StartData.{rangesOf, startBytes}
+use Rattle.rules.specs.Order.{Op, start, stop, write, receive, suspend, resume, order}
+use Rattle.rules.specs.Device.{sound, heldOk}
+use Rattle.rules.specs.Machine.{Answer, refused, off, on, Slot, slot, pendingIn, accepted, State, fresh, closed, soundState, slotAt, withSlot, slotOf, seenAt, stepAt, Call, step, after, events}
+use Rattle.rules.specs.History.{Did, only, historyOf, PendingBy, pendingBy}
+use Rattle.rules.specs.Demands.{sessionEnd, sessionHistory, Refusals, Soundness, Pending, Demand2, Agree, unhindered, lentBytes, Demand3, Granularity}
+use Rattle.rules.specs.Worked.{Case, cases, answered}
+use Rattle.rules.specs.declared.Range.{Range}
+use Rattle.rules.specs.declared.Settings.{Settings}
+use Rattle.rules.proofs.ListLaws.{map-at, some-inj}
+use Rattle.rules.proofs.RefusalLaws.{verdict-has}
+use Rattle.rules.proofs.UnitLaws.{unitsFrom-sized}
+use Rattle.rules.proofs.SlotHistory.{Known, pendingBy-iff}
+use Rattle.rules.proofs.SoundLaws.{after-sound, fresh-sound, fresh-closed, closed-unsound}
+use Rattle.rules.proofs.Sessions.{known-session, slot-told}
+use Rattle.rules.proofs.Isolation.{withSlot-slotAt, step-unsound, history-alone, slot-alone}
+use Rattle.rules.proofs.ReportLaws.{reports-map, writes-always}
+
+-- ---- refusals
+
+accepted-not-refused : (c : Slot) (o : Op) (n : ℕ) → (accepted c o) .0 ≡ refused n → ⊥
+accepted-not-refused (slot b t) (start x) n e = let z : _≡_ {A = ℕ} 0 1 = cc in omega arith
+accepted-not-refused (slot b t) stop n e = let z : _≡_ {A = ℕ} 0 1 = cc in omega arith
+accepted-not-refused (slot b off) (write w) n e = let z : _≡_ {A = ℕ} 0 1 = cc in omega arith
+accepted-not-refused (slot b (on g rs p)) (write w) n e = let z : _≡_ {A = ℕ} 0 1 = cc in omega arith
+accepted-not-refused (slot b off) (receive x) n e = let z : _≡_ {A = ℕ} 0 1 = cc in omega arith
+accepted-not-refused (slot b (on g rs p)) (receive x) n e = let z : _≡_ {A = ℕ} 0 1 = cc in omega arith
+accepted-not-refused (slot b t) (suspend kind) n e = let z : _≡_ {A = ℕ} 0 1 = cc in omega arith
+accepted-not-refused (slot b t) resume n e = let z : _≡_ {A = ℕ} 0 1 = cc in omega arith
+
+refused-unchanged : (st : State) (k : Call) (n : ℕ) → (step st k) .0 ≡ refused n → (step st k) .1 ≡ st
+unfolding step
+refused-unchanged st k n = go (placeOf (st .settings) (k .id))
+  where
+    go : (p : Option ℕ) → (stepAt st p (k .op)) .0 ≡ refused n → (stepAt st p (k .op)) .1 ≡ st
+    go p =
+        verdict-has (λ (r : Answer × Slot). r .0 ≡ refused n → withSlot st p (r .1) ≡ st) (λ m i. (refused m, slotAt st p))
+        (λ m i e. withSlot-slotAt st p) (order (st .settings) (seenAt st p) (k .op)) (accepted (slotAt st p) (k .op))
+        (λ h e. absurd (accepted-not-refused (slotAt st p) (k .op) n e))
+
+pub refusals : Refusals
+refusals =
+    record {
+      unchanged = refused-unchanged;
+      bytes = λ id x n. refl;
+      number = λ n. refl;
+      zeros = λ n. (refl, refl);
+    }
+
+-- ---- soundness
+
+after-closed : (ks : List Call) → after closed ks ≡ closed
+after-closed [] = refl
+after-closed (k ∷ ks) = ap (λ (r : Answer × State). after (r .1) ks) (step-unsound closed k closed-unsound) ∙ after-closed ks
+
+pub soundness : Soundness
+soundness =
+    record {
+      kept = λ s ks e. after-sound ks (fresh s) (fresh-sound s e);
+      closed = λ s ks k e.
+          rw (fresh-closed s e, after-closed ks) (ap (λ (r : Answer × State). r .0) (step-unsound closed k closed-unsound));
+    }
+
+-- ---- demand 2
+
+pending-exactly : (s : Settings) (ks : List Call) (a : ℕ) → Pending s ks a
+pending-exactly s ks a =
+    record {
+      told = slot-told s a ks;
+      exactly = λ b g rs p e n u at.
+          let h : List Did = sessionHistory s ks a in
+          let k : Known h b (on g rs p) = rw e at (known-session s a ks) in
+          let m : getElem? p n ≡ some (pendingBy h u) = ap (λ l. getElem? l n) (k .marks .0) ∙ map-at (pendingBy h) (units g rs) n u at in (
+            (λ t. pendingBy-iff h u .0 (some-inj (sym m ∙ t))),
+            (λ w. m ∙ ap some (pendingBy-iff h u .1 w)),
+          );
+    }
+
+pub demand-2 : Demand2
+demand-2 =
+    record {
+      pending = pending-exactly;
+      reports = λ s ks a b g rs p e k.
+          let h : List Did = sessionHistory s ks a in
+          let w : Known h b (on g rs p) = rw e at (known-session s a ks) in
+          rw (w .marks .0) (reports-map b (pendingBy h) g k (units g rs) (unitsFrom-sized (unitSize g) 0 rs) (w .marks .1));
+      writes = λ s ks a b g rs p e w. writes-always w (units g rs) p;
+    }
+
+-- ---- demand 3
+
+agree-alone : (s : Settings) (a : ℕ) (ks : List Call) → unhindered (sessionHistory s ks a) ≡ true → Agree s a ks (only a ks)
+agree-alone s a ks f =
+    record {
+      answers = history-alone s a ks f;
+      bytes = ap (lentBytes a) (history-alone s a ks f);
+      units = ap pendingIn (slot-alone s a ks f);
+    }
+
+pub demand-3 : Demand3
+demand-3 =
+    record {
+      alone = agree-alone;
+      together = λ s a ks ks′ e f f′.
+          let l = agree-alone s a ks f in
+          let r = agree-alone s a ks′ f′ in
+          record {
+            answers = l .answers ∙ ap (λ k. sessionHistory s k a) e ∙ sym (r .answers);
+            bytes = l .bytes ∙ ap (λ k. lentBytes a (sessionHistory s k a)) e ∙ sym (r .bytes);
+            units = l .units ∙ ap (λ k. pendingIn (slotOf (sessionEnd s k) a)) e ∙ sym (r .units);
+          };
+    }
+
+-- ---- granularities, all of 0 to 20 at once
+
+pub granularity : (g : ℕ) → g ≤ 20 → Granularity g
+granularity g h =
+    record {
+      least = pow-mono {i = 12} {j = 12 + g} (omega arith);
+      whole = whole;
+      fits = λ u l. lt-of-lt-of-le (shl-lt 32 (12 + g) l) (pow-mono {i = 32 + (12 + g)} {j = 64} (omega arith));
+    }
+  where
+    whole : 2 ^ 64 % unitSize g ≡ 0
+    whole =
+        let e : 64 ≡ 12 + g + (52 - g) = omega arith in
+        ap (λ k. 2 ^ k % unitSize g) e ∙ ap (λ n. n % unitSize g) (pow-add 2 (12 + g) (52 - g)) ∙ mul-mod-right (unitSize g) (2 ^ (52 - g))
+
+-- ---- the worked numbers of document 01
+
+pub worked : map answered cases ≡ map (λ (c : Case). c .answers) cases
+unfolding cases settingsOk placeOf granularityOk rangeTests powersOk unitsOk rangesOf startBytes fresh step order sound heldOk numberAt numberBytes records recordsAt
+worked = refl

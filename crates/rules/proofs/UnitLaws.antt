@@ -1,0 +1,186 @@
+-- Laws of units and their marks: the units of ranges that pass 9 share no byte and are of one size; what a write marks; what is pending.
+-- Assumes nothing.
+use mathlib.Core.Path.{_≡_, refl, sym, ap, ap₂, subst, _∙_}
+use mathlib.Core.Logic.{_↔_}
+use mathlib.Core.Bool.{Bool, true, false, _&&_, _||_, not, cond}
+use mathlib.Core.List.{List, [], _∷_, _++_, map}
+use Prim.Native.Nat.{ℕ, zero, suc, _+_, _*_, _≤_, _<_, max}
+use native.Mathlib.Omega.{arith}
+use native.Mathlib.Nat.{suc-mul}
+use lib.Dec.{leb, ltb}
+use lib.ListN.{length, length-append}
+use lib.Pow.{pow-pos}
+use borrow.Author.Tests.{leb-true, ltb-true, lt-ltb}
+use Rattle.rules.specs.Lists.{all, pairs, sum}
+use Rattle.rules.specs.Settings.{unitSize, bytesOf}
+use Rattle.rules.specs.Units.{Unit, unitsOfRow, unitsFrom, units, Write, touches, clear, mark, newly, pending}
+use Rattle.rules.specs.Ranges.{endOf, apart}
+use Rattle.rules.specs.declared.Range.{Range}
+use Rattle.rules.proofs.ListLaws.{All, All-map, All-append, and-left, and-right, and-intro, or-cases}
+
+-- ---- bytes of units
+
+-- a byte lies in a unit; two units share no byte; no two of a list do; all of a list are of one size
+abbrev pub In : ℕ → Unit → Type 0
+In x u = (u .address ≤ x) × (x < u .address + u .size)
+
+abbrev pub Free : Unit → Unit → Type 0
+Free u v = (x : ℕ) → In x u → In x v → ⊥
+
+abbrev pub Apart : List Unit → Type 0
+Apart [] = Prim.Unit {0}
+Apart (u ∷ us) = All (Free u) us × Apart us
+
+abbrev pub Sized : ℕ → List Unit → Type 0
+Sized s us = All (λ u. u .size ≡ s) us
+
+pub Apart-append : (xs ys : List Unit) → Apart xs → Apart ys → All (λ u. All (Free u) ys) xs → Apart (xs ++ ys)
+Apart-append [] ys p q c = q
+Apart-append (x ∷ xs) ys p q c = (All-append (Free x) xs ys (p .0) (c .0), Apart-append xs ys (p .1) q (c .1))
+
+-- ---- units of one row, one after the other from an address on
+
+abbrev pub Chain : ℕ → ℕ → List Unit → Type 0
+Chain s a [] = Prim.Unit {0}
+Chain s a (u ∷ us) = (u .address ≡ a) × (u .size ≡ s) × Chain s (a + s) us
+
+-- each lies within the chain
+pub chain-within : (s a b e : ℕ) (us : List Unit) → Chain s a us → b ≤ a → a + length us * s ≤ e
+    → All (λ u. (b ≤ u .address) × (u .address + u .size ≤ e) × (u .size ≡ s)) us
+chain-within s a b e [] h l m = tt
+chain-within s a b e (u ∷ us) h l m = (
+  (omega (arith, h .0), omega (arith, h .0, h .1, suc-mul (length us) s), h .1),
+  chain-within s (a + s) b e us (h .2) (omega arith) (omega (arith, suc-mul (length us) s)),
+)
+
+pub chain-apart : (s a : ℕ) (us : List Unit) → Chain s a us → Apart us
+chain-apart s a [] h = tt
+chain-apart s a (u ∷ us) h = (
+  All-map (λ v w x i j. omega (arith, h .0, h .1, w .0, i .1, j .0)) us (chain-within s (a + s) (a + s) (a + s + length us * s) us (h .2) (omega arith) (omega arith)),
+  chain-apart s (a + s) us (h .2),
+)
+
+pub unitsOfRow-chain : (row s a n : ℕ) → Chain s a (unitsOfRow row s a n)
+unitsOfRow-chain row s a zero = tt
+unitsOfRow-chain row s a (suc n) = (refl, refl, unitsOfRow-chain row s (a + s) n)
+
+pub unitsOfRow-length : (row s a n : ℕ) → length (unitsOfRow row s a n) ≡ n
+unitsOfRow-length row s a zero = refl
+unitsOfRow-length row s a (suc n) = ap suc (unitsOfRow-length row s (a + s) n)
+
+pub unitsOfRow-row : (row s a n : ℕ) → All (λ u. u .row ≡ row) (unitsOfRow row s a n)
+unitsOfRow-row row s a zero = tt
+unitsOfRow-row row s a (suc n) = (refl, unitsOfRow-row row s (a + s) n)
+
+-- a unit of a range lies within the range
+pub unitsOfRow-within : (row s : ℕ) (r : Range)
+    → All (λ u. (r .start ≤ u .address) × (u .address + u .size ≤ r .start + r .length * s) × (u .size ≡ s)) (unitsOfRow row s (r .start) (r .length))
+unitsOfRow-within row s r =
+    chain-within s (r .start) (r .start) (r .start + r .length * s) (unitsOfRow row s (r .start) (r .length))
+    (unitsOfRow-chain row s (r .start) (r .length)) (omega arith)
+    (rw (unitsOfRow-length row s (r .start) (r .length)) (omega arith))
+
+-- ---- the units of ranges
+
+pub unitSize-pos : (g : ℕ) → 0 < unitSize g
+unitSize-pos g = pow-pos (12 + g)
+
+pub unitsFrom-sized : (s row : ℕ) (rs : List Range) → Sized s (unitsFrom s row rs)
+unitsFrom-sized s row [] = tt
+unitsFrom-sized s row (r ∷ rs) =
+    All-append (λ u. u .size ≡ s) (unitsOfRow row s (r .start) (r .length)) (unitsFrom s (suc row) rs)
+    (All-map (λ u w. w .2) (unitsOfRow row s (r .start) (r .length)) (unitsOfRow-within row s r))
+    (unitsFrom-sized s (suc row) rs)
+
+-- there are as many as the lengths say
+pub unitsFrom-length : (s row : ℕ) (rs : List Range) → length (unitsFrom s row rs) ≡ sum (map (λ (r : Range). r .length) rs)
+unitsFrom-length s row [] = refl
+unitsFrom-length s row (r ∷ rs) = rw (length-append, unitsOfRow-length row s (r .start) (r .length), unitsFrom-length s (suc row) rs)
+
+-- a range that is apart from others shares no byte with their units
+unitsFrom-beside : (g row : ℕ) (r : Range) (rs : List Range) → all (apart g r) rs ≡ true
+    → All (λ v. (v .address + v .size ≤ r .start → ⊥) → endOf g r ≤ v .address) (unitsFrom (unitSize g) row rs)
+unitsFrom-beside g row r [] h = tt
+unitsFrom-beside g row r (q ∷ rs) h =
+    All-append (λ v. (v .address + v .size ≤ r .start → ⊥) → endOf g r ≤ v .address) (unitsOfRow row (unitSize g) (q .start) (q .length)) (unitsFrom (unitSize g) (suc row) rs)
+    (All-map one (unitsOfRow row (unitSize g) (q .start) (q .length)) (unitsOfRow-within row (unitSize g) q))
+    (unitsFrom-beside g (suc row) r rs (and-right (apart g r q) (all (apart g r) rs) h))
+  where
+    one : (v : Unit) → (q .start ≤ v .address) × (v .address + v .size ≤ q .start + q .length * unitSize g) × (v .size ≡ unitSize g) → (v .address + v .size ≤ r .start → ⊥) → endOf g r ≤ v .address
+    one v w f =
+        or-cases (leb (endOf g r) (q .start)) (leb (endOf g q) (r .start)) (endOf g r ≤ v .address) (and-left (apart g r q) (all (apart g r) rs) h)
+        (λ e. let l = leb-true (endOf g r) (q .start) e in omega (arith, w .0))
+        (λ e. let l = leb-true (endOf g q) (r .start) e in absurd (f (omega (arith, w .1))))
+
+pub unitsFrom-apart : (g row : ℕ) (rs : List Range) → pairs (apart g) rs ≡ true → Apart (unitsFrom (unitSize g) row rs)
+unitsFrom-apart g row [] h = tt
+unitsFrom-apart g row (r ∷ rs) h =
+    Apart-append (unitsOfRow row (unitSize g) (r .start) (r .length)) (unitsFrom (unitSize g) (suc row) rs)
+    (chain-apart (unitSize g) (r .start) (unitsOfRow row (unitSize g) (r .start) (r .length)) (unitsOfRow-chain row (unitSize g) (r .start) (r .length)))
+    (unitsFrom-apart g (suc row) rs (and-right (all (apart g r) rs) (pairs (apart g) rs) h))
+    (All-map (λ u w. All-map (λ v f x i j. let l : endOf g r ≤ v .address = f (λ m. omega arith) in omega arith) (unitsFrom (unitSize g) (suc row) rs)
+    (unitsFrom-beside g (suc row) r rs (and-left (all (apart g r) rs) (pairs (apart g) rs) h)))
+    (unitsOfRow row (unitSize g) (r .start) (r .length)) (unitsOfRow-within row (unitSize g) r))
+
+-- ---- touches: some byte lies in both
+
+pub touches-iff : (w : Write) (u : Unit) → 0 < u .size
+    → (touches w u ≡ true) ↔ ((x : ℕ) × (w .address ≤ x) × (x < w .address + w .bytes) × In x u)
+touches-iff w u z = (to, fro)
+  where
+    to : touches w u ≡ true → (x : ℕ) × (w .address ≤ x) × (x < w .address + w .bytes) × In x u
+    to e =
+        let h = ltb-true 0 (w .bytes) (and-left (ltb 0 (w .bytes)) _ e) in
+        let f = and-right (ltb 0 (w .bytes)) _ e in
+        let k = ltb-true (w .address) (u .address + u .size) (and-left (ltb (w .address) (u .address + u .size)) _ f) in
+        let l = ltb-true (u .address) (w .address + w .bytes) (and-right (ltb (w .address) (u .address + u .size)) _ f) in
+        (max (w .address) (u .address), omega arith, omega arith, (omega arith, omega arith))
+
+    fro : (x : ℕ) × (w .address ≤ x) × (x < w .address + w .bytes) × In x u → touches w u ≡ true
+    fro h =
+        and-intro (ltb 0 (w .bytes)) _ (lt-ltb 0 (w .bytes) (omega (arith, h .1, h .2)))
+        (and-intro (ltb (w .address) (u .address + u .size)) _ (lt-ltb (w .address) (u .address + u .size) (omega (arith, h .1, h .3 .1)))
+        (lt-ltb (u .address) (w .address + w .bytes) (omega (arith, h .2, h .3 .0))))
+
+-- ---- marks
+
+-- marks that are a function of the unit, after a write
+pub mark-map : (w : Write) (f : Unit → Bool) (us : List Unit) → mark w us (map f us) ≡ map (λ u. f u || touches w u) us
+mark-map w f [] = refl
+mark-map w f (u ∷ us) = ap (λ l. (f u || touches w u) ∷ l) (mark-map w f us)
+
+pub mark-length : (w : Write) (us : List Unit) (p : List Bool) → length p ≡ length us → length (mark w us p) ≡ length us
+mark-length w [] p e = refl
+mark-length w (u ∷ us) [] e = absurd (omega arith)
+mark-length w (u ∷ us) (b ∷ p) e = ap suc (mark-length w us p (omega arith))
+
+-- the write's count: by so many the pending units grow
+pub newly-is : (w : Write) (us : List Unit) (p : List Bool) → length (pending us (mark w us p)) ≡ length (pending us p) + newly w us p
+newly-is w [] p = refl
+newly-is w (u ∷ us) [] = refl
+newly-is w (u ∷ us) (true ∷ p) = go (touches w u) (newly-is w us p)
+  where
+    go : (b : Bool) → length (pending us (mark w us p)) ≡ length (pending us p) + newly w us p
+        → suc (length (pending us (mark w us p))) ≡ suc (length (pending us p)) + (cond (b && false) 1 0 + newly w us p)
+    go true e = omega arith
+    go false e = omega arith
+newly-is w (u ∷ us) (false ∷ p) = go (touches w u) (newly-is w us p)
+  where
+    go : (b : Bool) → length (pending us (mark w us p)) ≡ length (pending us p) + newly w us p
+        → length (pending (u ∷ us) (b ∷ mark w us p)) ≡ length (pending us p) + (cond (b && true) 1 0 + newly w us p)
+    go true e = omega arith
+    go false e = omega arith
+
+-- ---- pending
+
+pub All-pending : (P : Unit → Type 0) (us : List Unit) (p : List Bool) → All P us → All P (pending us p)
+All-pending P [] p h = tt
+All-pending P (u ∷ us) [] h = tt
+All-pending P (u ∷ us) (true ∷ p) h = (h .0, All-pending P us p (h .1))
+All-pending P (u ∷ us) (false ∷ p) h = All-pending P us p (h .1)
+
+pub Apart-pending : (us : List Unit) (p : List Bool) → Apart us → Apart (pending us p)
+Apart-pending [] p h = tt
+Apart-pending (u ∷ us) [] h = tt
+Apart-pending (u ∷ us) (true ∷ p) h = (All-pending (Free u) us p (h .0), Apart-pending us p (h .1))
+Apart-pending (u ∷ us) (false ∷ p) h = Apart-pending us p (h .1)

@@ -1,0 +1,168 @@
+-- What is asked of the rules, as statements, each proved in proofs/Theorems.antt. A session is any list of calls from a fresh device, each call given what
+-- the last one left; settings that break 16 make the closed device, and the statements hold of it too.
+use Prim.Native.Nat.{ℕ, suc, _+_, _*_, _%_, _^_, _≤_, _<_}
+use mathlib.Core.Path.{_≡_}
+use mathlib.Core.Logic.{_≢_, _↔_}
+use mathlib.Core.Bool.{Bool, true, false, _&&_, not}
+use mathlib.Core.List.{List, [], _∷_, _++_, map}
+use mathlib.Core.Option.{Option, none, some}
+use lib.ListN.{length, take, drop, getD, getElem?}
+use Rattle.rules.specs.Lists.{all, any, join, member}
+use Rattle.rules.specs.Settings.{settingsOk, unitSize, bytesOf}
+use Rattle.rules.specs.Units.{Unit, Write, units, mark, newly, pending}
+use Rattle.rules.specs.StartData.{countOf, granularityOf, rangesOf, startSize, startBytes, startData, startWritten, placed}
+use Rattle.rules.specs.Report.{follows, runs, Descriptor, descriptor, Report, reportOn, marksLeft}
+use Rattle.rules.specs.Machine.{Answer, refused, Slot, slot, on, heldBy, pendingIn, State, fresh, soundState, slotOf, Call, Event, step, after, events, lent, stored, numberOf, newlyOf, noReport, reportOf}
+use Rattle.rules.specs.History.{Did, only, historyOf, PendingBy, lists, slotBy}
+use Rattle.rules.specs.declared.Range.{Range}
+use Rattle.rules.specs.declared.Settings.{Settings}
+use Rattle.rules.specs.declared.Header.the-variants.{Is}
+
+-- the device that a session leaves, and a controller's history in it
+abbrev pub sessionEnd : Settings → List Call → State
+sessionEnd s ks = after (fresh s) ks
+
+abbrev pub sessionHistory : Settings → List Call → ℕ → List Did
+sessionHistory s ks a = historyOf a (events (fresh s) ks)
+
+-- ---- demand 1, as far as it speaks of the rules
+
+-- "A refusal returns its number and zeros, and the device record, the marks and the report buffer stay as they were"
+pub record Refusals : Type 0 where
+  pub unchanged : (st : State) (k : Call) (n : ℕ) → (step st k) .0 ≡ refused n → (step st k) .1 ≡ st
+  pub bytes : (id : ℕ) (x : List ℕ) (n : ℕ) → stored id x (refused n) ≡ x
+  pub number : (n : ℕ) → numberOf (refused n) ≡ n
+  pub zeros : (n : ℕ) → (newlyOf (refused n) ≡ 0) × (reportOf (refused n) ≡ noReport)
+
+-- "From a fresh device no sequence of calls leads to an unsound record, save the closed device of a refused fresh", which answers 1 to every call
+pub record Soundness : Type 0 where
+  pub kept : (s : Settings) (ks : List Call) → settingsOk s ≡ true → soundState (sessionEnd s ks) ≡ true
+  pub closed : (s : Settings) (ks : List Call) (k : Call) → settingsOk s ≡ false → (step (sessionEnd s ks) k) .0 ≡ refused 1
+
+-- ---- demand 2
+
+-- "A unit of a tracked range is pending exactly if an accepted write by its controller touched it after tracking last started and after it was
+-- last reported": for a controller that is tracked after a session, and each unit of its ranges
+pub record Pending (s : Settings) (ks : List Call) (a : ℕ) : Type 0 where
+  -- what the controller's slot holds is told by its calls and answers alone
+  pub told : slotOf (sessionEnd s ks) a ≡ slotBy (sessionHistory s ks a)
+  pub exactly : (b : Bool) (g : ℕ) (rs : List Range) (p : List Bool) → slotOf (sessionEnd s ks) a ≡ slot b (on g rs p)
+      → (n : ℕ) (u : Unit) → getElem? (units g rs) n ≡ some u
+      → (getElem? p n ≡ some true) ↔ PendingBy (sessionHistory s ks a) u
+
+-- each unit of a run follows the one before it, in one range
+abbrev pub isRow : List Unit → Bool
+isRow [] = false
+isRow (u ∷ []) = true
+isRow (u ∷ v ∷ us) = follows u v && isRow (v ∷ us)
+
+-- where a run ends the next one's first unit does not follow
+abbrev pub lastOf : Unit → List Unit → Unit
+lastOf u [] = u
+lastOf u (v ∷ vs) = lastOf v vs
+
+abbrev pub isCut : List Unit → List Unit → Bool
+isCut [] q = false
+isCut (u ∷ us) [] = false
+isCut (u ∷ us) (v ∷ vs) = not (follows (lastOf u us) v)
+
+abbrev pub areCut : List (List Unit) → Bool
+areCut [] = true
+areCut (r ∷ []) = true
+areCut (r ∷ q ∷ rs) = isCut r q && areCut (q ∷ rs)
+
+-- "A report lists the earliest pending runs that fit; More To Report is clear exactly when nothing stays pending": of a controller that a session
+-- left with marks p on the units us of its ranges, and a report with room for k runs
+pub record Reports (b : Bool) (g k : ℕ) (us : List Unit) (p : List Bool) : Type 0 where
+  -- the runs are the pending units in their order, cut where the next unit does not follow in the same range, and nowhere else
+  pub in-order : join (runs (pending us p)) ≡ pending us p
+  pub rows : all isRow (runs (pending us p)) ≡ true
+  pub longest : areCut (runs (pending us p)) ≡ true
+  -- the first k are listed
+  pub earliest : reportOn b g k us p .descriptors ≡ map descriptor (take k (runs (pending us p)))
+  -- what is reported was pending and is clear afterwards; all else is unchanged
+  pub was-pending : (n : ℕ) (u : Unit) → getElem? us n ≡ some u
+      → any (λ (d : Descriptor). lists g d u) (reportOn b g k us p .descriptors) ≡ true → getElem? p n ≡ some true
+  pub clear-afterwards : (n : ℕ) (u : Unit) → getElem? us n ≡ some u
+      → any (λ (d : Descriptor). lists g d u) (reportOn b g k us p .descriptors) ≡ true → getElem? (marksLeft k us p) n ≡ some false
+  pub else-unchanged : (n : ℕ) (u : Unit) → getElem? us n ≡ some u
+      → any (λ (d : Descriptor). lists g d u) (reportOn b g k us p .descriptors) ≡ false → getElem? (marksLeft k us p) n ≡ getElem? p n
+  -- More is clear exactly when nothing stays pending
+  pub more : (reportOn b g k us p .more ≡ false) ↔ (pending us (marksLeft k us p) ≡ [])
+
+-- the count of a write is the number of units that were not pending before it and are after it
+abbrev pub becomes : List Bool → List Bool → ℕ
+becomes [] q = 0
+becomes (b ∷ p) [] = 0
+becomes (true ∷ p) (c ∷ q) = becomes p q
+becomes (false ∷ p) (true ∷ q) = suc (becomes p q)
+becomes (false ∷ p) (false ∷ q) = becomes p q
+
+pub record Writes (w : Write) (us : List Unit) (p : List Bool) : Type 0 where
+  pub count : newly w us p ≡ becomes p (mark w us p)
+  pub grows : length (pending us (mark w us p)) ≡ length (pending us p) + newly w us p
+
+-- all of it, after any session and of any controller
+pub record Demand2 : Type 1 where
+  pub pending : (s : Settings) (ks : List Call) (a : ℕ) → Pending s ks a
+  pub reports : (s : Settings) (ks : List Call) (a : ℕ) (b : Bool) (g : ℕ) (rs : List Range) (p : List Bool)
+      → slotOf (sessionEnd s ks) a ≡ slot b (on g rs p) → (k : ℕ) → Reports b g k (units g rs) p
+  pub writes : (s : Settings) (ks : List Call) (a : ℕ) (b : Bool) (g : ℕ) (rs : List Range) (p : List Bool)
+      → slotOf (sessionEnd s ks) a ≡ slot b (on g rs p) → (w : Write) → Writes w (units g rs) p
+
+-- ---- "Start structures are read and written without loss"
+
+-- the fields of a range fit their bytes
+pub record Fits (r : Range) : Type 0 where
+  pub start : r .start < 2 ^ 64
+  pub length : r .length < 2 ^ 32
+
+-- a list of bytes
+abbrev pub Bytes : List ℕ → Type 0
+Bytes x = (i : ℕ) → getD x i 0 < 256
+
+pub record WithoutLoss : Type 0 where
+  -- reading what was written gives the same values
+  pub read-written : (buffer : List ℕ) (g : ℕ) (rs : List Range) → g < 256 → ((i : ℕ) → i < length rs → Fits (getD rs i (record { start = 0; length = 0 })))
+      → length rs ≤ 16 → startSize (length rs) ≤ length buffer
+      → startData (startWritten buffer g (length rs) rs) ≡ record { header = Is g (length rs); ranges = placed rs }
+  -- writing what was read gives the same bytes where the reserved bytes were zero
+  pub written-read : (x : List ℕ) (g n : ℕ) (rs : List Range) → Bytes x → getD x 1 0 ≡ 0 → getD x 2 0 ≡ 0
+      → startData x ≡ record { header = Is g n; ranges = rs } → startBytes g (take n rs) ≡ take (startSize n) x
+  -- bytes after the structure are unchanged, and a refused writer changes none
+  pub rest : (buffer : List ℕ) (g n : ℕ) (rs : List Range) → drop (startSize (length rs)) (startWritten buffer g n rs) ≡ drop (startSize (length rs)) buffer
+
+-- ---- demand 3
+
+-- the refusals that tell of what controllers share: the descriptor limit
+abbrev pub sharedRefusals : List ℕ
+sharedRefusals = 12 ∷ []
+
+-- none of a controller's calls was refused for what it shares
+abbrev pub unhindered : List Did → Bool
+unhindered h = all (λ (d : Did). not (member (numberOf (d .answer)) sharedRefusals)) h
+
+-- the bytes that a controller's calls leave in what was lent with them
+abbrev pub lentBytes : ℕ → List Did → List (List ℕ)
+lentBytes a h = map (λ (d : Did). stored a (lent (d .op)) (d .answer)) h
+
+-- two sessions agree for a controller: every answer, every byte lent, and its pending units
+pub record Agree (s : Settings) (a : ℕ) (ks ks′ : List Call) : Type 0 where
+  pub answers : sessionHistory s ks a ≡ sessionHistory s ks′ a
+  pub bytes : lentBytes a (sessionHistory s ks a) ≡ lentBytes a (sessionHistory s ks′ a)
+  pub units : pendingIn (slotOf (sessionEnd s ks) a) ≡ pendingIn (slotOf (sessionEnd s ks′) a)
+
+-- "Two sessions from the same settings in which controller A gets the same calls, while the others get anything: if in neither a start for A is refused
+-- for the shared descriptor limit," A's answers, bytes and pending units "agree, and equal what demand 2's rules give for A's calls alone"
+pub record Demand3 : Type 0 where
+  pub alone : (s : Settings) (a : ℕ) (ks : List Call) → unhindered (sessionHistory s ks a) ≡ true → Agree s a ks (only a ks)
+  pub together : (s : Settings) (a : ℕ) (ks ks′ : List Call) → only a ks ≡ only a ks′
+      → unhindered (sessionHistory s ks a) ≡ true → unhindered (sessionHistory s ks′ a) ≡ true → Agree s a ks ks′
+
+-- ---- granularities
+
+-- of each granularity from 0 to 20: a unit is 4 KiB at least, memory is a whole number of units, and any 32-bit length in units is in bytes below 2^64
+pub record Granularity (g : ℕ) : Type 0 where
+  pub least : 4096 ≤ unitSize g
+  pub whole : 2 ^ 64 % unitSize g ≡ 0
+  pub fits : (units : ℕ) → units < 2 ^ 32 → bytesOf g units < 2 ^ 64

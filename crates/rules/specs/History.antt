@@ -1,0 +1,127 @@
+-- What demand 2 speaks of, told from calls and answers alone: "an accepted write by its controller touched it after tracking last started and after
+-- it was last reported". Nothing here looks at a device.
+use Prim.Native.Nat.{ℕ, zero, suc, _+_}
+use mathlib.Core.Path.{_≡_}
+use mathlib.Core.Bool.{Bool, true, false, _&&_, _||_, not, cond}
+use mathlib.Core.List.{List, [], _∷_, _++_, map}
+use mathlib.Core.Option.{Option, none, some}
+use lib.Dec.{leb, ltb, eqb}
+use Rattle.rules.specs.Lists.{any}
+use Rattle.rules.specs.Settings.{bytesOf}
+use Rattle.rules.specs.Units.{Unit, Write, touches, units}
+use Rattle.rules.specs.StartData.{granularityOf, rangesOf}
+use Rattle.rules.specs.Report.{Descriptor, Report}
+use Rattle.rules.specs.Order.{Op, start, stop, write, receive, suspend, resume}
+use Rattle.rules.specs.Machine.{Answer, refused, done, wrote, reported, reportOf, Call, Event, Marks, off, on, Slot, slot}
+use Rattle.rules.specs.declared.Range.{Range}
+
+-- a call to a controller with its answer
+pub record Did : Type 0 where
+  pub op : Op
+  pub answer : Answer
+
+-- the calls to a controller, and those with their answers: its history, the oldest first
+abbrev pub only : ℕ → List Call → List Call
+only a [] = []
+only a (k ∷ ks) = cond (eqb (k .id) a) (k ∷ only a ks) (only a ks)
+
+abbrev pub historyOf : ℕ → List Event → List Did
+historyOf a [] = []
+historyOf a (e ∷ es) = cond (eqb (e .call .id) a) (record { op = e .call .op; answer = e .answer } ∷ historyOf a es) (historyOf a es)
+
+-- ---- what one call did
+
+abbrev pub isAccepted : Answer → Bool
+isAccepted (refused n) = false
+isAccepted done = true
+isAccepted (wrote n) = true
+isAccepted (reported r) = true
+
+abbrev pub writes : Op → Unit → Bool
+writes (write w) u = touches w u
+writes (start x) u = false
+writes stop u = false
+writes (receive x) u = false
+writes (suspend kind) u = false
+writes resume u = false
+
+abbrev pub starts : Op → Bool
+starts (start x) = true
+starts stop = false
+starts (write w) = false
+starts (receive x) = false
+starts (suspend kind) = false
+starts resume = false
+
+-- an accepted write touched the unit
+abbrev pub touchedBy : Did → Unit → Bool
+touchedBy d u = isAccepted (d .answer) && writes (d .op) u
+
+-- tracking started
+abbrev pub startedBy : Did → Bool
+startedBy d = isAccepted (d .answer) && starts (d .op)
+
+-- a descriptor, in units of a granularity, lists the unit
+abbrev pub lists : ℕ → Descriptor → Unit → Bool
+lists g d u = leb (d .address) (u .address) && ltb (u .address) (d .address + bytesOf g (d .length))
+
+-- the unit was reported (an answer that is no report has no descriptors)
+abbrev pub reportedBy : Did → Unit → Bool
+reportedBy d u = any (λ (x : Descriptor). lists (reportOf (d .answer) .granularity) x u) (reportOf (d .answer) .descriptors)
+
+-- ---- what a history says of a unit
+
+-- tracking did not start, and the unit was not reported
+abbrev pub quietSince : List Did → Unit → Bool
+quietSince [] u = true
+quietSince (d ∷ h) u = not (startedBy d || reportedBy d u) && quietSince h u
+
+-- some accepted write touched the unit, and since then it was quiet
+abbrev pub pendingBy : List Did → Unit → Bool
+pendingBy [] u = false
+pendingBy (d ∷ h) u = touchedBy d u && quietSince h u || pendingBy h u
+
+-- the same as a statement: the history is `before`, then an accepted write that touched the unit, then `later`
+pub record PendingBy (h : List Did) (u : Unit) : Type 0 where
+  pub before : List Did
+  pub last : Did
+  pub later : List Did
+  pub is : h ≡ before ++ last ∷ later
+  pub touched : touchedBy last u ≡ true
+  pub quiet : quietSince later u ≡ true
+
+-- ---- what a history says of a controller
+
+-- with what granularity and ranges it is tracked: those of the last accepted start, unless a stop was accepted after it
+abbrev pub tracksAfter : Option (ℕ × List Range) → Op → Option (ℕ × List Range)
+tracksAfter t (start x) = some (granularityOf x, rangesOf x)
+tracksAfter t stop = none
+tracksAfter t (write w) = t
+tracksAfter t (receive x) = t
+tracksAfter t (suspend kind) = t
+tracksAfter t resume = t
+
+abbrev pub tracksBy : Option (ℕ × List Range) → List Did → Option (ℕ × List Range)
+tracksBy t [] = t
+tracksBy t (d ∷ h) = tracksBy (cond (isAccepted (d .answer)) (tracksAfter t (d .op)) t) h
+
+-- whether it is suspended: by the last accepted suspend of type 1 or resume
+abbrev pub suspendsAfter : Bool → Op → Bool
+suspendsAfter b (suspend kind) = b || eqb kind 1
+suspendsAfter b resume = false
+suspendsAfter b (start x) = b
+suspendsAfter b stop = b
+suspendsAfter b (write w) = b
+suspendsAfter b (receive x) = b
+
+abbrev pub suspendedBy : Bool → List Did → Bool
+suspendedBy b [] = b
+suspendedBy b (d ∷ h) = suspendedBy (cond (isAccepted (d .answer)) (suspendsAfter b (d .op)) b) h
+
+-- the slot that a history tells: each unit of the tracked ranges is pending as the history says
+abbrev pub marksBy : List Did → Option (ℕ × List Range) → Marks
+marksBy h none = off
+marksBy h (some t) = on (t .0) (t .1) (map (pendingBy h) (units (t .0) (t .1)))
+
+abbrev pub slotBy : List Did → Slot
+slotBy h = slot (suspendedBy false h) (marksBy h (tracksBy none h))

@@ -1,0 +1,13 @@
+pub mod Lists
+pub mod Refusals
+pub mod Settings
+pub mod Units
+pub mod Ranges
+pub mod StartData
+pub mod Report
+pub mod Order
+pub mod Device
+pub mod Machine
+pub mod History
+pub mod Demands
+pub mod Worked

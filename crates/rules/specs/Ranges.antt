@@ -1,0 +1,57 @@
+-- Document 01, "The start structure", range rules (9), and the rules 10 and 11 of the same ranges. Each part of 9 is a test of its own, with the
+-- row that it is about.
+use Prim.Native.Nat.{ℕ, zero, suc, _+_, _%_, _^_}
+use mathlib.Core.Bool.{Bool, _||_, not}
+use mathlib.Core.List.{List, [], _∷_, _++_}
+use lib.Dec.{leb, eqb}
+use lib.ListN.{length}
+use Rattle.rules.specs.Lists.{all, pairs, someBelow}
+use Rattle.rules.specs.Refusals.{Test, _else_, _place_}
+use Rattle.rules.specs.Settings.{unitSize, bytesOf}
+use Rattle.rules.specs.Units.{units}
+use Rattle.rules.specs.declared.Range.{Range}
+use Rattle.rules.specs.declared.Settings.{Settings}
+
+-- where a range ends
+abbrev pub endOf : ℕ → Range → ℕ
+endOf g r = r .start + bytesOf g (r .length)
+
+-- one range: its length is at least 1, its start is a multiple of the unit, and it ends at most at 2^64
+abbrev pub rowTests : ℕ → ℕ → Range → List Test
+rowTests g row r =
+    (leb 1 (r .length) else 9 place row)
+    ∷ (eqb (r .start % unitSize g) 0 else 9 place row)
+    ∷ (leb (endOf g r) (2 ^ 64) else 9 place row)
+    ∷ []
+
+-- all ranges, the earliest row first
+abbrev pub rowsTests : ℕ → ℕ → List Range → List Test
+rowsTests g row [] = []
+rowsTests g row (r ∷ rs) = rowTests g row r ++ rowsTests g (suc row) rs
+
+-- whether two ranges share no unit: one ends before the other starts
+abbrev pub apart : ℕ → Range → Range → Bool
+apart g r q = leb (endOf g r) (q .start) || leb (endOf g q) (r .start)
+
+-- 9 for n ranges: the count is 1 to 16; each range by itself; no two share a unit
+unfoldable pub rangeTests : ℕ → ℕ → List Range → List Test
+rangeTests g n rs =
+    (leb 1 n else 9)
+    ∷ (leb n 16 else 9)
+    ∷ (rowsTests g 0 rs ++ (pairs (apart g) rs else 9) ∷ [])
+
+-- whether a length is a power of two
+abbrev pub isPower : ℕ → Bool
+isPower n = someBelow 32 (λ k. eqb n (2 ^ k))
+
+-- 10: the power-of-two rule is off, or each length is a power of two
+unfoldable pub powersOk : Settings → List Range → Bool
+powersOk s rs = not (s .powers) || all (λ (r : Range). isPower (r .length)) rs
+
+-- 11: at most 4,096 units
+unfoldable pub unitsOk : ℕ → List Range → Bool
+unitsOk g rs = leb (length (units g rs)) 4096
+
+-- 9, 10 and 11
+abbrev pub listTests : Settings → ℕ → ℕ → List Range → List Test
+listTests s g n rs = rangeTests g n rs ++ (powersOk s rs else 10) ∷ (unitsOk g rs else 11) ∷ []

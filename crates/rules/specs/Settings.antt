@@ -1,0 +1,45 @@
+-- Document 01, "Settings and sizes": the settings and their rule (16), and what a granularity means.
+use Prim.Native.Nat.{ℕ, _+_, _*_, _^_}
+use mathlib.Core.Bool.{Bool, _&&_, not}
+use mathlib.Core.List.{List, [], _∷_}
+use mathlib.Core.Option.{Option}
+use lib.ListN.{take}
+use lib.Dec.{leb}
+use Rattle.rules.specs.Lists.{every, member, different, placeFrom}
+use Rattle.rules.specs.declared.Settings.{Settings}
+
+-- the controllers' identifiers
+abbrev pub identifiersOf : Settings → List ℕ
+identifiersOf s = take (s .count) (s .identifiers)
+
+-- 1 to 8 identifiers, all different; the manager's not among them; least ≤ greatest ≤ 20; a limit of 0 to 128
+abbrev pub settingsRules : Settings → List Bool
+settingsRules s =
+    leb 1 (s .count)
+    ∷ leb (s .count) 8
+    ∷ different (identifiersOf s)
+    ∷ not (member (s .manager) (identifiersOf s))
+    ∷ leb (s .least) (s .greatest)
+    ∷ leb (s .greatest) 20
+    ∷ leb (s .limit) 128
+    ∷ []
+
+-- whether settings pass 16
+unfoldable pub settingsOk : Settings → Bool
+settingsOk s = every (settingsRules s)
+
+-- where an identifier stands in the settings
+unfoldable pub placeOf : Settings → ℕ → Option ℕ
+placeOf s id = placeFrom 0 (identifiersOf s) id
+
+-- whether a granularity passes 7: not below the least, not above the greatest
+unfoldable pub granularityOk : Settings → ℕ → Bool
+granularityOk s g = leb (s .least) g && leb g (s .greatest)
+
+-- the bytes of a unit: 2^n times 4 KiB
+abbrev pub unitSize : ℕ → ℕ
+unitSize g = 2 ^ (12 + g)
+
+-- a length in units, in bytes
+abbrev pub bytesOf : ℕ → ℕ → ℕ
+bytesOf g units = units * unitSize g

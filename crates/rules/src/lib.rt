@@ -1,0 +1,55 @@
+// The types that the tracking core shares, in the forms that document 01 names. What the rules say of them stands in specs/.
+
+// A length in units.
+pub struct Units(pub u64);
+
+// A length in bytes.
+pub struct Bytes(pub u64);
+
+// A listed range: its start address, and its length in units as the start structure's 32-bit field holds it.
+pub struct Range {
+    pub start: u64,
+    pub length: u32,
+}
+
+// Either not tracked, or tracked with a granularity and a number of ranges.
+pub enum Tracking {
+    Off,
+    On(u8, u8),
+}
+
+// A migratable controller. Of its ranges the first so many are in use as its tracking says; of one that is off, none.
+pub struct Controller {
+    pub tracking: Tracking,
+    pub suspended: bool,
+    pub ranges: [Range; 16],
+}
+
+// The settings. Of the identifiers the first `count` are in use.
+pub struct Settings {
+    pub manager: u16,
+    pub least: u8,
+    pub greatest: u8,
+    pub powers: bool,
+    pub limit: u16,
+    pub count: usize,
+    pub identifiers: [u16; 8],
+}
+
+// The device record. The controllers stand in the order of their identifiers in the settings.
+pub struct Device {
+    pub settings: Settings,
+    pub controllers: [Controller; 8],
+}
+
+// A start structure's header: its granularity and its count of ranges, or a refusal's number and the byte where reading stopped.
+pub enum Header {
+    Is(u8, u32),
+    Refused(u8, usize),
+}
+
+// A start structure as its reader answers it: zeros stand in the ranges that it does not list.
+pub struct StartData {
+    pub header: Header,
+    pub ranges: [Range; 16],
+}
