@@ -5,3 +5,4 @@ pub mod Share
 pub mod Flat
 mod Bit
 mod Word
+pub mod Pack

@@ -1,5 +1,6 @@
 -- The demands, proved of the rules: one declaration for each statement of specs/Demands.antt. Assumes nothing.
 use mathlib.Core.Path.{_≡_, refl, sym, ap, subst, _∙_}
+use mathlib.Core.Logic.{_↔_}
 use mathlib.Core.Bool.{Bool, true, false}
 use mathlib.Core.List.{List, [], _∷_, map}
 use mathlib.Core.Option.{Option, none, some}
@@ -11,7 +12,7 @@ use lib.Pow.{pow-add, pow-mono, shl-lt}
 use Rattle.rules.specs.Refusals.{verdict}
 use Rattle.little.specs.Little.{numberAt, numberBytes, records, recordsAt}
 use Rattle.rules.specs.Settings.{settingsOk, placeOf, granularityOk, unitSize, bytesOf}
-use Rattle.rules.specs.Units.{Unit, units}
+use Rattle.rules.specs.Units.{Unit, Write, units, touches}
 use Rattle.rules.specs.Ranges.{rangeTests, powersOk, unitsOk}
 use Rattle.rules.specs.StartData.{rangesOf, startBytes}
 use Rattle.rules.specs.Order.{Op, start, stop, write, receive, suspend, resume, order}
@@ -24,7 +25,7 @@ use Rattle.rules.specs.declared.Range.{Range}
 use Rattle.rules.specs.declared.Settings.{Settings}
 use Rattle.rules.proofs.ListLaws.{map-at, some-inj}
 use Rattle.rules.proofs.RefusalLaws.{verdict-has}
-use Rattle.rules.proofs.UnitLaws.{unitsFrom-sized}
+use Rattle.rules.proofs.UnitLaws.{unitsFrom-sized, touches-iff}
 use Rattle.rules.proofs.SlotHistory.{Known, pendingBy-iff}
 use Rattle.rules.proofs.SoundLaws.{after-sound, fresh-sound, fresh-closed, closed-unsound}
 use Rattle.rules.proofs.Sessions.{known-session, slot-told}
@@ -91,6 +92,13 @@ pending-exactly s ks a =
           );
     }
 
+shares-a-byte : (w : Write) (u : Unit) → 0 < u .size
+    → (touches w u ≡ true) ↔ ((x : ℕ) × (w .address ≤ x) × (x < w .address + w .bytes) × (u .address ≤ x) × (x < u .address + u .size))
+shares-a-byte w u z = (
+  (λ e. let r = touches-iff w u z .0 e in (r .0, r .1, r .2, r .3 .0, r .3 .1)),
+  (λ r. touches-iff w u z .1 (r .0, r .1, r .2, (r .3, r .4))),
+)
+
 pub demand-2 : Demand2
 demand-2 =
     record {
@@ -99,6 +107,7 @@ demand-2 =
           let h : List Did = sessionHistory s ks a in
           let w : Known h b (on g rs p) = rw e at (known-session s a ks) in
           rw (w .marks .0) (reports-map b (pendingBy h) g k (units g rs) (unitsFrom-sized (unitSize g) 0 rs) (w .marks .1));
+      touches = λ w u. record { exactly = λ z. shares-a-byte w u z; none = λ e. rw e };
       writes = λ s ks a b g rs p e w. writes-always w (units g rs) p;
     }
 

@@ -9,7 +9,7 @@ use mathlib.Core.Option.{Option, none, some}
 use lib.ListN.{length, take, drop, getD, getElem?}
 use Rattle.rules.specs.Lists.{all, any, join, member}
 use Rattle.rules.specs.Settings.{settingsOk, unitSize, bytesOf}
-use Rattle.rules.specs.Units.{Unit, Write, units, mark, newly, pending}
+use Rattle.rules.specs.Units.{Unit, Write, units, touches, mark, newly, pending}
 use Rattle.rules.specs.StartData.{countOf, granularityOf, rangesOf, startSize, startBytes, startData, startWritten, placed}
 use Rattle.rules.specs.Report.{follows, runs, Descriptor, descriptor, Report, reportOn, marksLeft}
 use Rattle.rules.specs.Machine.{Answer, refused, Slot, slot, on, heldBy, pendingIn, State, fresh, soundState, slotOf, Call, Event, step, after, events, lent, stored, numberOf, newlyOf, noReport, reportOf}
@@ -90,6 +90,12 @@ pub record Reports (b : Bool) (g k : ℕ) (us : List Unit) (p : List Bool) : Typ
   -- More is clear exactly when nothing stays pending
   pub more : (reportOn b g k us p .more ≡ false) ↔ (pending us (marksLeft k us p) ≡ [])
 
+-- "A written range … touches each unit with which it shares a byte. Length 0 touches none."
+pub record Touches (w : Write) (u : Unit) : Type 0 where
+  pub exactly : 0 < u .size
+      → (touches w u ≡ true) ↔ ((x : ℕ) × (w .address ≤ x) × (x < w .address + w .bytes) × (u .address ≤ x) × (x < u .address + u .size))
+  pub none : w .bytes ≡ 0 → touches w u ≡ false
+
 -- the count of a write is the number of units that were not pending before it and are after it
 abbrev pub becomes : List Bool → List Bool → ℕ
 becomes [] q = 0
@@ -107,6 +113,7 @@ pub record Demand2 : Type 1 where
   pub pending : (s : Settings) (ks : List Call) (a : ℕ) → Pending s ks a
   pub reports : (s : Settings) (ks : List Call) (a : ℕ) (b : Bool) (g : ℕ) (rs : List Range) (p : List Bool)
       → slotOf (sessionEnd s ks) a ≡ slot b (on g rs p) → (k : ℕ) → Reports b g k (units g rs) p
+  pub touches : (w : Write) (u : Unit) → Touches w u
   pub writes : (s : Settings) (ks : List Call) (a : ℕ) (b : Bool) (g : ℕ) (rs : List Range) (p : List Bool)
       → slotOf (sessionEnd s ks) a ≡ slot b (on g rs p) → (w : Write) → Writes w (units g rs) p
 

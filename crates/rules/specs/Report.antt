@@ -80,13 +80,13 @@ abbrev pub flag : Bool → ℕ → ℕ
 flag b n = cond b n 0
 
 -- 16 bytes: version 0; attributes, bit 1 suspended, bit 0 More To Report; identifier; number of descriptors; granularity; zeros
-abbrev pub reportHeader : ℕ → Report → List ℕ
-reportHeader id r =
+abbrev pub reportHeader : ℕ → Bool → Bool → ℕ → ℕ → List ℕ
+reportHeader id suspended more count g =
     numberBytes 1 0
-    ++ (numberBytes 1 (flag (r .suspended) 2 + flag (r .more) 1)
+    ++ (numberBytes 1 (flag suspended 2 + flag more 1)
     ++ (numberBytes 2 id
-    ++ (numberBytes 4 (length (r .descriptors))
-    ++ (numberBytes 2 (r .granularity)
+    ++ (numberBytes 4 count
+    ++ (numberBytes 2 g
     ++ numberBytes 6 0))))
 
 -- 16 bytes: address, length in units, zeros
@@ -95,4 +95,5 @@ descriptorBytes d = numberBytes 8 (d .address) ++ (numberBytes 4 (d .length) ++ 
 
 -- the report on the controller with an identifier
 unfoldable pub reportBytes : ℕ → Report → List ℕ
-reportBytes id r = reportHeader id r ++ records descriptorBytes (r .descriptors)
+reportBytes id r =
+    reportHeader id (r .suspended) (r .more) (length (r .descriptors)) (r .granularity) ++ records descriptorBytes (r .descriptors)

@@ -1,0 +1,69 @@
+-- The device record as a call meets it: where its controller stands, and what it sees (rules' `Seen`). All of it is the library's interface.
+-- What makes a record sound, and which refusals follow, is defined in `rules`.
+use Prim.Native.Nat.{ℕ}
+use mathlib.Core.Bool.{Bool, true, false, _&&_, cond}
+use mathlib.Core.List.{List, [], _∷_, map}
+use mathlib.Core.Option.{Option, none, some}
+use lib.Dec.{eqb}
+use lib.ListN.{getD, set}
+use Rattle.rules.specs.Lists.{sum, isSome}
+use Rattle.rules.specs.Settings.{placeOf}
+use Rattle.rules.specs.Order.{Seen}
+use Rattle.rules.specs.Device.{heldCount, heldOf, controllersOf, soundDevice}
+use Rattle.rules.specs.declared.Tracking.{Tracking}
+use Rattle.rules.specs.declared.Tracking.the-variants.{Off, On}
+use Rattle.rules.specs.declared.Controller.{Controller}
+use Rattle.rules.specs.declared.Device.{Device}
+use Rattle.record.specs.declared.Found.{Found}
+use Rattle.record.specs.declared.Found.the-variants.{At, Nothing}
+use Rattle.record.specs.declared.Place.{Place}
+use Rattle.record.specs.declared.Place.the-variants as place
+
+-- a place as the search answers it
+abbrev pub foundAt : Option ℕ → Found
+foundAt none = Nothing
+foundAt (some i) = At i
+
+-- refusal 1: the record is sound and the marks are 512 words
+unfoldable pub soundWith : Device → ℕ → Bool
+soundWith d words = soundDevice d && eqb words 512
+
+-- refusals 1 and 2, or the place of the call's controller
+abbrev pub placeAt : Option ℕ → Place
+placeAt none = place.Refused 2
+placeAt (some i) = place.At i
+
+unfoldable pub whereIs : Device → ℕ → ℕ → Place
+whereIs d words id = cond (soundWith d words) (placeAt (placeOf (d .settings) id)) (place.Refused 1)
+
+-- what stands past the end of the controllers, which no rule looks at
+abbrev pub noController : Controller
+noController = record { tracking = Off; suspended = false; ranges = [] }
+
+-- the controller at a place
+abbrev pub controllerAt : Device → Option ℕ → Controller
+controllerAt d none = noController
+controllerAt d (some i) = getD (d .controllers) i noController
+
+-- a record with the controller at a place replaced
+abbrev pub withController : Device → ℕ → Controller → Device
+withController d i c = record { settings = d .settings; controllers = set (d .controllers) i c }
+
+abbrev pub isOn : Tracking → Bool
+isOn Off = false
+isOn (On g n) = true
+
+-- the counts of all controllers now tracked
+abbrev pub countsOf : Device → ℕ
+countsOf d = sum (map heldCount (map heldOf (controllersOf d)))
+
+-- what a call to a place sees of a record and so many mark words
+abbrev pub seenIn : Device → ℕ → Option ℕ → Seen
+seenIn d words p =
+    record {
+      sound = soundWith d words;
+      known = isSome p;
+      suspended = controllerAt d p .suspended;
+      tracked = isOn (controllerAt d p .tracking);
+      counts = countsOf d;
+    }
