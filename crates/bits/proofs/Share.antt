@@ -2,7 +2,7 @@
 -- Assumes nothing.
 use mathlib.Core.Path.{_≡_, refl, sym, ap, ap₂, _∙_}
 use mathlib.Core.Bool.{Bool, true, false, cond, Bool·beq}
-use mathlib.Core.List.{List, [], _∷_, _++_}
+use mathlib.Core.List.{List, [], _∷_, _++_, append-assoc}
 use Prim.Native.Nat.{ℕ, zero, suc, _+_, _-_, _≤_, _<_}
 use native.Mathlib.Nat.{add-assoc, zero-add, suc-add}
 use native.Mathlib.Omega.{arith}
@@ -92,6 +92,22 @@ putShare-putShare l base p q h e =
     ap₂ (λ (x y : List Bool). x ++ (q ++ y)) (take-at (take base l) (p ++ above) base n)
     (ap (λ (x : ℕ). drop x (take base l ++ (p ++ above))) k
     ∙ drop-append-add (take base l) (p ++ above) (length p) ∙ drop-append-seam p above ∙ ap (λ (x : ℕ). drop (base + x) l) (sym e))
+
+-- two shares, one after the other
+pub putShare-append : (l : List Bool) (base : ℕ) (p q : List Bool) → base + length p ≤ length l
+    → putShare l base (p ++ q) ≡ putShare (putShare l base p) (base + length p) q
+unfolding putShare
+putShare-append l base p q h =
+    let front : List Bool = take base l ++ p in
+    let back : List Bool = drop (base + length p) l in
+    let n : length front ≡ base + length p = simp (length-append, length-take) (omega arith) in
+    let e : base + length (p ++ q) ≡ base + length p + length q = omega (arith, length-append p q) in
+    let t : take (base + length p) (front ++ back) ≡ front = take-at front back (base + length p) n in
+    let d : drop (base + length p + length q) (front ++ back) ≡ drop (base + length p + length q) l =
+          sym (drop-drop (length q) (base + length p) (front ++ back)) ∙ ap (drop (length q)) (drop-at front back (base + length p) n)
+          ∙ drop-drop (length q) (base + length p) l in
+    ap (λ k. take base l ++ (p ++ q ++ drop k l)) e
+    ∙ sym (rw (← append-assoc (take base l) p back, t, d) (append-assoc (take base l) p (q ++ drop (base + length p + length q) l) ∙ rw append-assoc))
 
 -- a place of a share set
 pub putShare-set : (l : List Bool) (base : ℕ) (p : List Bool) (i : ℕ) (b : Bool) → base + length p ≤ length l → i < length p

@@ -11,3 +11,4 @@ pub mod Isolation
 pub mod StartLaws
 pub mod ReportLaws
 pub mod Theorems
+pub mod ScanLaws

@@ -3,11 +3,12 @@ use mathlib.Core.Path.{_≡_, refl, sym, ap, ap₂, subst, _∙_}
 use mathlib.Core.Bool.{Bool, true, false, _&&_, _||_, not, cond, true≢false}
 use mathlib.Core.List.{List, [], _∷_, _++_, map, append-assoc}
 use mathlib.Core.Option.{Option, none, some}
-use Prim.Native.Nat.{ℕ, zero, suc, _+_, _≤_, _<_}
+use Prim.Native.Nat.{ℕ, zero, suc, _+_, _≤_, _<_, min}
+use native.Mathlib.Numerals.{add-one}
 use native.Mathlib.Omega.{arith}
 use lib.Dec.{eqb}
-use lib.ListN.{length, take, drop, getD, getElem?, set}
-use lib.Seq.{take-append-seam, drop-append-seam}
+use lib.ListN.{length, take, drop, getD, getElem?, set, length-take, drop-of-length-le}
+use lib.Seq.{take-append-seam, drop-append-seam, drop-cons, getD-take}
 use borrow.Author.Tests.{eqb-true}
 use Rattle.rules.specs.Lists.{all, any, pairs, every, sum, join, placeFrom, isSome}
 
@@ -168,3 +169,15 @@ placeFrom-is (x ∷ xs) j a i e = go (eqb x a) refl (placeFrom-is xs (suc j) a i
         → cond b (some j) (placeFrom (suc j) xs a) ≡ some i → (m : ℕ) × (i ≡ j + m) × (m < suc (length xs)) × (getD (x ∷ xs) m 0 ≡ a)
     go true t ih e = let q : j ≡ i = cc in (0, omega arith, omega arith, eqb-true x a t)
     go false t ih e = let r = ih e in (suc (r .0), omega (arith, r .1), omega (arith, r .2), r .3)
+
+-- ---- loops over the first n elements
+
+-- what a loop over the first n has before it at i: the element there, and what it has at i + 1; and nothing at the end
+module _ {A : Type 0} (xs : List A) (n i : ℕ) where
+  pub front-at : (d : A) → i < n → i < length xs → drop i (take n xs) ≡ getD xs i d ∷ drop (i + 1) (take n xs)
+  front-at d h k =
+      let l : i < length (take n xs) = simp length-take (omega arith) in
+      rw (drop-cons (take n xs) i d l, getD-take n xs i d h, add-one)
+
+  pub front-end : min n (length xs) ≤ i → drop i (take n xs) ≡ []
+  front-end h = drop-of-length-le (take n xs) {i = i} (simp length-take (omega arith))

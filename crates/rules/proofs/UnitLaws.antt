@@ -6,9 +6,9 @@ use mathlib.Core.Bool.{Bool, true, false, _&&_, _||_, not, cond}
 use mathlib.Core.List.{List, [], _∷_, _++_, map}
 use Prim.Native.Nat.{ℕ, zero, suc, _+_, _*_, _≤_, _<_, max}
 use native.Mathlib.Omega.{arith}
-use native.Mathlib.Nat.{suc-mul}
+use native.Mathlib.Nat.{zero-add, add-assoc, zero-mul, suc-mul}
 use lib.Dec.{leb, ltb}
-use lib.ListN.{length, length-append}
+use lib.ListN.{length, getD, length-append}
 use lib.Pow.{pow-pos}
 use borrow.Author.Tests.{leb-true, ltb-true, lt-ltb}
 use Rattle.rules.specs.Lists.{all, pairs, sum}
@@ -67,6 +67,15 @@ unitsOfRow-chain row s a (suc n) = (refl, refl, unitsOfRow-chain row s (a + s) n
 pub unitsOfRow-length : (row s a n : ℕ) → length (unitsOfRow row s a n) ≡ n
 unitsOfRow-length row s a zero = refl
 unitsOfRow-length row s a (suc n) = ap suc (unitsOfRow-length row s (a + s) n)
+
+pub unitsOfRow-at : (row s a n j : ℕ) (d : Unit) → j < n → getD (unitsOfRow row s a n) j d ≡ record { row = row; address = a + j * s; size = s }
+unitsOfRow-at row s a zero j d h = absurd (omega arith)
+unitsOfRow-at row s a (suc n) zero d h =
+    let e : a ≡ a + 0 * s = omega (arith, zero-mul s) in
+    ap (λ x. record { row = row; address = x; size = s }) e
+unitsOfRow-at row s a (suc n) (suc j) d h =
+    let e : a + s + j * s ≡ a + suc j * s = omega (arith, suc-mul j s) in
+    unitsOfRow-at row s (a + s) n j d (omega arith) ∙ ap (λ x. record { row = row; address = x; size = s }) e
 
 pub unitsOfRow-row : (row s a n : ℕ) → All (λ u. u .row ≡ row) (unitsOfRow row s a n)
 unitsOfRow-row row s a zero = tt
@@ -170,6 +179,39 @@ newly-is w (u ∷ us) (false ∷ p) = go (touches w u) (newly-is w us p)
         → length (pending (u ∷ us) (b ∷ mark w us p)) ≡ length (pending us p) + (cond (b && true) 1 0 + newly w us p)
     go true e = omega arith
     go false e = omega arith
+
+-- marks of two lists of units, one after the other
+pub mark-append : (w : Write) (us vs : List Unit) (p q : List Bool) → length p ≡ length us → mark w (us ++ vs) (p ++ q) ≡ mark w us p ++ mark w vs q
+mark-append w [] vs [] q e = refl
+mark-append w [] vs (b ∷ p) q e = absurd (omega arith)
+mark-append w (u ∷ us) vs [] q e = absurd (omega arith)
+mark-append w (u ∷ us) vs (b ∷ p) q e = ap (λ l. (b || touches w u) ∷ l) (mark-append w us vs p q (omega arith))
+
+pub newly-append : (w : Write) (us vs : List Unit) (p q : List Bool) → length p ≡ length us → newly w (us ++ vs) (p ++ q) ≡ newly w us p + newly w vs q
+newly-append w [] vs [] q e = sym (zero-add (newly w vs q))
+newly-append w [] vs (b ∷ p) q e = absurd (omega arith)
+newly-append w (u ∷ us) vs [] q e = absurd (omega arith)
+newly-append w (u ∷ us) vs (b ∷ p) q e =
+    ap (λ n. cond (touches w u && not b) 1 0 + n) (newly-append w us vs p q (omega arith))
+    ∙ sym (add-assoc (cond (touches w u && not b) 1 0) (newly w us p) (newly w vs q))
+
+-- the mark of one unit
+pub mark-at : (w : Write) (us : List Unit) (p : List Bool) (j : ℕ) (d : Unit) → length p ≡ length us → j < length us
+    → getD (mark w us p) j false ≡ (getD p j false || touches w (getD us j d))
+mark-at w [] p j d e h = absurd (omega arith)
+mark-at w (u ∷ us) [] j d e h = absurd (omega arith)
+mark-at w (u ∷ us) (b ∷ p) zero d e h = refl
+mark-at w (u ∷ us) (b ∷ p) (suc j) d e h = mark-at w us p j d (omega arith) (omega arith)
+
+-- no more become pending than there are units
+pub newly-le : (w : Write) (us : List Unit) (p : List Bool) → newly w us p ≤ length us
+newly-le w [] p = omega arith
+newly-le w (u ∷ us) [] = omega arith
+newly-le w (u ∷ us) (b ∷ p) = go (touches w u && not b) (newly-le w us p)
+  where
+    go : (t : Bool) → newly w us p ≤ length us → cond t 1 0 + newly w us p ≤ suc (length us)
+    go true h = omega arith
+    go false h = omega arith
 
 -- ---- pending
 
