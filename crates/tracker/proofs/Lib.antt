@@ -1,1 +1,2 @@
 pub mod NoteLaws
+pub mod ScanSteps

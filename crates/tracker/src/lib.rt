@@ -3,6 +3,7 @@
 // number with zeros for everything else, and changes neither record, marks nor buffer. The order of refusals is document 01's, first hit answers.
 
 mod note;
+mod scan;
 
 use rules::Device;
 

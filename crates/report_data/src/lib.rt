@@ -1,0 +1,47 @@
+// The report (NVMe: Tracked Memory Changed data structure): its header and its descriptors, stored into a lent buffer.
+// The room is the caller's to keep. Each function leaves every byte outside its 16 as it was, so a loop that finds runs writes one descriptor
+// after another from index 16 on, and the header last, when the count and More To Report are known.
+ghost use mathlib.Core.Path.{_≡_};
+ghost use Prim.Native.Nat.{_+_, _≤_};
+ghost use lib.ListN.{length};
+ghost use Rattle.little.specs.Little.{put};
+ghost use Rattle.rules.specs.Report.{reportHeader, descriptorBytes};
+
+// `n` where `on`, else 0.
+fn flag(on: bool, n: u8) -> u8
+    ensures { λ r. ⌜ (r ≡ Rattle.rules.specs.Report.flag on n) × (r ≤ n) ⌝ }
+{
+    if on { n } else { 0 }
+}
+
+// Stores the report's header in the first 16 bytes: version 0, the attributes suspended and More To Report, the identifier, the number of
+// descriptors, the granularity with which the controller was started, and zeros.
+pub fn put_header(
+    buffer: &mut [u8],
+    id: u16,
+    suspended: bool,
+    more: bool,
+    count: u32,
+    granularity: u8,
+)
+    requires { ⌜ 16 ≤ length (now buffer) ⌝ }
+    ensures { λ _. ⌜ now (buffer .exit) ≡ put (now (buffer .entry)) 0 (reportHeader id suspended more count granularity) ⌝ }
+{
+    let attributes = flag(suspended, 2) + flag(more, 1);
+    little::put_u8(buffer, 0, 0);
+    little::put_u8(buffer, 1, attributes);
+    little::put_u16(buffer, 2, id);
+    little::put_u32(buffer, 4, count);
+    little::put_u16(buffer, 8, granularity as u16);
+    little::put_number(buffer, 10, 6, 0);
+}
+
+// Stores a descriptor in the 16 bytes from index `at` on: a run's first address, its length in units, and zeros.
+pub fn put_descriptor(buffer: &mut [u8], at: usize, address: u64, units: u32)
+    requires { ⌜ at + 16 ≤ length (now buffer) ⌝ }
+    ensures { λ _. ⌜ now (buffer .exit) ≡ put (now (buffer .entry)) at (descriptorBytes (record { address = address; length = units })) ⌝ }
+{
+    little::put_u64(buffer, at, address);
+    little::put_u32(buffer, at + 8, units);
+    little::put_u32(buffer, at + 12, 0);
+}

@@ -1,0 +1,181 @@
+-- `tracker::scan::next_run` is right: row by row the next set mark is looked for, and behind it the next clear one. The loop's invariant (`Scanned`): all marks
+-- from `pos` to where it stands are clear. The measure is the rows that are left. Assumes nothing.
+use mathlib.Core.Path.{_≡_}
+use Prim.Native.Nat.{_≤_, _-_, _+_}
+use native.Mathlib.Omega.{arith}
+use denote.Ref.{now}
+use lib.ListN.{length, take}
+use lib.Seq.{length-take-le}
+use borrow.Author.Needs.{needs}
+use Rattle.bits.specs.Flat.{flat}
+use Rattle.bits.specs.Share.{getShare}
+use Rattle.bits.proofs.Flat.{flat-length}
+use Rattle.rules.specs.Units.{unitsFrom}
+use Rattle.tracker.proofs.ScanSteps.{Scanned, scanned-start, search-nothing, search-end, search-low, search-row, search-high, search-run}
+use Rattle.tracker.proofs.scan.next_run.Statement.{statement}
+use Rattle.tracker.proofs.scan.next_run.Tie as tie
+use Rattle.tracker.proofs.scan.next_run.Reads as reads
+use Rattle.tracker.proofs.scan.next_run.Lts as lts
+use Rattle.bits.proofs.next_clear.Reads as next-clear-reads
+use Rattle.bits.proofs.next_set.Reads as next-set-reads
+
+abbrev Inv-loop : tie.InvT-loop
+Inv-loop marks base n row begin pos size ranges i₀ b₀ p₀ i b p =
+    (i ≤ n) × Scanned size (take n ranges) (getShare (flat marks) base (length (unitsFrom size 0 (take n ranges)))) pos i b p
+
+abbrev μ-loop : tie.MeasureT-loop
+μ-loop marks base n row begin pos size ranges i₀ b₀ p₀ i b p = n - i
+
+loop-holds : tie.Need-loop-holds Inv-loop μ-loop
+loop-holds c =
+    let a = c .before .args in
+    let sixteen : length (a .t4) ≡ 16 = search needs in
+    let few : length (take (a .n) (a .t4)) ≡ a .n = length-take-le (a .n) (a .t4) (omega arith) in
+    (omega (arith, c .before .pre .4 .rows), scanned-start _ _ _ _ _ _ (c .before .pre .4))
+
+mul-r : tie.Need-mul-r Inv-loop μ-loop
+mul-r c = search needs
+
+array-copy-out-r : tie.Need-array-copy-out-r Inv-loop μ-loop
+array-copy-out-r c = search needs
+
+cast-end : tie.Need-cast-end Inv-loop μ-loop
+cast-end c = search needs
+
+add-end : tie.Need-add-end Inv-loop μ-loop
+add-end c =
+    let f = c .before .before .before .before .before in
+    let a = f .args in
+    let l = c .before .before .before .loop in
+    let sixteen : length (a .t4) ≡ 16 = search needs in
+    let there : a .n ≤ length (a .t4) = omega arith in
+    let fits : a .base + length (unitsFrom (a .size) 0 (take (a .n) (a .t4))) ≤ length (flat (now (a .marks))) = omega (arith, flat-length (now (a .marks))) in
+    omega (arith, search-end (a .size) (f .pre .0) (a .t4) (a .n) there (flat (now (a .marks))) (a .base) fits (a .pos) (l .i) (l .b) (l .p) (l .inv .1) (omega arith) .1)
+
+add-next-set : tie.Need-add-next-set Inv-loop μ-loop
+add-next-set c =
+    let f = c .before .before .before .before .before in
+    let a = f .args in
+    let l = c .before .before .before .loop in
+    let sixteen : length (a .t4) ≡ 16 = search needs in
+    let there : a .n ≤ length (a .t4) = omega arith in
+    let fits : a .base + length (unitsFrom (a .size) 0 (take (a .n) (a .t4))) ≤ length (flat (now (a .marks))) = omega (arith, flat-length (now (a .marks))) in
+    let e = search-end (a .size) (f .pre .0) (a .t4) (a .n) there (flat (now (a .marks))) (a .base) fits (a .pos) (l .i) (l .b) (l .p) (l .inv .1) (omega arith) in
+    omega (arith, e .0, e .1)
+
+add-next-set-2 : tie.Need-add-next-set-2 Inv-loop μ-loop
+add-next-set-2 c =
+    let f = c .before .before .before .before .before in
+    let a = f .args in
+    let l = c .before .before .before .loop in
+    let sixteen : length (a .t4) ≡ 16 = search needs in
+    let there : a .n ≤ length (a .t4) = omega arith in
+    let fits : a .base + length (unitsFrom (a .size) 0 (take (a .n) (a .t4))) ≤ length (flat (now (a .marks))) = omega (arith, flat-length (now (a .marks))) in
+    omega (arith, search-end (a .size) (f .pre .0) (a .t4) (a .n) there (flat (now (a .marks))) (a .base) fits (a .pos) (l .i) (l .b) (l .p) (l .inv .1) (omega arith) .1)
+
+next-set-requires : tie.Need-next-set-requires Inv-loop μ-loop
+next-set-requires c κs = search needs
+
+sub-from : tie.Need-sub-from Inv-loop μ-loop
+sub-from c =
+    let f = c .before .before .before .before .before .before in
+    let a = f .args in
+    let l = c .before .before .before .before .loop in
+    let sixteen : length (a .t4) ≡ 16 = search needs in
+    let there : a .n ≤ length (a .t4) = omega arith in
+    let fits : a .base + length (unitsFrom (a .size) 0 (take (a .n) (a .t4))) ≤ length (flat (now (a .marks))) = omega (arith, flat-length (now (a .marks))) in
+    search-low (a .size) (f .pre .0) (a .t4) (a .n) there (flat (now (a .marks))) (a .base) fits (a .pos) (l .i) (l .b) (l .p) (l .inv .1) (omega arith) (c .next-set .result) (c .next-set .ensures)
+
+add-next-clear : tie.Need-add-next-clear Inv-loop μ-loop
+add-next-clear c =
+    let f = c .before .before .before .before .before .before .before in
+    let a = f .args in
+    let l = c .before .before .before .before .before .loop in
+    let sixteen : length (a .t4) ≡ 16 = search needs in
+    let there : a .n ≤ length (a .t4) = omega arith in
+    let fits : a .base + length (unitsFrom (a .size) 0 (take (a .n) (a .t4))) ≤ length (flat (now (a .marks))) = omega (arith, flat-length (now (a .marks))) in
+    omega (arith, search-end (a .size) (f .pre .0) (a .t4) (a .n) there (flat (now (a .marks))) (a .base) fits (a .pos) (l .i) (l .b) (l .p) (l .inv .1) (omega arith) .1)
+
+add-next-clear-2 : tie.Need-add-next-clear-2 Inv-loop μ-loop
+add-next-clear-2 c =
+    let f = c .before .before .before .before .before .before .before in
+    let a = f .args in
+    let l = c .before .before .before .before .before .loop in
+    let sixteen : length (a .t4) ≡ 16 = search needs in
+    let there : a .n ≤ length (a .t4) = omega arith in
+    let fits : a .base + length (unitsFrom (a .size) 0 (take (a .n) (a .t4))) ≤ length (flat (now (a .marks))) = omega (arith, flat-length (now (a .marks))) in
+    omega (arith, search-end (a .size) (f .pre .0) (a .t4) (a .n) there (flat (now (a .marks))) (a .base) fits (a .pos) (l .i) (l .b) (l .p) (l .inv .1) (omega arith) .1)
+
+next-clear-requires : tie.Need-next-clear-requires Inv-loop μ-loop
+next-clear-requires c κs = search needs
+
+sub-to : tie.Need-sub-to Inv-loop μ-loop
+sub-to c =
+    let f = c .before .before .before .before .before .before .before .before in
+    let a = f .args in
+    let l = c .before .before .before .before .before .before .loop in
+    let sixteen : length (a .t4) ≡ 16 = search needs in
+    let there : a .n ≤ length (a .t4) = omega arith in
+    let fits : a .base + length (unitsFrom (a .size) 0 (take (a .n) (a .t4))) ≤ length (flat (now (a .marks))) = omega (arith, flat-length (now (a .marks))) in
+    search-high (a .size) (f .pre .0) (a .t4) (a .n) there (flat (now (a .marks))) (a .base) fits (a .pos) (l .i) (l .b) (l .p) (l .inv .1) (omega arith) (c .before .before .next-set .result) (c .before .before .next-set .ensures) (c .before .if1 .taken) (c .next-clear .result) (c .next-clear .ensures)
+
+returns : tie.Need-returns Inv-loop μ-loop
+returns c =
+    let f = c .before .before .before .before .before .before .before .before in
+    let a = f .args in
+    let l = c .before .before .before .before .before .before .loop in
+    let sixteen : length (a .t4) ≡ 16 = search needs in
+    let there : a .n ≤ length (a .t4) = omega arith in
+    let fits : a .base + length (unitsFrom (a .size) 0 (take (a .n) (a .t4))) ≤ length (flat (now (a .marks))) = omega (arith, flat-length (now (a .marks))) in
+    search-run (a .size) (f .pre .0) (a .t4) (a .n) there (flat (now (a .marks))) (a .base) fits (a .pos) (l .i) (l .b) (l .p) (l .inv .1) (omega arith) (c .before .before .next-set .result) (c .before .before .next-set .ensures) (c .before .if1 .taken) (c .next-clear .result) (c .next-clear .ensures)
+
+add-i : tie.Need-add-i Inv-loop μ-loop
+add-i c = search needs
+
+loop-less : tie.Need-loop-less Inv-loop μ-loop
+loop-less c = search needs
+
+loop-again : tie.Need-loop-again Inv-loop μ-loop
+loop-again c =
+    let f = c .before .before .before .before .before .before .before in
+    let a = f .args in
+    let l = c .before .before .before .before .before .loop in
+    let sixteen : length (a .t4) ≡ 16 = search needs in
+    let there : a .n ≤ length (a .t4) = omega arith in
+    let fits : a .base + length (unitsFrom (a .size) 0 (take (a .n) (a .t4))) ≤ length (flat (now (a .marks))) = omega (arith, flat-length (now (a .marks))) in
+    (omega arith, search-row (a .size) (f .pre .0) (a .t4) (a .n) there (flat (now (a .marks))) (a .base) fits (a .pos) (l .i) (l .b) (l .p) (l .inv .1) (omega arith) (c .before .next-set .result) (c .before .next-set .ensures) (omega arith))
+
+returns-2 : tie.Need-returns-2 Inv-loop μ-loop
+returns-2 c =
+    let f = c .before .before .before in
+    let a = f .args in
+    let l = c .before .loop in
+    let sixteen : length (a .t4) ≡ 16 = search needs in
+    let there : a .n ≤ length (a .t4) = omega arith in
+    let fits : a .base + length (unitsFrom (a .size) 0 (take (a .n) (a .t4))) ≤ length (flat (now (a .marks))) = omega (arith, flat-length (now (a .marks))) in
+    search-nothing (a .size) (f .pre .0) (a .t4) (a .n) there (flat (now (a .marks))) (a .base) fits (a .pos) (l .i) (l .b) (l .p) (l .inv .1) (omega arith)
+
+pub next-run-spec : {M : Type 1} → statement M
+next-run-spec =
+    tie.close
+    (tie.spec
+    Inv-loop
+    μ-loop
+    loop-holds
+    mul-r
+    array-copy-out-r
+    cast-end
+    add-end
+    add-next-set
+    add-next-set-2
+    next-set-requires
+    sub-from
+    add-next-clear
+    add-next-clear-2
+    next-clear-requires
+    sub-to
+    returns
+    add-i
+    loop-less
+    loop-again
+    returns-2)
