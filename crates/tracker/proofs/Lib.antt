@@ -1,2 +1,3 @@
 pub mod NoteLaws
 pub mod ScanSteps
+pub mod ListSteps

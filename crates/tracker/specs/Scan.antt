@@ -3,11 +3,14 @@
 use Prim.Native.Nat.{ℕ, zero, suc, _+_, _-_, _*_, _^_, _≤_, _<_}
 use mathlib.Core.Path.{_≡_}
 use mathlib.Core.Bool.{Bool, false}
-use mathlib.Core.List.{List, [], _∷_, _++_}
+use mathlib.Core.List.{List, [], _∷_, _++_, map}
 use lib.ListN.{length, drop, getD}
+use Rattle.bits.specs.Share.{getShare, putShare}
+use Rattle.little.specs.Little.{put, records}
 use Rattle.rules.specs.Units.{Unit, unitsOfRow, unitsFrom, pending}
 use Rattle.rules.specs.StartData.{noRange}
-use Rattle.rules.specs.Report.{runs}
+use Rattle.rules.specs.Lists.{nonEmpty}
+use Rattle.rules.specs.Report.{runs, descriptor, descriptorBytes, reportedRuns, laterRuns, marksLeft}
 use Rattle.rules.specs.declared.Range.{Range}
 use Rattle.tracker.specs.declared.scan.Next.{Next}
 use Rattle.tracker.specs.declared.scan.Next.the-variants.{Is, Nothing}
@@ -49,3 +52,10 @@ NextIs size rs p pos Nothing = pending (drop pos (unitsFrom size 0 rs)) (drop po
 -- each range ends at most at 2^64
 abbrev pub RangesEnd : ℕ → List Range → Type 0
 RangesEnd size rs = (i : ℕ) → i < length rs → rowOf rs i .start + rowOf rs i .length * size ≤ 2 ^ 64
+
+-- what a report with room for so many runs lists and leaves, of the marks that stand in bits l from `base` on and of a buffer x
+pub record Lists (size : ℕ) (rs : List Range) (l : List Bool) (base : ℕ) (x : List ℕ) (room count : ℕ) (more : Bool) (l′ : List Bool) (x′ : List ℕ) : Type 0 where
+  pub count-is : count ≡ length (reportedRuns room (unitsFrom size 0 rs) (getShare l base (length (unitsFrom size 0 rs))))
+  pub more-is : more ≡ nonEmpty (laterRuns room (unitsFrom size 0 rs) (getShare l base (length (unitsFrom size 0 rs))))
+  pub bits-are : l′ ≡ putShare l base (marksLeft room (unitsFrom size 0 rs) (getShare l base (length (unitsFrom size 0 rs))))
+  pub bytes-are : x′ ≡ put x 16 (records descriptorBytes (map descriptor (reportedRuns room (unitsFrom size 0 rs) (getShare l base (length (unitsFrom size 0 rs))))))

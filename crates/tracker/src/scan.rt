@@ -3,16 +3,12 @@
 
 use rules::Range;
 ghost use mathlib.Core.Path.{_≡_};
-ghost use mathlib.Core.List.{map};
-ghost use Prim.Native.Nat.{_+_, _*_, _^_, _≤_, _<_};
+ghost use Prim.Native.Nat.{_+_, _*_, _≤_, _<_};
 ghost use lib.ListN.{length, take};
 ghost use Rattle.bits.specs.Flat.{flat};
-ghost use Rattle.bits.specs.Share.{getShare, putShare};
-ghost use Rattle.little.specs.Little.{put, records};
-ghost use Rattle.rules.specs.Lists.{nonEmpty};
+ghost use Rattle.bits.specs.Share.{getShare};
 ghost use Rattle.rules.specs.Units.{unitsFrom};
-ghost use Rattle.rules.specs.Report.{descriptor, descriptorBytes, reportedRuns, laterRuns, marksLeft};
-ghost use Rattle.tracker.specs.Scan.{Stands, NextIs, RangesEnd};
+ghost use Rattle.tracker.specs.Scan.{Stands, NextIs, RangesEnd, Lists};
 
 // A run: its row, the row's first unit, its own first unit and the unit just past it.
 pub struct Run {
@@ -53,4 +49,44 @@ pub fn next_run(marks: &[u64], base: usize, n: usize, ranges: [Range; 16], row: 
         p = end;
     }
     Next::Nothing
+}
+
+// How many runs were listed, and whether one stays.
+pub struct Listed {
+    pub runs: usize,
+    pub more: bool,
+}
+
+// Lists the first runs, as many as there is room for, one descriptor after another from byte 16 of the buffer on, and makes them clear.
+pub fn list_runs(marks: &mut [u64], base: usize, n: usize, ranges: [Range; 16], size: u64, buffer: &mut [u8], room: usize) -> Listed
+    requires { ⌜ (0 < size) × RangesEnd size (take n ranges) ⌝ ∗ ⌜ (n ≤ 16) × (length (now marks) ≡ 512) × (base + length (unitsFrom size 0 (take n ranges)) ≤ 32768) × (16 + 16 * room ≤ length (now buffer)) ⌝ }
+    ensures { λ r. ⌜ Lists size (take n ranges) (flat (now (marks .entry))) base (now (buffer .entry)) room (r .runs) (r .more) (flat (now (marks .exit))) (now (buffer .exit)) ⌝ }
+{
+    let mut runs: usize = 0;
+    let mut row: usize = 0;
+    let mut begin: usize = 0;
+    let mut pos: usize = 0;
+    loop {
+        let Next::Is(run) = next_run(marks, base, n, ranges, row, begin, pos, size) else {
+            return Listed {
+                runs: runs,
+                more: false,
+            };
+        };
+        if runs == room {
+            return Listed {
+                runs: runs,
+                more: true,
+            };
+        }
+        row = run.row;
+        begin = run.begin;
+        let from = run.from;
+        pos = run.to;
+        bits::clear_span(marks, base + from, base + pos);
+        let r = ranges[row];
+        let address = r.start + (from - begin) as u64 * size;
+        report_data::put_descriptor(buffer, 16 + 16 * runs, address, (pos - from) as u32);
+        runs += 1;
+    }
 }

@@ -1,0 +1,286 @@
+-- Laws of the loop that lists runs: what was listed are the first runs, what was passed is clear, and what is left are the later runs.
+-- Assumes nothing.
+use mathlib.Core.Path.{_≡_, refl, sym, ap, ap₂, subst, _∙_}
+use mathlib.Core.Bool.{Bool, true, false}
+use mathlib.Core.List.{List, [], _∷_, _++_, map}
+use Prim.Native.Nat.{ℕ, zero, suc, _+_, _-_, _*_, _^_, _≤_, _<_}
+use native.Mathlib.Numerals.{add-one}
+use native.Mathlib.Omega.{arith}
+use native.Mathlib.Nat.{suc-mul, mul-le-mul-right}
+use native.Mathlib.Decide.{decLt}
+use lib.ListN.{length, getD, take, drop, length-append, length-take, length-drop, length-map, List·getD-append, List·getD-eq-default, drop-of-length-le}
+use lib.Seq.{ext-getD, getD-append-add, getD-drop, drop-at, take-all, drop-drop, getD-take}
+use Rattle.bits.specs.Span.{fill}
+use Rattle.bits.specs.Share.{getShare, putShare}
+use Rattle.bits.proofs.Span.{fill-length, fill-at-below, fill-at-in, fill-at-above}
+use Rattle.bits.proofs.Share.{getShare-length, putShare-length, getShare-putShare, putShare-getShare, putShare-putShare, fill-share}
+use Rattle.little.specs.Little.{put, records}
+use Rattle.little.proofs.Put.{put-nil}
+use Rattle.little.proofs.Records.{records-nil, records-snoc-again}
+use Rattle.report_data.proofs.Blocks.{descriptorBytes-length}
+use Rattle.rules.specs.Lists.{join, nonEmpty}
+use Rattle.rules.specs.Units.{Unit, unitsOfRow, unitsFrom, pending}
+use Rattle.rules.specs.StartData.{noRange}
+use Rattle.rules.specs.Report.{runs, Descriptor, descriptor, descriptorBytes, reportedRuns, laterRuns, marksLeft, clearFirst}
+use Rattle.rules.specs.declared.Range.{Range}
+use Rattle.rules.proofs.ListLaws.{join-take-drop}
+use Rattle.rules.proofs.RunLaws.{runs-join}
+use Rattle.rules.proofs.ScanLaws.{clearBefore, clearFirst-clearBefore, descriptor-row}
+use Rattle.tracker.specs.Scan.{rowOf, addressAt, Stands, RunFound, RangesEnd, Lists}
+use Rattle.tracker.proofs.ScanSteps.{stands-start, stands-end}
+
+-- ---- the marks with all before a place clear
+
+clears-map : (p : List Bool) (i : ℕ) → getD (map (λ (b : Bool). false) p) i false ≡ false
+clears-map [] i = refl
+clears-map (b ∷ p) zero = refl
+clears-map (b ∷ p) (suc i) = clears-map p i
+
+module _ (n : ℕ) (p : List Bool) (h : n ≤ length p) where
+  front-length : length (map (λ (b : Bool). false) (take n p)) ≡ n
+  front-length = length-map (take n p) (λ (b : Bool). false) ∙ omega (arith, length-take n p)
+
+  clearBefore-length : length (clearBefore n p) ≡ length p
+  clearBefore-length = length-append (map (λ (b : Bool). false) (take n p)) (drop n p) ∙ omega (arith, front-length, length-drop n p)
+
+  clearBefore-drop : drop n (clearBefore n p) ≡ drop n p
+  clearBefore-drop = drop-at (map (λ (b : Bool). false) (take n p)) (drop n p) n front-length
+
+  clearBefore-below : (i : ℕ) → i < n → getD (clearBefore n p) i false ≡ false
+  clearBefore-below i l =
+      List·getD-append (map (λ (b : Bool). false) (take n p)) (drop n p) false i (omega (arith, front-length)) ∙ clears-map (take n p) i
+
+  clearBefore-above : (i : ℕ) → n ≤ i → getD (clearBefore n p) i false ≡ getD p i false
+  clearBefore-above i l =
+      let e : i ≡ length (map (λ (b : Bool). false) (take n p)) + (i - n) = omega (arith, front-length) in
+      let f : n + (i - n) ≡ i = omega arith in
+      ap (λ k. getD (clearBefore n p) k false) e ∙ getD-append-add (map (λ (b : Bool). false) (take n p)) (drop n p) (i - n) false
+      ∙ getD-drop n p (i - n) false ∙ ap (λ k. getD p k false) f
+
+clearBefore-drop-later : (n m : ℕ) (p : List Bool) → n ≤ length p → n ≤ m → drop m (clearBefore n p) ≡ drop m p
+clearBefore-drop-later n m p h k =
+    let e : n + (m - n) ≡ m = omega arith in
+    ap (λ i. drop i (clearBefore n p)) (sym e) ∙ sym (drop-drop (m - n) n (clearBefore n p)) ∙ ap (drop (m - n)) (clearBefore-drop n p h) ∙ drop-drop (m - n) n p ∙ ap (λ i. drop i p) e
+
+-- a span after clear marks is made clear
+clearBefore-fill : (n from to : ℕ) (p : List Bool) → n ≤ from → from ≤ to → to ≤ length p → ((i : ℕ) → n ≤ i → i < from → getD (clearBefore n p) i false ≡ false)
+    → fill false (clearBefore n p) from (to - from) ≡ clearBefore to p
+clearBefore-fill n from to p h k l f =
+    ext-getD false (fill false (clearBefore n p) from (to - from)) (clearBefore to p)
+    (fill-length false (clearBefore n p) from (to - from) ∙ clearBefore-length n p (omega arith) ∙ sym (clearBefore-length to p l))
+    (λ i m. let q : i < length p = omega (arith, fill-length false (clearBefore n p) from (to - from), clearBefore-length n p (omega arith)) in at i q (decLt i n) (decLt i from) (decLt i to))
+  where
+    at : (i : ℕ) → i < length p → Dec (i < n) → Dec (i < from) → Dec (i < to) → getD (fill false (clearBefore n p) from (to - from)) i false ≡ getD (clearBefore to p) i false
+    at i q (yes a) b c =
+        fill-at-below false (clearBefore n p) from (to - from) i false (omega arith) ∙ clearBefore-below n p (omega arith) i a ∙ sym (clearBefore-below to p l i (omega arith))
+    at i q (no a) (yes b) c =
+        fill-at-below false (clearBefore n p) from (to - from) i false b ∙ f i (omega arith) b ∙ sym (clearBefore-below to p l i (omega arith))
+    at i q (no a) (no b) (yes c) =
+        fill-at-in false (clearBefore n p) from (to - from) i false (omega arith) (omega arith) (omega (arith, clearBefore-length n p (omega arith))) ∙ sym (clearBefore-below to p l i c)
+    at i q (no a) (no b) (no c) =
+        fill-at-above false (clearBefore n p) from (to - from) i false (omega arith) ∙ clearBefore-above n p (omega arith) i (omega arith) ∙ sym (clearBefore-above to p l i (omega arith))
+
+-- ---- the first element of what is left of a list
+
+drop-first : {A : Type 0} (j : ℕ) (xs : List A) (y : A) (ys : List A) → drop j xs ≡ y ∷ ys
+    → (j < length xs) × (take (suc j) xs ≡ take j xs ++ y ∷ []) × (drop (suc j) xs ≡ ys)
+drop-first zero [] y ys e = let z : _≡_ {A = ℕ} 0 1 = cc in absurd (omega arith)
+drop-first zero (x ∷ xs) y ys e = let p : x ≡ y = cc in let q : xs ≡ ys = cc in (omega arith, ap (λ a. a ∷ []) p, q)
+drop-first (suc j) [] y ys e = let z : _≡_ {A = ℕ} 0 1 = cc in absurd (omega arith)
+drop-first (suc j) (x ∷ xs) y ys e = let r = drop-first j xs y ys e in (omega (arith, r .0), ap (λ l. x ∷ l) (r .1), r .2)
+
+drop-none : {A : Type 0} (j : ℕ) (xs : List A) → drop j xs ≡ [] → length xs ≤ j
+drop-none j xs e = let l : length xs - j ≡ 0 = sym (length-drop j xs) ∙ ap length e in omega arith
+
+-- ---- the loop
+
+-- the controller's units, its marks at the start, and their runs
+abbrev unitsIn : ℕ → List Range → List Unit
+unitsIn size rs = unitsFrom size 0 rs
+
+abbrev marksIn : ℕ → List Range → List Bool → ℕ → List Bool
+marksIn size rs l base = getShare l base (length (unitsIn size rs))
+
+abbrev runsIn : ℕ → List Range → List Bool → ℕ → List (List Unit)
+runsIn size rs l base = runs (pending (unitsIn size rs) (marksIn size rs l base))
+
+-- j runs are listed, and the scan stands at unit `pos`
+pub record Listing (size : ℕ) (rs : List Range) (l : List Bool) (base : ℕ) (x : List ℕ) (room : ℕ) (l′ : List Bool) (x′ : List ℕ) (j row begin pos : ℕ) : Type 0 where
+  pub stands : Stands size rs row begin pos
+  pub few : j ≤ room
+  pub there : j ≤ length (runsIn size rs l base)
+  pub bits : l′ ≡ putShare l base (clearBefore pos (marksIn size rs l base))
+  pub bytes : x′ ≡ put x 16 (records descriptorBytes (map descriptor (take j (runsIn size rs l base))))
+  pub later : drop j (runsIn size rs l base) ≡ runs (pending (drop pos (unitsIn size rs)) (drop pos (marksIn size rs l base)))
+
+module _ (size : ℕ) (rs : List Range) (l : List Bool) (base : ℕ) (x : List ℕ) (room : ℕ) (fits : base + length (unitsFrom size 0 rs) ≤ length l) where
+  abbrev us : List Unit
+  us = unitsIn size rs
+
+  abbrev p : List Bool
+  p = marksIn size rs l base
+
+  abbrev every : List (List Unit)
+  every = runsIn size rs l base
+
+  p-length : length p ≡ length us
+  p-length = getShare-length l base (length us) fits
+
+  pub listing-start : Listing size rs l base x room l x 0 0 0 0
+  listing-start =
+      record {
+        stands = stands-start size rs;
+        few = omega arith;
+        there = omega arith;
+        bits = sym (putShare-getShare l base (length us) fits);
+        bytes = sym (rw (records-nil, put-nil));
+        later = refl;
+      }
+
+  module _ (l′ : List Bool) (x′ : List ℕ) (j row begin pos : ℕ) (s : Listing size rs l base x room l′ x′ j row begin pos) where
+    inside : pos ≤ length p
+    inside = omega (arith, s .stands .inside, p-length)
+
+    cleared-fits : base + length (clearBefore pos p) ≤ length l
+    cleared-fits = omega (arith, clearBefore-length pos p inside, p-length)
+
+    -- the marks as they are now
+    now-marks : getShare l′ base (length us) ≡ clearBefore pos p
+    now-marks =
+        ap₂ (λ b n. getShare b base n) (s .bits) (sym (clearBefore-length pos p inside ∙ p-length))
+        ∙ getShare-putShare l base (clearBefore pos p) cleared-fits
+
+    pub now-length : length l′ ≡ length l
+    now-length = ap length (s .bits) ∙ putShare-length l base (clearBefore pos p) cleared-fits
+
+    -- what the report is to leave
+    module _ (count-left : length (join (take room every)) + length (pending (drop pos us) (drop pos p)) ≡ length (pending us p)) where
+      left-is : putShare l base (marksLeft room us p) ≡ l′
+      left-is = ap (putShare l base) (clearFirst-clearBefore us p pos (length (join (take room every))) p-length count-left) ∙ sym (s .bits)
+
+    all-units : (k : ℕ) → length (join (take k every)) + length (join (drop k every)) ≡ length (pending us p)
+    all-units k = sym (length-append (join (take k every)) (join (drop k every))) ∙ ap length (join-take-drop k every ∙ runs-join (pending us p))
+
+    -- nothing more is pending
+    pub listing-done : pending (drop pos us) (drop pos (getShare l′ base (length us))) ≡ [] → Lists size rs l base x room j false l′ x′
+    listing-done e =
+        record {
+          count-is = sym (ap length whole ∙ exact);
+          more-is = sym (ap nonEmpty (drop-of-length-le every {i = room} (omega (arith, short))));
+          bits-are = sym (left-is (ap₂ (λ a b. length (join a) + length b) whole none ∙ all-first));
+          bytes-are = s .bytes ∙ ap (λ r. put x 16 (records descriptorBytes (map descriptor r))) (first ∙ sym whole);
+        }
+      where
+        none : pending (drop pos us) (drop pos p) ≡ []
+        none = sym (ap (pending (drop pos us)) (ap (drop pos) now-marks ∙ clearBefore-drop pos p inside)) ∙ e
+        short : length every ≤ j
+        short = drop-none j every (s .later ∙ ap runs none)
+        first : take j every ≡ every
+        first = take-all j every short
+        whole : take room every ≡ every
+        whole = take-all room every (omega (arith, short, s .few))
+        exact : length every ≡ j
+        exact = omega (arith, short, s .there)
+        all-first : length (join every) + length {A = Unit} [] ≡ length (pending us p)
+        all-first = omega (arith, ap length (runs-join (pending us p)))
+
+    -- ---- a run is found
+
+    module _ (row′ begin′ from to : ℕ) (f : RunFound size rs (getShare l′ base (length us)) pos row′ begin′ from to) where
+      abbrev run : List Unit
+      run = unitsOfRow row′ size (addressAt size rs row′ begin′ from) (to - from)
+
+      order : (pos ≤ from) × (from < to) × (to ≤ length us)
+      order = (f .past, f .some, f .stands .inside)
+
+      rest-marks : (k : ℕ) → pos ≤ k → drop k (getShare l′ base (length us)) ≡ drop k p
+      rest-marks k h = ap (drop k) now-marks ∙ clearBefore-drop-later pos k p inside h
+
+      found : drop j every ≡ run ∷ runs (pending (drop to us) (drop to p))
+      found =
+          s .later ∙ sym (ap (λ q. runs (pending (drop pos us) q)) (rest-marks pos (omega arith))) ∙ f .first
+          ∙ ap (λ q. run ∷ runs (pending (drop to us) q)) (rest-marks to (omega (arith, order .0, order .1)))
+
+      -- there is no room for it
+      pub listing-full : j ≡ room → Lists size rs l base x room j true l′ x′
+      listing-full e =
+          record {
+            count-is = sym (ap (λ k. length (take k every)) (sym e) ∙ omega (arith, length-take j every, s .there));
+            more-is = sym (ap nonEmpty (ap (λ k. drop k every) (sym e) ∙ found));
+            bits-are = sym (left-is (ap (λ k. length (join (take k every)) + length (pending (drop pos us) (drop pos p))) (sym e)
+              ∙ ap (λ n. length (join (take j every)) + n) (sym (ap length (ap join (s .later) ∙ runs-join (pending (drop pos us) (drop pos p))))) ∙ all-units j));
+            bytes-are = s .bytes ∙ ap (λ k. put x 16 (records descriptorBytes (map descriptor (take k every)))) e;
+          }
+
+      -- its place
+      pub found-within : (pos ≤ from) × (from < to) × (base + to ≤ length l′)
+      found-within = (order .0, order .1, omega (arith, order .2, now-length, fits))
+
+      listed-length : length (map descriptor (take j every)) ≡ j
+      listed-length = length-map (take j every) descriptor ∙ omega (arith, length-take j every, s .there)
+
+      map-snoc : (xs : List (List Unit)) (y : List Unit) → map descriptor (xs ++ y ∷ []) ≡ map descriptor xs ++ descriptor y ∷ []
+      map-snoc [] y = refl
+      map-snoc (z ∷ xs) y = ap (λ r. descriptor z ∷ r) (map-snoc xs y)
+
+      described : descriptor run ≡ record { address = addressAt size rs row′ begin′ from; length = to - from }
+      described =
+          let e : to - from ≡ suc (to - from - 1) = omega (arith, order .1) in
+          ap (λ n. descriptor (unitsOfRow row′ size (addressAt size rs row′ begin′ from) n)) e
+          ∙ descriptor-row row′ size (addressAt size rs row′ begin′ from) (to - from - 1)
+          ∙ ap (λ n. record { address = addressAt size rs row′ begin′ from; length = n }) (sym e)
+
+      -- it is listed and made clear
+      pub listing-next : (l″ : List Bool) (x″ : List ℕ) (address : ℕ) → j < room → l″ ≡ fill false l′ (base + from) (base + to - (base + from))
+          → address ≡ addressAt size rs row′ begin′ from → x″ ≡ put x′ (16 + 16 * j) (descriptorBytes (record { address = address; length = to - from }))
+          → Listing size rs l base x room l″ x″ (j + 1) row′ begin′ to
+      listing-next l″ x″ address h e a e′ =
+          record {
+            stands = f .stands;
+            few = omega arith;
+            there = omega (arith, parts .0);
+            bits = e ∙ ap (fill false l′ (base + from)) span ∙ cleared;
+            bytes =
+              records-snoc-again descriptorBytes 16 descriptorBytes-length (map descriptor (take j every)) (descriptor run) x x′ x″ 16 (16 + 16 * j)
+              (ap (λ n. 16 + 16 * n) (sym listed-length)) (s .bytes)
+              (e′ ∙ ap (λ d. put x′ (16 + 16 * j) (descriptorBytes d)) (ap (λ b. record { address = b; length = to - from }) a ∙ sym described))
+              ∙ ap (λ r. put x 16 (records descriptorBytes r)) (sym (map-snoc (take j every) run) ∙ ap (map descriptor) (sym (parts .1)))
+              ∙ ap (λ n. put x 16 (records descriptorBytes (map descriptor (take n every)))) (sym (add-one j));
+            later = ap (λ n. drop n every) (add-one j) ∙ parts .2;
+          }
+        where
+          parts : (j < length every) × (take (suc j) every ≡ take j every ++ run ∷ []) × (drop (suc j) every ≡ runs (pending (drop to us) (drop to p)))
+          parts = drop-first j every run (runs (pending (drop to us) (drop to p))) found
+          span : base + to - (base + from) ≡ to - from
+          span = omega (arith, order .1)
+          q : List Bool
+          q = clearBefore pos p
+          clear : (i : ℕ) → pos ≤ i → i < from → getD (clearBefore pos p) i false ≡ false
+          clear i g k = ap (λ b. getD b i false) (sym now-marks) ∙ f .clear i g k
+          cleared : fill false l′ (base + from) (to - from) ≡ putShare l base (clearBefore to p)
+          cleared =
+              fill-share l′ base (length us) (omega (arith, now-length, fits)) false from (to - from) (omega (arith, order .1, order .2))
+              ∙ ap (λ b. putShare l′ base (fill false b from (to - from))) now-marks
+              ∙ ap (putShare l′ base) (clearBefore-fill pos from to p (order .0) (omega (arith, order .1)) (omega (arith, order .2, p-length)) clear)
+              ∙ ap (λ b. putShare b base (clearBefore to p)) (s .bits)
+              ∙ putShare-putShare l base (clearBefore pos p) (clearBefore to p) cleared-fits
+                (clearBefore-length to p (omega (arith, order .2, p-length)) ∙ sym (clearBefore-length pos p inside))
+
+-- a run's first address is one of its range's
+pub found-address : (size : ℕ) (ranges : List Range) (n : ℕ) (q : List Bool) (pos row begin from to : ℕ) → RangesEnd size (take n ranges) → 0 < size
+    → RunFound size (take n ranges) q pos row begin from to
+    → (row < length ranges) × (begin ≤ from) × (addressAt size (take n ranges) row begin from ≡ getD ranges row noRange .start + (from - begin) * size) × (getD ranges row noRange .start + (from - begin) * size < 2 ^ 64)
+found-address size ranges n q pos row begin from to e z f =
+    let low = f .row-in in
+    let short = length-take n ranges in
+    let same : rowOf (take n ranges) row ≡ getD ranges row noRange = getD-take n ranges row noRange (omega arith) in
+    let begins = f .begins in
+    let some = f .some in
+    let ends = f .ends in
+    let m : suc (from - begin) * size ≤ rowOf (take n ranges) row .length * size = mul-le-mul-right size (omega arith) in
+    let end = e row low in
+    let s : rowOf (take n ranges) row .start ≡ getD ranges row noRange .start = ap (λ (r : Range). r .start) same in
+    ( omega arith
+    , begins
+    , ap (λ (r : Range). r .start + (from - begin) * size) same
+    , omega (arith, suc-mul (from - begin) size) )
