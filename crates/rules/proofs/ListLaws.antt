@@ -9,8 +9,8 @@ use native.Mathlib.Omega.{arith}
 use lib.Dec.{eqb}
 use lib.ListN.{length, take, drop, getD, getElem?, set, length-take, drop-of-length-le}
 use lib.Seq.{take-append-seam, drop-append-seam, drop-cons, getD-take}
-use borrow.Author.Tests.{eqb-true}
-use Rattle.rules.specs.Lists.{all, any, pairs, every, sum, join, placeFrom, isSome}
+use borrow.Author.Tests.{eqb-true, eq-eqb}
+use Rattle.rules.specs.Lists.{all, any, pairs, every, sum, member, join, placeFrom, isSome}
 
 -- ---- Bools
 
@@ -49,6 +49,11 @@ false-intro false h = refl
 pub not-intro : (b : Bool) → b ≡ false → not b ≡ true
 not-intro true e = sym e
 not-intro false e = refl
+
+-- two tests that say each other are one
+pub bool-ext : (a b : Bool) → (a ≡ true → b ≡ true) → (b ≡ true → a ≡ true) → a ≡ b
+bool-ext true b f g = sym (f refl)
+bool-ext false b f g = sym (false-intro b (λ e. true≢false (sym (g e))))
 
 -- ---- a fact of every element
 
@@ -117,12 +122,32 @@ map-set f (y ∷ xs) (suc i) x = ap (λ l. f y ∷ l) (map-set f xs i x)
 pub some-inj : {A : Type 0} {x y : A} → some x ≡ some y → x ≡ y
 some-inj e = cc
 
--- ---- all, every
+-- ---- all, every, member
+
+eqb-comm : (x y : ℕ) → eqb x y ≡ eqb y x
+eqb-comm x y = bool-ext (eqb x y) (eqb y x) (λ e. eq-eqb y x (sym (eqb-true x y e))) (λ e. eq-eqb x y (sym (eqb-true y x e)))
 
 pub every-at : (bs : List Bool) (i : ℕ) → every bs ≡ true → getD bs i true ≡ true
 every-at [] i e = refl
 every-at (b ∷ bs) zero e = and-left b (every bs) e
 every-at (b ∷ bs) (suc i) e = every-at bs i (and-right b (every bs) e)
+
+-- where one of several tests fails, not each holds
+pub every-not : (bs : List Bool) (i : ℕ) → getD bs i true ≡ false → every bs ≡ false
+every-not [] i e = absurd (true≢false e)
+every-not (false ∷ bs) i e = refl
+every-not (true ∷ bs) zero e = absurd (true≢false e)
+every-not (true ∷ bs) (suc i) e = every-not bs i e
+
+-- of each element is of the one at a place
+pub all-at : {A : Type 0} (f : A → Bool) (xs : List A) (i : ℕ) (d : A) → all f xs ≡ true → i < length xs → f (getD xs i d) ≡ true
+all-at f [] i d e h = absurd (omega arith)
+all-at f (x ∷ xs) zero d e h = and-left (f x) (all f xs) e
+all-at f (x ∷ xs) (suc i) d e h = all-at f xs i d (and-right (f x) (all f xs) e) (omega arith)
+
+pub all-map : {A B : Type 0} (f : B → Bool) (g : A → B) (xs : List A) → all f (map g xs) ≡ all (λ x. f (g x)) xs
+all-map f g [] = refl
+all-map f g (x ∷ xs) = ap (λ b. f (g x) && b) (all-map f g xs)
 
 pub all-set : {A : Type 0} (f : A → Bool) (xs : List A) (i : ℕ) (x : A) → all f xs ≡ true → f x ≡ true → all f (set xs i x) ≡ true
 all-set f [] i x e h = refl
@@ -141,6 +166,15 @@ all-append f (x ∷ xs) ys e h = and-intro (f x) (all f (xs ++ ys)) (and-left (f
 pub All-all : {A : Type 0} (f : A → Bool) (xs : List A) → All (λ x. f x ≡ true) xs → all f xs ≡ true
 All-all f [] h = refl
 All-all f (x ∷ xs) h = and-intro (f x) (all f xs) (h .0) (All-all f xs (h .1))
+
+-- a number that differs from each of a list is not in it
+pub member-not : (x : ℕ) (ys : List ℕ) → all (λ y. not (eqb x y)) ys ≡ not (member x ys)
+member-not x [] = refl
+member-not x (y ∷ ys) = rw (eqb-comm x y, member-not x ys) (go (eqb y x))
+  where
+    go : (b : Bool) → (not b && not (member x ys)) ≡ not (b || member x ys)
+    go true = refl
+    go false = refl
 
 -- ---- joined lists
 

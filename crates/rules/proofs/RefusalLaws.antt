@@ -1,11 +1,14 @@
 -- Laws of tables: what every refusal has, and what is done where all tests are passed. Assumes nothing.
 use mathlib.Core.Path.{_≡_, refl, sym, ap, _∙_}
 use mathlib.Core.Logic.{_≢_}
-use mathlib.Core.Bool.{Bool, true, false, cond}
+use mathlib.Core.Bool.{Bool, true, false, _&&_, cond}
 use mathlib.Core.List.{List, [], _∷_, _++_}
-use Prim.Native.Nat.{ℕ}
+use Prim.Native.Nat.{ℕ, _≤_}
+use native.Mathlib.Omega.{arith}
+use lib.Dec.{eqb}
+use borrow.Author.Tests.{ne-eqb}
 use Rattle.rules.specs.Refusals.{Test, verdict, refusal, passes}
-use Rattle.rules.proofs.ListLaws.{All, All-all}
+use Rattle.rules.proofs.ListLaws.{All, All-left, All-right, All-all, and-left, and-right}
 
 -- all tests of a table are passed
 abbrev pub Passed : List Test → Type 0
@@ -44,3 +47,41 @@ verdict-same x (t ∷ ts) k l refuse f = go (t .ok) (verdict-same x ts k l refus
 
 pub passes-all : (ts : List Test) → Passed ts → passes ts ≡ true
 passes-all ts h = All-all (λ (t : Test). t .ok) ts h
+
+pub passes-Passed : (ts : List Test) → passes ts ≡ true → Passed ts
+passes-Passed [] e = tt
+passes-Passed (t ∷ ts) e = (and-left (t .ok) (passes ts) e, passes-Passed ts (and-right (t .ok) (passes ts) e))
+
+pub passes-append : (ts us : List Test) → passes (ts ++ us) ≡ (passes ts && passes us)
+passes-append [] us = refl
+passes-append (t ∷ ts) us = go (t .ok) (passes-append ts us)
+  where
+    go : (b : Bool) → passes (ts ++ us) ≡ (passes ts && passes us) → (b && passes (ts ++ us)) ≡ ((b && passes ts) && passes us)
+    go true e = e
+    go false e = refl
+
+pub Passed-left : (ts us : List Test) → Passed (ts ++ us) → Passed ts
+Passed-left ts us h = All-left (λ (t : Test). t .ok ≡ true) ts us h
+
+pub Passed-right : (ts us : List Test) → Passed (ts ++ us) → Passed us
+Passed-right ts us h = All-right (λ (t : Test). t .ok ≡ true) ts us h
+
+-- ---- refusal
+
+-- tests that all have one number, before others: that number is answered, or all of them are passed
+pub refusal-alike : (k : ℕ) (ts us : List Test) → All (λ (t : Test). t .number ≡ k) ts → refusal (ts ++ us) ≡ cond (passes ts) (refusal us) k
+refusal-alike k [] us h = refl
+refusal-alike k (t ∷ ts) us h = go (t .ok) (refusal-alike k ts us (h .1))
+  where
+    go : (b : Bool) → refusal (ts ++ us) ≡ cond (passes ts) (refusal us) k → cond b (refusal (ts ++ us)) (t .number) ≡ cond (b && passes ts) (refusal us) k
+    go true e = e
+    go false e = h .0
+
+-- where no test has the number 0, that answer says that all are passed
+pub refusal-none : (ts : List Test) → All (λ (t : Test). 1 ≤ t .number) ts → eqb (refusal ts) 0 ≡ passes ts
+refusal-none [] h = refl
+refusal-none (t ∷ ts) h = go (t .ok) (refusal-none ts (h .1))
+  where
+    go : (b : Bool) → eqb (refusal ts) 0 ≡ passes ts → eqb (cond b (refusal ts) (t .number)) 0 ≡ (b && passes ts)
+    go true e = e
+    go false e = ne-eqb (t .number) 0 (λ z. absurd (omega (arith, h .0)))

@@ -1,3 +1,5 @@
 pub mod NoteLaws
 pub mod ScanSteps
 pub mod ListSteps
+pub mod FreshLaws
+pub mod Answers

@@ -148,9 +148,10 @@ writeNote d ws id w = writeAt d ws w (placeOf (d .settings) id)
 
 -- ---- receive
 
--- what a receive answers, and the marks and the buffer that it leaves
+-- what a receive answers, the report that its answer and its buffer are made of, and the marks and the buffer that it leaves
 pub record Receipt : Type 0 where
   pub answer : Received
+  pub report : Report
   pub marks : List ℕ
   pub buffer : List ℕ
 
@@ -165,6 +166,7 @@ received n r ws x =
           granularity = r .granularity;
           runs = length (r .descriptors);
         };
+      report = r;
       marks = ws;
       buffer = x;
     }

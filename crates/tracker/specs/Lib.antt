@@ -1,3 +1,4 @@
 pub mod Calls
 pub mod Note
 pub mod Scan
+pub mod Inner

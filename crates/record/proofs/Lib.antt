@@ -1,0 +1,4 @@
+pub mod LoopLaws
+pub mod SettingsLaws
+pub mod RangeLaws
+pub mod RecordLaws

@@ -1,0 +1,43 @@
+-- `record::controller_ok` is right because it asks nothing of a controller that is off, and 7 and then the list's rules of one that is on.
+use mathlib.Core.Path.{_≡_, sym, _∙_}
+use native.Mathlib.Omega.{arith}
+use borrow.Author.Needs.{needs}
+use borrow.Author.Tests.{not-true, not-false}
+use Rattle.record.proofs.SettingsLaws.{granularityOk-greatest}
+use Rattle.record.proofs.RangeLaws.{listTests-none}
+use Rattle.record.proofs.RecordLaws.{heldOk-off, heldOk-seven, heldOk-on}
+use Rattle.record.proofs.controller_ok.Statement.{statement}
+use Rattle.record.proofs.controller_ok.Tie as tie
+
+enum-known-t : tie.Need-enum-known-t
+enum-known-t c = search needs
+
+enum-told : tie.Need-enum-told
+enum-told c = search needs
+
+returns : tie.Need-returns
+returns c = sym (heldOk-off _ _ _ (c .enum-told .given .1))
+
+granularity-ok-requires : tie.Need-granularity-ok-requires
+granularity-ok-requires c κs = search needs
+
+returns-2 : tie.Need-returns-2
+returns-2 c =
+    let t = c .before .before .before .t .given in
+    sym (heldOk-seven _ _ _ _ _ (t .1) (sym (c .before .granularity-ok .ensures) ∙ not-true _ (c .if1 .taken)))
+
+list-refusal-requires : tie.Need-list-refusal-requires
+list-refusal-requires c κs =
+    omega (arith, granularityOk-greatest _ _ (sym (c .before .before .granularity-ok .ensures) ∙ not-false _ (c .before .if1 .left)))
+
+returns-3 : tie.Need-returns-3
+returns-3 c =
+    let p = c .before .before .before in
+    let t = p .before .before .t .given in
+    listTests-none _ _ _ _ _ (c .list-refusal .ensures)
+    ∙ sym (heldOk-on _ _ _ _ _ (t .1) (sym (p .granularity-ok .ensures) ∙ not-false _ (c .before .before .if1 .left)))
+
+pub controller-ok-spec : {M : Type 1} → statement M
+controller-ok-spec =
+    tie.close
+    (tie.spec enum-known-t enum-told returns granularity-ok-requires returns-2 list-refusal-requires returns-3)
