@@ -3,3 +3,4 @@ pub mod ScanSteps
 pub mod ListSteps
 pub mod FreshLaws
 pub mod Answers
+pub mod CallLaws

@@ -17,12 +17,13 @@ use rules::Range;
 use rules::Settings;
 use rules::Tracking;
 ghost use mathlib.Core.Path.{_≡_};
-ghost use Prim.Native.Nat.{_≤_};
+ghost use Prim.Native.Nat.{_≤_, _<_};
 ghost use mathlib.Core.List.{[]};
-ghost use lib.ListN.{replicate};
+ghost use lib.ListN.{length, replicate};
 ghost use Rattle.rules.specs.StartData.{placed};
 ghost use Rattle.rules.specs.Device.{freshController, cleaned, closedDevice};
-ghost use Rattle.tracker.specs.Calls.{freshChange};
+ghost use Rattle.tracker.specs.Calls.{shareAt, withClear, freshChange, stopChange, suspendChange, resumeChange};
+ghost use Rattle.tracker.specs.Inner.{placeNumber};
 
 // The answer of a call that may change the record: its number, and the record as it is afterwards.
 pub struct Changed {
@@ -120,4 +121,117 @@ pub fn fresh(s: Settings, marks: &mut [u64]) -> Changed
     bits::clear_span(marks, 0, 32768);
     let device = untracked(clean(s));
     Changed { number: 0, device }
+}
+
+// ---- calls on a device
+
+// The number of a refused place.
+fn number_of(p: Place) -> u8
+    ensures { λ r. ⌜ r ≡ placeNumber p ⌝ }
+{
+    match p {
+        Place::At(_) => 0,
+        Place::Refused(n) => n,
+    }
+}
+
+// Makes the share of the controller at place i clear.
+fn clear_share(marks: &mut [u64], i: usize)
+    requires { ⌜ (i < 8) × (length (now marks) ≡ 512) ⌝ }
+    ensures { λ _. ⌜ now (marks .exit) ≡ withClear (now (marks .entry)) (shareAt i) ⌝ }
+{
+    let base = 4096 * i;
+    bits::clear_span(marks, base, base + 4096);
+}
+
+// Stops tracking a controller: its ranges are forgotten and its share of the marks is clear. Refused, in this order: 1, 2, 4 suspended, 5 not tracked.
+pub fn stop(d: Device, marks: &mut [u64], id: u16) -> Changed
+    ensures { λ r. ⌜ (r ≡ stopChange d (now (marks .entry)) id .answer) × (now (marks .exit) ≡ stopChange d (now (marks .entry)) id .marks) ⌝ }
+{
+    let place = record::locate(d, marks.len(), id);
+    let Place::At(i) = place else {
+        let number = number_of(place);
+        return Changed { number, device: d };
+    };
+    let c = d.controllers[i];
+    if c.suspended {
+        return Changed {
+            number: 4,
+            device: d,
+        };
+    }
+    let t = c.tracking;
+    let Tracking::On(_, _) = t else {
+        return Changed {
+            number: 5,
+            device: d,
+        };
+    };
+    clear_share(marks, i);
+    let off = Tracking::Off;
+    let none = no_ranges();
+    let mut e = d;
+    e.controllers[i] = Controller {
+        tracking: off,
+        suspended: false,
+        ranges: none,
+    };
+    Changed {
+        number: 0,
+        device: e,
+    }
+}
+
+// Suspends a controller: type 1 suspends, also where it is suspended already; type 0 is a notice and changes nothing. Pending units stay. Refused, in
+// this order: 1, 2, 15 another type.
+pub fn suspend(d: Device, marks: &[u64], id: u16, kind: u8) -> Changed
+    ensures { λ r. ⌜ r ≡ suspendChange d (length (now (marks .entry))) id kind ⌝ }
+{
+    let place = record::locate(d, marks.len(), id);
+    let Place::At(i) = place else {
+        let number = number_of(place);
+        return Changed { number, device: d };
+    };
+    if kind > 1 {
+        return Changed {
+            number: 15,
+            device: d,
+        };
+    }
+    if kind == 0 {
+        return Changed {
+            number: 0,
+            device: d,
+        };
+    }
+    let mut e = d;
+    e.controllers[i].suspended = true;
+    Changed {
+        number: 0,
+        device: e,
+    }
+}
+
+// Resumes a controller. Pending units stay. Refused, in this order: 1, 2, 13 not suspended.
+pub fn resume(d: Device, marks: &[u64], id: u16) -> Changed
+    ensures { λ r. ⌜ r ≡ resumeChange d (length (now (marks .entry))) id ⌝ }
+{
+    let place = record::locate(d, marks.len(), id);
+    let Place::At(i) = place else {
+        let number = number_of(place);
+        return Changed { number, device: d };
+    };
+    let c = d.controllers[i];
+    if !c.suspended {
+        return Changed {
+            number: 13,
+            device: d,
+        };
+    }
+    let mut e = d;
+    e.controllers[i].suspended = false;
+    Changed {
+        number: 0,
+        device: e,
+    }
 }
