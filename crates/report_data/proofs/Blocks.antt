@@ -1,16 +1,16 @@
 -- Laws of the report's blocks of bytes, for the caller that writes one descriptor after another and the header last: sizes, a descriptor more, the
 -- whole, and that no byte after it changes. A law that ends in `-again` or `-done` is the one before it as `search` wants it. Assumes nothing.
-use mathlib.Core.Path.{_≡_, refl, _∙_}
-use mathlib.Core.Bool.{Bool, true, false}
+use mathlib.Core.Path.{_≡_}
+use mathlib.Core.Bool.{Bool}
 use mathlib.Core.List.{List, [], _∷_, _++_}
-use Prim.Native.Nat.{ℕ, _+_, _*_, _≤_}
+use Prim.Native.Nat.{ℕ, _+_, _*_}
 use native.Mathlib.Omega.{arith}
 use lib.ListN.{length, drop, length-append}
 use Rattle.little.specs.Little.{put, records}
 use Rattle.little.proofs.Put.{put-nil, put-front, put-drop-after}
 use Rattle.little.proofs.Numbers.{numberBytes-length}
 use Rattle.little.proofs.Records.{records-nil, records-length, records-snoc, records-snoc-again}
-use Rattle.rules.specs.Report.{Descriptor, Report, flag, reportHeader, descriptorBytes, reportBytes}
+use Rattle.rules.specs.Report.{Descriptor, Report, reportHeader, descriptorBytes, reportBytes}
 
 -- ---- sizes
 
@@ -19,11 +19,6 @@ descriptorBytes-length d = simp (length-append, numberBytes-length)
 
 pub reportHeader-length : (id : ℕ) (suspended more : Bool) (count g : ℕ) → length (reportHeader id suspended more count g) ≡ 16
 reportHeader-length id suspended more count g = simp (length-append, numberBytes-length)
-
-pub reportBytes-length : (id : ℕ) (r : Report) → length (reportBytes id r) ≡ 16 + 16 * length (r .descriptors)
-unfolding reportBytes
-reportBytes-length id r =
-    rw (length-append, reportHeader-length id (r .suspended) (r .more) (length (r .descriptors)) (r .granularity), records-length descriptorBytes 16 descriptorBytes-length (r .descriptors))
 
 -- ---- one descriptor after another, from index 16 on
 
@@ -40,18 +35,28 @@ descriptors-again ds d l₀ l l′ at = records-snoc-again descriptorBytes 16 de
 
 -- ---- the header, written last
 
-module _ (id : ℕ) (r : Report) (l : List ℕ) where
-  pub report-front : put (put l 16 (records descriptorBytes (r .descriptors))) 0 (reportHeader id (r .suspended) (r .more) (length (r .descriptors)) (r .granularity))
+module _ (id : ℕ) (r : Report) where
+  -- a report's own header
+  abbrev header : List ℕ
+  header = reportHeader id (r .suspended) (r .more) (length (r .descriptors)) (r .granularity)
+
+  header-length : length header ≡ 16
+  header-length = reportHeader-length id (r .suspended) (r .more) (length (r .descriptors)) (r .granularity)
+
+  pub report-front : (l : List ℕ)
+      → put (put l 16 (records descriptorBytes (r .descriptors))) 0 (reportHeader id (r .suspended) (r .more) (length (r .descriptors)) (r .granularity))
       ≡ put l 0 (reportBytes id r)
   unfolding reportBytes
-  report-front =
-      put-front l 16 (reportHeader id (r .suspended) (r .more) (length (r .descriptors)) (r .granularity)) (records descriptorBytes (r .descriptors))
-      (reportHeader-length id (r .suspended) (r .more) (length (r .descriptors)) (r .granularity))
+  report-front l = put-front l 16 header (records descriptorBytes (r .descriptors)) header-length
 
-  pub report-done : (l′ l″ : List ℕ) (count : ℕ) → count ≡ length (r .descriptors) → l′ ≡ put l 16 (records descriptorBytes (r .descriptors))
-      → l″ ≡ put l′ 0 (reportHeader id (r .suspended) (r .more) count (r .granularity)) → l″ ≡ put l 0 (reportBytes id r)
-  report-done l′ l″ count n e f = rw (f, e, n) report-front
+  pub report-done : (l₀ l l′ : List ℕ) (count : ℕ) → count ≡ length (r .descriptors) → l ≡ put l₀ 16 (records descriptorBytes (r .descriptors))
+      → l′ ≡ put l 0 (reportHeader id (r .suspended) (r .more) count (r .granularity)) → l′ ≡ put l₀ 0 (reportBytes id r)
+  report-done l₀ l l′ count n e f = rw (f, e, n) (report-front l₀)
+
+  pub reportBytes-length : length (reportBytes id r) ≡ 16 + 16 * length (r .descriptors)
+  unfolding reportBytes
+  reportBytes-length = rw (length-append, header-length, records-length descriptorBytes 16 descriptorBytes-length (r .descriptors))
 
   -- bytes after the last descriptor are unchanged
-  pub report-rest : drop (16 + 16 * length (r .descriptors)) (put l 0 (reportBytes id r)) ≡ drop (16 + 16 * length (r .descriptors)) l
-  report-rest = put-drop-after l 0 (reportBytes id r) (16 + 16 * length (r .descriptors)) (omega (arith, reportBytes-length id r))
+  pub report-rest : (l : List ℕ) → drop (16 + 16 * length (r .descriptors)) (put l 0 (reportBytes id r)) ≡ drop (16 + 16 * length (r .descriptors)) l
+  report-rest l = put-drop-after l 0 (reportBytes id r) (16 + 16 * length (r .descriptors)) (omega (arith, reportBytes-length))

@@ -5,8 +5,8 @@ use denote.Ref.{now}
 use Rattle.report_data.proofs.put_header.Reads as put-header
 use Rattle.report_data.proofs.put_descriptor.Reads as put-descriptor
 
-pub put-header-one : (κs : _) (a : _) (r r′ : _) (e e′ : _) → put-header.Post κs a r e → put-header.Post κs a r′ e′ → now (e .0) ≡ now (e′ .0)
-put-header-one κs a r r′ e e′ p q = p ∙ sym q
+pub put-header-determinate : (κs : _) (a : _) (r r′ : _) (e e′ : _) → put-header.Post κs a r e → put-header.Post κs a r′ e′ → now (e .0) ≡ now (e′ .0)
+put-header-determinate κs a r r′ e e′ p q = p ∙ sym q
 
-pub put-descriptor-one : (κs : _) (a : _) (r r′ : _) (e e′ : _) → put-descriptor.Post κs a r e → put-descriptor.Post κs a r′ e′ → now (e .0) ≡ now (e′ .0)
-put-descriptor-one κs a r r′ e e′ p q = p ∙ sym q
+pub put-descriptor-determinate : (κs : _) (a : _) (r r′ : _) (e e′ : _) → put-descriptor.Post κs a r e → put-descriptor.Post κs a r′ e′ → now (e .0) ≡ now (e′ .0)
+put-descriptor-determinate κs a r r′ e e′ p q = p ∙ sym q

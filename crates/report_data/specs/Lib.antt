@@ -1,0 +1,1 @@
+-- No definition of its own: the report's bytes are said by rules' Report.antt.

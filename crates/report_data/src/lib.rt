@@ -1,21 +1,21 @@
 // The report (NVMe: Tracked Memory Changed data structure): its header and its descriptors, stored into a lent buffer.
-// The room is the caller's to keep. Each function leaves every byte outside its 16 as it was, so a loop that finds runs writes one descriptor
-// after another from index 16 on, and the header last, when the count and More To Report are known.
+// A loop that finds runs writes one descriptor after another from index 16 on, and the header last, when their number and More To Report are known.
 ghost use mathlib.Core.Path.{_≡_};
 ghost use Prim.Native.Nat.{_+_, _≤_};
 ghost use lib.ListN.{length};
 ghost use Rattle.little.specs.Little.{put};
-ghost use Rattle.rules.specs.Report.{reportHeader, descriptorBytes};
+ghost use Rattle.rules.specs.Report.{flag, reportHeader, descriptorBytes};
 
-// `n` where `on`, else 0.
-fn flag(on: bool, n: u8) -> u8
-    ensures { λ r. ⌜ (r ≡ Rattle.rules.specs.Report.flag on n) × (r ≤ n) ⌝ }
+// An attribute's bit where it is set, else 0.
+fn attribute(set: bool, bit: u8) -> u8
+    ensures { λ r. ⌜ (r ≡ flag set bit) × (r ≤ bit) ⌝ }
 {
-    if on { n } else { 0 }
+    if set { bit } else { 0 }
 }
 
 // Stores the report's header in the first 16 bytes: version 0, the attributes suspended and More To Report, the identifier, the number of
-// descriptors, the granularity with which the controller was started, and zeros.
+// descriptors, the granularity with which the controller was started, and zeros. Every other byte stays as it was.
+// Nothing is refused: that the 16 bytes are there is the caller's to keep.
 pub fn put_header(
     buffer: &mut [u8],
     id: u16,
@@ -27,7 +27,7 @@ pub fn put_header(
     requires { ⌜ 16 ≤ length (now buffer) ⌝ }
     ensures { λ _. ⌜ now (buffer .exit) ≡ put (now (buffer .entry)) 0 (reportHeader id suspended more count granularity) ⌝ }
 {
-    let attributes = flag(suspended, 2) + flag(more, 1);
+    let attributes = attribute(suspended, 2) + attribute(more, 1);
     little::put_u8(buffer, 0, 0);
     little::put_u8(buffer, 1, attributes);
     little::put_u16(buffer, 2, id);
@@ -36,7 +36,8 @@ pub fn put_header(
     little::put_number(buffer, 10, 6, 0);
 }
 
-// Stores a descriptor in the 16 bytes from index `at` on: a run's first address, its length in units, and zeros.
+// Stores a descriptor in the 16 bytes from index `at` on: a run's first address, its length in units, and zeros. Every other byte stays as it was.
+// Nothing is refused: that the 16 bytes are there is the caller's to keep.
 pub fn put_descriptor(buffer: &mut [u8], at: usize, address: u64, units: u32)
     requires { ⌜ at + 16 ≤ length (now buffer) ⌝ }
     ensures { λ _. ⌜ now (buffer .exit) ≡ put (now (buffer .entry)) at (descriptorBytes (record { address = address; length = units })) ⌝ }

@@ -29,6 +29,16 @@ pub verdict-append : {A : Type 0} (ts us : List Test) (done : A) (refuse : ℕ �
 verdict-append [] us done refuse = refl
 verdict-append (t ∷ ts) us done refuse = ap (λ x. cond (t .ok) x (refuse (t .number) (t .place))) (verdict-append ts us done refuse)
 
+-- what is made of the answer is made of each
+pub verdict-map : {A B : Type 0} (f : A → B) (ts : List Test) (done : A) (refuse : ℕ → ℕ → A) → f (verdict ts done refuse) ≡ verdict ts (f done) (λ n i. f (refuse n i))
+verdict-map f [] done refuse = refl
+verdict-map f (t ∷ ts) done refuse = go (t .ok) (verdict-map f ts done refuse)
+  where
+    go : (b : Bool) → f (verdict ts done refuse) ≡ verdict ts (f done) (λ n i. f (refuse n i))
+        → f (cond b (verdict ts done refuse) (refuse (t .number) (t .place))) ≡ cond b (verdict ts (f done) (λ n i. f (refuse n i))) (f (refuse (t .number) (t .place)))
+    go true ih = ih
+    go false ih = refl
+
 -- where all tests are passed, it is done
 pub verdict-passed : {A : Type 0} (ts : List Test) (done : A) (refuse : ℕ → ℕ → A) → Passed ts → verdict ts done refuse ≡ done
 verdict-passed [] done refuse h = refl

@@ -33,6 +33,27 @@ pub runs-join : (us : List Unit) → join (runs us) ≡ us
 runs-join [] = refl
 runs-join (u ∷ us) = withFirst-join u (runs us) ∙ ap (λ l. u ∷ l) (runs-join us)
 
+-- ---- there are no more runs than pending units, and no more of these than units
+
+withFirst-length : (u : Unit) (rs : List (List Unit)) → length (withFirst u rs) ≤ suc (length rs)
+withFirst-length u [] = omega arith
+withFirst-length u ([] ∷ rs) = omega arith
+withFirst-length u ((v ∷ vs) ∷ rs) = go (follows u v)
+  where
+    go : (b : Bool) → length (cond b ((u ∷ v ∷ vs) ∷ rs) ((u ∷ []) ∷ (v ∷ vs) ∷ rs)) ≤ suc (suc (length rs))
+    go true = omega arith
+    go false = omega arith
+
+pub runs-length-le : (us : List Unit) → length (runs us) ≤ length us
+runs-length-le [] = omega arith
+runs-length-le (u ∷ us) = omega (arith, withFirst-length u (runs us), runs-length-le us)
+
+pub pending-length-le : (us : List Unit) (p : List Bool) → length (pending us p) ≤ length us
+pending-length-le [] p = omega arith
+pending-length-le (u ∷ us) [] = omega arith
+pending-length-le (u ∷ us) (true ∷ p) = omega (arith, pending-length-le us p)
+pending-length-le (u ∷ us) (false ∷ p) = omega (arith, pending-length-le us p)
+
 -- ---- a run is a chain of one size and is not empty
 
 abbrev pub Run : ℕ → List Unit → Type 0

@@ -6,13 +6,14 @@ use mathlib.Core.Option.{Option, none, some}
 use Prim.Native.Nat.{ℕ, _+_, _*_, _^_, _≤_, _<_}
 use native.Mathlib.Omega.{arith}
 use lib.Dec.{leb, eqb}
-use lib.ListN.{length, getD, set, drop}
+use lib.ListN.{length, getD, set, take, drop}
 use lib.Seq.{set-getD}
 use borrow.Author.Tests.{le-leb, lt-leb, eq-eqb, ne-eqb}
 use Rattle.bits.specs.Flat.{flat, Words}
 use Rattle.bits.specs.Span.{fill}
 use Rattle.bits.proofs.Pack.{pack-only}
 use Rattle.rules.specs.Settings.{placeOf}
+use Rattle.rules.specs.Units.{units}
 use Rattle.rules.specs.Order.{stopOrder, suspendOrder, resumeOrder}
 use Rattle.rules.specs.declared.Controller.{Controller}
 use Rattle.rules.specs.declared.Device.{Device}
@@ -21,7 +22,8 @@ use Rattle.rules.specs.declared.Tracking.the-variants.{Off, On}
 use Rattle.record.specs.Record.{noController, controllerAt, withController, whereIs, seenIn}
 use Rattle.record.specs.declared.Place.{Place}
 use Rattle.record.specs.declared.Place.the-variants.{At, Refused}
-use Rattle.record.proofs.RecordLaws.{Located, whereIs-at, whereIs-refused}
+use Rattle.record.proofs.RecordLaws.{Located, whereIs-at, whereIs-refused, soundDevice-held}
+use Rattle.record.proofs.RangeLaws.{HeldFacts}
 use Rattle.tracker.specs.Inner.{placeNumber}
 use Rattle.tracker.specs.Calls.{Change, changed, withClear, shareAt, stopped, stopDone, stopChange, flagged, flagDone, suspendChange, resumeChange}
 use Rattle.tracker.specs.declared.Changed.{Changed}
@@ -40,6 +42,17 @@ cleared ws ws′ base n h e = pack-only (length ws) ws′ (fill false (flat ws) 
 -- a record with a controller put back as it was
 controller-same : (d : Device) (i : ℕ) → withController d i (getD (d .controllers) i noController) ≡ d
 controller-same d i = ap (λ l. record { settings = d .settings; controllers = l }) (set-getD (d .controllers) i noController)
+
+-- ---- a tracked controller of a sound record
+
+module _ (d : Device) (words id i : ℕ) (e : whereIs d words id ≡ At i) (there : i < length (d .controllers)) (g n : ℕ) (t : getD (d .controllers) i noController .tracking ≡ On g n) where
+  -- what it holds
+  pub held-at : HeldFacts (d .settings) g n (take n (getD (d .controllers) i noController .ranges))
+  held-at = let l = whereIs-at d words id i e in soundDevice-held d i g n (l .sound) (l .used) there t
+
+  -- its marks lie within the words
+  pub share-within : shareAt i + length (units g (take n (getD (d .controllers) i noController .ranges))) ≤ 32768
+  share-within = omega (arith, held-at .total, whereIs-at d words id i e .below)
 
 module _ (d : Device) (id : ℕ) where
   -- ---- stop

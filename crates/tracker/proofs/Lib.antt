@@ -4,3 +4,5 @@ pub mod ListSteps
 pub mod FreshLaws
 pub mod Answers
 pub mod CallLaws
+pub mod WriteLaws
+pub mod ReceiveLaws

@@ -4,7 +4,7 @@
 // Each contract is an equation with a function of specs/Calls.antt: it says every returned value, every field of the record, every word of the marks
 // and every byte of the buffer afterwards.
 
-mod note;
+mod marking;
 mod scan;
 
 use record::Found;
@@ -17,12 +17,14 @@ use rules::Range;
 use rules::Settings;
 use rules::Tracking;
 ghost use mathlib.Core.Path.{_≡_};
+ghost use mathlib.Core.Bool.{true, false};
 ghost use Prim.Native.Nat.{_≤_, _<_};
 ghost use mathlib.Core.List.{[]};
 ghost use lib.ListN.{length, replicate};
 ghost use Rattle.rules.specs.StartData.{placed};
 ghost use Rattle.rules.specs.Device.{freshController, cleaned, closedDevice};
-ghost use Rattle.tracker.specs.Calls.{shareAt, withClear, freshChange, stopChange, suspendChange, resumeChange};
+ghost use Rattle.tracker.specs.Calls.{shareAt, withClear, freshChange, stopChange, suspendChange, resumeChange, writeNote, receiveReceipt};
+ghost use Rattle.record.specs.Record.{soundWith};
 ghost use Rattle.tracker.specs.Inner.{placeNumber};
 
 // The answer of a call that may change the record: its number, and the record as it is afterwards.
@@ -233,5 +235,123 @@ pub fn resume(d: Device, marks: &[u64], id: u16) -> Changed
     Changed {
         number: 0,
         device: e,
+    }
+}
+
+// ---- write
+
+// Notes a write on a record that is known to be sound: the touched units of the controller's tracked ranges become pending. Refused, in this order: 2,
+// 4 suspended, 14 a written range that ends past 2^64.
+pub fn note(d: Device, marks: &mut [u64], id: u16, at: u64, bytes: Bytes) -> Written
+    requires { ⌜ soundWith d (length (now marks)) ≡ true ⌝ }
+    ensures { λ r. ⌜ (r ≡ writeNote d (now (marks .entry)) id (record { address = at; bytes = bytes .0 }) .answer)
+        × (now (marks .exit) ≡ writeNote d (now (marks .entry)) id (record { address = at; bytes = bytes .0 }) .marks) ⌝ }
+{
+    let Found::At(i) = record::find(d.settings, id) else {
+        return Written {
+            number: 2,
+            count: 0,
+        };
+    };
+    let c = d.controllers[i];
+    if c.suspended {
+        return Written {
+            number: 4,
+            count: 0,
+        };
+    }
+    let length = bytes.0;
+    if length == 0 {
+        return Written {
+            number: 0,
+            count: 0,
+        };
+    }
+    if u64::MAX - at < length - 1 {
+        return Written {
+            number: 14,
+            count: 0,
+        };
+    }
+    let t = c.tracking;
+    let Tracking::On(g, n) = t else {
+        return Written {
+            number: 0,
+            count: 0,
+        };
+    };
+    let ranges = c.ranges;
+    let size = record::unit_size(g);
+    let count = marking::mark_ranges(marks, 4096 * i, size, n as usize, ranges, at, at + (length - 1));
+    Written { number: 0, count }
+}
+
+// Notes that controller `id` wrote `bytes` bytes at address `at`: the touched units of its tracked ranges become pending. Answers how many were not
+// pending before, 0 for a controller that is not tracked. Refused, in this order: 1, 2, 4 suspended, 14 a written range that ends past 2^64.
+pub fn write(d: Device, marks: &mut [u64], id: u16, at: u64, bytes: Bytes) -> Written
+    ensures { λ r. ⌜ (r ≡ writeNote d (now (marks .entry)) id (record { address = at; bytes = bytes .0 }) .answer)
+        × (now (marks .exit) ≡ writeNote d (now (marks .entry)) id (record { address = at; bytes = bytes .0 }) .marks) ⌝ }
+{
+    if marks.len() != 512 {
+        return Written {
+            number: 1,
+            count: 0,
+        };
+    }
+    if !record::sound(d) {
+        return Written {
+            number: 1,
+            count: 0,
+        };
+    }
+    note(d, marks, id, at, bytes)
+}
+
+// ---- receive
+
+// Reports the controller's first pending runs into the buffer, as many as it holds, and makes them clear; later ones stay. More To Report is set exactly
+// if a run stays. Bytes after the last descriptor are unchanged. Refused, in this order: 1, 2, 5 not tracked, 8 a buffer below 32 bytes.
+pub fn receive(d: Device, marks: &mut [u64], id: u16, buffer: &mut [u8]) -> Received
+    ensures { λ r. ⌜ (r ≡ receiveReceipt d (now (marks .entry)) id (now (buffer .entry)) .answer)
+        × (now (marks .exit) ≡ receiveReceipt d (now (marks .entry)) id (now (buffer .entry)) .marks)
+        × (now (buffer .exit) ≡ receiveReceipt d (now (marks .entry)) id (now (buffer .entry)) .buffer) ⌝ }
+{
+    let place = record::locate(d, marks.len(), id);
+    let Place::At(i) = place else {
+        return nothing(number_of(place));
+    };
+    let c = d.controllers[i];
+    let t = c.tracking;
+    let Tracking::On(g, n) = t else {
+        return nothing(5);
+    };
+    let size = buffer.len();
+    if size < 32 {
+        return nothing(8);
+    }
+    let ranges = c.ranges;
+    let unit = record::unit_size(g);
+    let listed = scan::list_runs(marks, 4096 * i, n as usize, ranges, unit, buffer, (size - 16) / 16);
+    let suspended = c.suspended;
+    report_data::put_header(buffer, id, suspended, listed.more, listed.runs as u32, g);
+    Received {
+        number: 0,
+        suspended,
+        more: listed.more,
+        granularity: g,
+        runs: listed.runs,
+    }
+}
+
+// A refused receive: its number and zeros.
+fn nothing(number: u8) -> Received
+    ensures { λ r. ⌜ r ≡ record { number = number; suspended = false; more = false; granularity = 0; runs = 0 } ⌝ }
+{
+    Received {
+        number,
+        suspended: false,
+        more: false,
+        granularity: 0,
+        runs: 0,
     }
 }

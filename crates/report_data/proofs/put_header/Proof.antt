@@ -4,11 +4,11 @@ use Rattle.little.proofs.Numbers.{put-number}
 use Rattle.report_data.proofs.put_header.Statement.{statement}
 use Rattle.report_data.proofs.put_header.Tie as tie
 
-flag-requires : tie.Need-flag-requires
-flag-requires c κs = search needs
+attribute-requires : tie.Need-attribute-requires
+attribute-requires c κs = search needs
 
-flag-requires-2 : tie.Need-flag-requires-2
-flag-requires-2 c κs = search needs
+attribute-requires-2 : tie.Need-attribute-requires-2
+attribute-requires-2 c κs = search needs
 
 add-attributes : tie.Need-add-attributes
 add-attributes c = search needs
@@ -41,8 +41,8 @@ pub put-header-spec : {M : Type 1} → statement M
 put-header-spec =
     tie.close
     (tie.spec
-    flag-requires
-    flag-requires-2
+    attribute-requires
+    attribute-requires-2
     add-attributes
     put-u8-requires
     put-u8-requires-2

@@ -1,0 +1,3 @@
+pub mod Answers
+mod Cases
+pub mod Promise
