@@ -107,6 +107,7 @@ further-unfollowed u row size a n e h =
     and-false-right : (b : Bool) → (b && false) ≡ false
     and-false-right true = refl
     and-false-right false = refl
+
     eq-not : (y : Unit) → (a ≤ y .address) × (y .address + y .size ≤ a + length (unitsOfRow row size a n) * size) × (y .size ≡ size) → follows u y ≡ false
     eq-not y w = rw (ne-eqb (u .address + u .size) (y .address) (λ q. omega (arith, w .0))) (and-false-right (eqb (u .row) (y .row)))
 
@@ -169,10 +170,13 @@ module _ (us : List Unit) (row size : ℕ) (rs : List Range) where
     where
       last : Unit
       last = record { row = row; address = a + m * size; size = size }
+
       rest : List Unit
       rest = pending (drop (pos + suc m) us) (drop (pos + suc m) p)
+
       there : Left us (pos + suc m) row size (a + suc m * size) (k - suc m) rs
       there = left-on pos a k (suc m) h e
+
       after : (n : ℕ) → k - suc m ≡ n → Unfollowed last rest
       after zero q =
           All-pending (λ y. follows last y ≡ false) (drop (pos + suc m) us) (drop (pos + suc m) p)
@@ -181,13 +185,13 @@ module _ (us : List Unit) (row size : ℕ) (rs : List Range) where
           let one : 1 ≤ k - suc m = omega arith in
           let beyond : Left us (pos + suc m + 1) row size (a + suc m * size + 1 * size) (k - suc m - 1) rs = left-on (pos + suc m) (a + suc m * size) (k - suc m) 1 one there in
           let passed : rest ≡ pending (drop (pos + suc m + 1) us) (drop (pos + suc m + 1) p) =
-                pending-skip us p (pos + suc m) 1 (λ i l g. let x : i ≡ pos + suc m = omega arith in rw x (clear (omega arith))) in
+          pending-skip us p (pos + suc m) 1 (λ i l g. let x : i ≡ pos + suc m = omega arith in rw x (clear (omega arith))) in
           rw passed
           (All-pending (λ y. follows last y ≡ false) (drop (pos + suc m + 1) us) (drop (pos + suc m + 1) p)
-            (subst (Unfollowed last) (sym beyond)
-              (All-append (λ y. follows last y ≡ false) (unitsOfRow row size (a + suc m * size + 1 * size) (k - suc m - 1)) (unitsFrom size (suc row) rs)
-                (further-unfollowed last row size (a + suc m * size + 1 * size) (k - suc m - 1) refl (omega (arith, suc-mul m size)))
-                (rows-unfollowed last size (suc row) rs (omega arith)))))
+          (subst (Unfollowed last) (sym beyond)
+          (All-append (λ y. follows last y ≡ false) (unitsOfRow row size (a + suc m * size + 1 * size) (k - suc m - 1)) (unitsFrom size (suc row) rs)
+          (further-unfollowed last row size (a + suc m * size + 1 * size) (k - suc m - 1) refl (omega (arith, suc-mul m size)))
+          (rows-unfollowed last size (suc row) rs (omega arith)))))
 
 -- a row is over: the next one begins
 pub left-next : (us : List Unit) (pos row size a : ℕ) (r : Range) (rs : List Range) → Left us pos row size a 0 (r ∷ rs) → Left us pos (suc row) size (r .start) (r .length) rs
@@ -239,8 +243,8 @@ pub clearFirst-clearBefore : (us : List Unit) (p : List Bool) (n m : ℕ) → le
     → clearFirst m p ≡ clearBefore n p
 clearFirst-clearBefore us p n m e h =
     let s : length (pending us p) ≡ length (pending (take n us) (take n p)) + length (pending (drop n us) (drop n p)) =
-          ap length (pending-split n us p) ∙ length-append (pending (take n us) (take n p)) (pending (drop n us) (drop n p)) in
+    ap length (pending-split n us p) ∙ length-append (pending (take n us) (take n p)) (pending (drop n us) (drop n p)) in
     let t : length (pending (take n us) (take n p)) ≡ trues (take n p) =
-          pending-trues (take n us) (take n p) (omega (arith, length-take n us, length-take n p)) in
+    pending-trues (take n us) (take n p) (omega (arith, length-take n us, length-take n p)) in
     let q : m ≡ trues (take n p) = omega arith in
     ap (λ i. clearFirst i p) q ∙ clearFirst-before n p

@@ -6,3 +6,4 @@ pub mod Answers
 pub mod CallLaws
 pub mod WriteLaws
 pub mod ReceiveLaws
+pub mod StartedLaws

@@ -173,14 +173,19 @@ module _ (size : ℕ) (rs : List Range) (l : List Bool) (base : ℕ) (x : List �
       where
         none : pending (drop pos us) (drop pos p) ≡ []
         none = sym (ap (pending (drop pos us)) (ap (drop pos) now-marks ∙ clearBefore-drop pos p inside)) ∙ e
+
         short : length every ≤ j
         short = drop-none j every (s .later ∙ ap runs none)
+
         first : take j every ≡ every
         first = take-all j every short
+
         whole : take room every ≡ every
         whole = take-all room every (omega (arith, short, s .few))
+
         exact : length every ≡ j
         exact = omega (arith, short, s .there)
+
         all-first : length (join every) + length {A = Unit} [] ≡ length (pending us p)
         all-first = omega (arith, ap length (runs-join (pending us p)))
 
@@ -208,7 +213,7 @@ module _ (size : ℕ) (rs : List Range) (l : List Bool) (base : ℕ) (x : List �
             count-is = sym (ap (λ k. length (take k every)) (sym e) ∙ omega (arith, length-take j every, s .there));
             more-is = sym (ap nonEmpty (ap (λ k. drop k every) (sym e) ∙ found));
             bits-are = sym (left-is (ap (λ k. length (join (take k every)) + length (pending (drop pos us) (drop pos p))) (sym e)
-              ∙ ap (λ n. length (join (take j every)) + n) (sym (ap length (ap join (s .later) ∙ runs-join (pending (drop pos us) (drop pos p))))) ∙ all-units j));
+                ∙ ap (λ n. length (join (take j every)) + n) (sym (ap length (ap join (s .later) ∙ runs-join (pending (drop pos us) (drop pos p))))) ∙ all-units j));
             bytes-are = s .bytes ∙ ap (λ k. put x 16 (records descriptorBytes (map descriptor (take k every)))) e;
           }
 
@@ -241,22 +246,26 @@ module _ (size : ℕ) (rs : List Range) (l : List Bool) (base : ℕ) (x : List �
             there = omega (arith, parts .0);
             bits = e ∙ ap (fill false l′ (base + from)) span ∙ cleared;
             bytes =
-              records-snoc-again descriptorBytes 16 descriptorBytes-length (map descriptor (take j every)) (descriptor run) x x′ x″ 16 (16 + 16 * j)
-              (ap (λ n. 16 + 16 * n) (sym listed-length)) (s .bytes)
-              (e′ ∙ ap (λ d. put x′ (16 + 16 * j) (descriptorBytes d)) (ap (λ b. record { address = b; length = to - from }) a ∙ sym described))
-              ∙ ap (λ r. put x 16 (records descriptorBytes r)) (sym (map-snoc (take j every) run) ∙ ap (map descriptor) (sym (parts .1)))
-              ∙ ap (λ n. put x 16 (records descriptorBytes (map descriptor (take n every)))) (sym (add-one j));
+                records-snoc-again descriptorBytes 16 descriptorBytes-length (map descriptor (take j every)) (descriptor run) x x′ x″ 16 (16 + 16 * j)
+                (ap (λ n. 16 + 16 * n) (sym listed-length)) (s .bytes)
+                (e′ ∙ ap (λ d. put x′ (16 + 16 * j) (descriptorBytes d)) (ap (λ b. record { address = b; length = to - from }) a ∙ sym described))
+                ∙ ap (λ r. put x 16 (records descriptorBytes r)) (sym (map-snoc (take j every) run) ∙ ap (map descriptor) (sym (parts .1)))
+                ∙ ap (λ n. put x 16 (records descriptorBytes (map descriptor (take n every)))) (sym (add-one j));
             later = ap (λ n. drop n every) (add-one j) ∙ parts .2;
           }
         where
           parts : (j < length every) × (take (suc j) every ≡ take j every ++ run ∷ []) × (drop (suc j) every ≡ runs (pending (drop to us) (drop to p)))
           parts = drop-first j every run (runs (pending (drop to us) (drop to p))) found
+
           span : base + to - (base + from) ≡ to - from
           span = omega (arith, order .1)
+
           q : List Bool
           q = clearBefore pos p
+
           clear : (i : ℕ) → pos ≤ i → i < from → getD (clearBefore pos p) i false ≡ false
           clear i g k = ap (λ b. getD b i false) (sym now-marks) ∙ f .clear i g k
+
           cleared : fill false l′ (base + from) (to - from) ≡ putShare l base (clearBefore to p)
           cleared =
               fill-share l′ base (length us) (omega (arith, now-length, fits)) false from (to - from) (omega (arith, order .1, order .2))
@@ -264,7 +273,7 @@ module _ (size : ℕ) (rs : List Range) (l : List Bool) (base : ℕ) (x : List �
               ∙ ap (putShare l′ base) (clearBefore-fill pos from to p (order .0) (omega (arith, order .1)) (omega (arith, order .2, p-length)) clear)
               ∙ ap (λ b. putShare b base (clearBefore to p)) (s .bits)
               ∙ putShare-putShare l base (clearBefore pos p) (clearBefore to p) cleared-fits
-                (clearBefore-length to p (omega (arith, order .2, p-length)) ∙ sym (clearBefore-length pos p inside))
+              (clearBefore-length to p (omega (arith, order .2, p-length)) ∙ sym (clearBefore-length pos p inside))
 
 -- a run's first address is one of its range's
 pub found-address : (size : ℕ) (ranges : List Range) (n : ℕ) (q : List Bool) (pos row begin from to : ℕ) → RangesEnd size (take n ranges) → 0 < size
@@ -279,8 +288,9 @@ found-address size ranges n q pos row begin from to e z f =
     let ends = f .ends in
     let m : suc (from - begin) * size ≤ rowOf (take n ranges) row .length * size = mul-le-mul-right size (omega arith) in
     let end = e row low in
-    let s : rowOf (take n ranges) row .start ≡ getD ranges row noRange .start = ap (λ (r : Range). r .start) same in
-    ( omega arith
-    , begins
-    , ap (λ (r : Range). r .start + (from - begin) * size) same
-    , omega (arith, suc-mul (from - begin) size) )
+    let s : rowOf (take n ranges) row .start ≡ getD ranges row noRange .start = ap (λ (r : Range). r .start) same in (
+      omega arith,
+      begins,
+      ap (λ (r : Range). r .start + (from - begin) * size) same,
+      omega (arith, suc-mul (from - begin) size),
+    )

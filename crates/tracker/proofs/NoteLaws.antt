@@ -86,12 +86,13 @@ module _ (w : Write) where
   newly-span (u ∷ us) (b ∷ p) zero (suc n) e h f =
       rw (f 0 (omega arith) ∙ among-in 0 (0 + suc n) 0 (omega arith) (omega arith))
       (ap₂ (λ x y. x + y) (first b)
-        (newly-span us p 0 n (omega arith) (omega arith) (λ j l. f (suc j) (omega arith) ∙ shift n j (decLt j n)))
+      (newly-span us p 0 n (omega arith) (omega arith) (λ j l. f (suc j) (omega arith) ∙ shift n j (decLt j n)))
       ∙ sym (clears-cons b p n))
     where
       first : (b : Bool) → _≡_ {A = ℕ} (cond (not b) 1 0) (cond b 0 1)
       first true = refl
       first false = refl
+
       shift : (n j : ℕ) → Dec (j < n) → among 0 (0 + suc n) (suc j) ≡ among 0 (0 + n) j
       shift n j (yes c) = among-in 0 (0 + suc n) (suc j) (omega arith) (omega arith) ∙ sym (among-in 0 (0 + n) j (omega arith) (omega arith))
       shift n j (no c) = among-above 0 (0 + suc n) (suc j) (omega arith) ∙ sym (among-above 0 (0 + n) j (omega arith))
@@ -277,20 +278,22 @@ module _ (w : Write) (size : ℕ) (rs : List Range) (n : ℕ) (l : List Bool) (a
         record {
           fits = omega (arith, marking-fits, ap length e, fill-length true l (at + from) (at + to - (at + from)));
           marked =
-            ap (λ b. putShare b (at + r .length) (mark w rest (getShare b (at + r .length) (length rest)))) (e ∙ rw span)
-            ∙ note-bits w l at i size r rest marking-fits from to t
-            ∙ subst (λ us. putShare l at (mark w us (getShare l at (length us))) ≡ bits) left (m .marked);
+              ap (λ b. putShare b (at + r .length) (mark w rest (getShare b (at + r .length) (length rest)))) (e ∙ rw span)
+              ∙ note-bits w l at i size r rest marking-fits from to t
+              ∙ subst (λ us. putShare l at (mark w us (getShare l at (length us))) ≡ bits) left (m .marked);
           counted =
-            ap₂ (λ x b. count + x + newly w rest (getShare b (at + r .length) (length rest))) (e′ ∙ rw span) (e ∙ rw span)
-            ∙ add-assoc count (clears l (at + from) (to - from)) (newly w rest (getShare next (at + r .length) (length rest)))
-            ∙ ap (λ x. count + x) (note-count w l at i size r rest marking-fits from to t)
-            ∙ subst (λ us. count + newly w us (getShare l at (length us)) ≡ total) left (m .counted);
+              ap₂ (λ x b. count + x + newly w rest (getShare b (at + r .length) (length rest))) (e′ ∙ rw span) (e ∙ rw span)
+              ∙ add-assoc count (clears l (at + from) (to - from)) (newly w rest (getShare next (at + r .length) (length rest)))
+              ∙ ap (λ x. count + x) (note-count w l at i size r rest marking-fits from to t)
+              ∙ subst (λ us. count + newly w us (getShare l at (length us)) ≡ total) left (m .counted);
         }
       where
         rest : List Unit
         rest = unitsLeft size rs n (i + 1)
+
         next : List Bool
         next = fill true l (at + from) (to - from)
+
         span : at + to - (at + from) ≡ to - from
         span = omega arith
 

@@ -99,7 +99,8 @@ module _ (d : Device) (ws : List ℕ) (id : ℕ) (x : List ℕ) where
       unfolding withMarks
       receive-done h ws′ x′ x″ runs more s f m q =
           let r : Report = reportOn b g k us p in
-          let c : runs ≡ length (r .descriptors) = s .count-is ∙ sym (length-map (reportedRuns k us p) descriptor) in
-          ( ap₂ (λ a z. record { number = 0; suspended = b; more = a; granularity = g; runs = z }) (s .more-is) c ∙ sym (ap (λ (y : Receipt). y .answer) (receive-on h))
-          , pack-only (length ws) ws′ (putShare (flat ws) (shareAt i) (marksLeft k us p)) m f (s .bits-are) ∙ sym (ap (λ (y : Receipt). y .marks) (receive-on h))
-          , report-done id r x x′ x″ runs c (s .bytes-are) (q ∙ ap (λ a. put x′ 0 (reportHeader id b a runs g)) (s .more-is)) ∙ sym (ap (λ (y : Receipt). y .buffer) (receive-on h)) )
+          let c : runs ≡ length (r .descriptors) = s .count-is ∙ sym (length-map (reportedRuns k us p) descriptor) in (
+            ap₂ (λ a z. record { number = 0; suspended = b; more = a; granularity = g; runs = z }) (s .more-is) c ∙ sym (ap (λ (y : Receipt). y .answer) (receive-on h)),
+            pack-only (length ws) ws′ (putShare (flat ws) (shareAt i) (marksLeft k us p)) m f (s .bits-are) ∙ sym (ap (λ (y : Receipt). y .marks) (receive-on h)),
+            report-done id r x x′ x″ runs c (s .bytes-are) (q ∙ ap (λ a. put x′ 0 (reportHeader id b a runs g)) (s .more-is)) ∙ sym (ap (λ (y : Receipt). y .buffer) (receive-on h)),
+          )

@@ -43,8 +43,8 @@ module _ (size : ℕ) (rs : List Range) where
       let low = s .low in
       let e : pos + (to - pos) ≡ to = omega arith in
       let f : rowOf rs row .start + (pos - begin) * size + (to - pos) * size ≡ addressAt size rs row begin to =
-            let g : to - begin ≡ pos - begin + (to - pos) = omega arith in
-            rw (g, add-mul) (omega arith) in
+      let g : to - begin ≡ pos - begin + (to - pos) = omega arith in
+      rw (g, add-mul) (omega arith) in
       let n : rowEnd row begin - pos - (to - pos) ≡ rowEnd row begin - to = omega arith in
       let l = left-on us row size (drop (suc row) rs) pos (addressAt size rs row begin pos) (rowEnd row begin - pos) (to - pos) (omega arith) (s .left) in
       record {
@@ -61,8 +61,10 @@ module _ (size : ℕ) (rs : List Range) where
     where
       a : addressAt size rs row begin begin ≡ rowOf rs row .start
       a = let e : begin - begin ≡ 0 = omega arith in rw (e, zero-mul) (omega arith)
+
       n : rowEnd row begin - begin ≡ rowOf rs row .length
       n = omega arith
+
       go : Dec (row < length rs) → unitsFrom size row (drop row rs) ≡ unitsOfRow row size (addressAt size rs row begin begin) (rowEnd row begin - begin) ++ unitsFrom size (suc row) (drop (suc row) rs)
       go (yes h) = rw (a, n, drop-cons rs row noRange h)
       go (no h) =
@@ -83,10 +85,10 @@ module _ (size : ℕ) (rs : List Range) where
         high = omega arith;
         inside = s .inside;
         left =
-          let z : rowEnd row begin - rowEnd row begin ≡ 0 = omega arith in
-          let e : drop (rowEnd row begin) us ≡ unitsFrom size (suc row) (drop (suc row) rs) =
-                s .left ∙ ap (λ n. unitsOfRow row size (addressAt size rs row begin (rowEnd row begin)) n ++ unitsFrom size (suc row) (drop (suc row) rs)) z in
-          rw add-one (e ∙ row-first (suc row) (rowEnd row begin));
+            let z : rowEnd row begin - rowEnd row begin ≡ 0 = omega arith in
+            let e : drop (rowEnd row begin) us ≡ unitsFrom size (suc row) (drop (suc row) rs) =
+            s .left ∙ ap (λ n. unitsOfRow row size (addressAt size rs row begin (rowEnd row begin)) n ++ unitsFrom size (suc row) (drop (suc row) rs)) z in
+            rw add-one (e ∙ row-first (suc row) (rowEnd row begin));
       }
 
   -- past the last row nothing is left
@@ -156,9 +158,9 @@ module _ (size : ℕ) (rs : List Range) where
         let m : to - from ≡ suc (to - from - 1) = omega arith in
         let t : from + suc (to - from - 1) ≡ to = omega arith in
         let first =
-              run-next us row size (drop (suc row) rs) p from (addressAt size rs row begin from) (end - from) (to - from - 1) z (omega arith) (omega arith) (here .left)
-              (λ i a b. next-before false p from end i a (omega arith))
-              (λ k. rw (t, e′) (next-found false p from end (omega arith))) in
+        run-next us row size (drop (suc row) rs) p from (addressAt size rs row begin from) (end - from) (to - from - 1) z (omega arith) (omega arith) (here .left)
+        (λ i a b. next-before false p from end i a (omega arith))
+        (λ k. rw (t, e′) (next-found false p from end (omega arith))) in
         record {
           row-in = h;
           begins = here .low;
@@ -167,8 +169,8 @@ module _ (size : ℕ) (rs : List Range) where
           ends = high;
           clear = d .clear;
           first =
-            ap runs (scanned-pending pos row begin from d) ∙ first
-            ∙ ap₂ (λ n k. unitsOfRow row size (addressAt size rs row begin from) n ∷ runs (pending (drop k us) (drop k p))) (sym m) t;
+              ap runs (scanned-pending pos row begin from d) ∙ first
+              ∙ ap₂ (λ n k. unitsOfRow row size (addressAt size rs row begin from) n ∷ runs (pending (drop k us) (drop k p))) (sym m) t;
           stands = stands-on row begin from to (omega arith) high here;
         }
       where

@@ -117,9 +117,9 @@ module _ (d : Device) (ws : List ℕ) (id : ℕ) (w : Write) where
                 let m : shareAt i + length us ≤ length (flat ws) = omega (arith, flat-length ws, l .whole, share-within d (length ws) id i e there g n t) in
                 write-on
                 ∙ ap₂ (noted 0) (newly-none w z us p)
-                  (ap (λ q. pack (length ws) (putShare (flat ws) (shareAt i) q)) (mark-none w z us p (getShare-length (flat ws) (shareAt i) (length us) m))
-                  ∙ ap (pack (length ws)) (putShare-getShare (flat ws) (shareAt i) (length us) m)
-                  ∙ pack-flat ws h)
+                (ap (λ q. pack (length ws) (putShare (flat ws) (shareAt i) q)) (mark-none w z us p (getShare-length (flat ws) (shareAt i) (length us) m))
+                ∙ ap (pack (length ws)) (putShare-getShare (flat ws) (shareAt i) (length us) m)
+                ∙ pack-flat ws h)
 
         pub write-empty : i < length (d .controllers) → Words ws → w .bytes ≡ 0 → writeNote d ws id w ≡ noted 0 0 ws
         write-empty there k z = go (getD (d .controllers) i noController .tracking) refl

@@ -159,13 +159,13 @@ abbrev pub received : ℕ → Report → List ℕ → List ℕ → Receipt
 received n r ws x =
     record {
       answer =
-        record {
-          number = n;
-          suspended = r .suspended;
-          more = r .more;
-          granularity = r .granularity;
-          runs = length (r .descriptors);
-        };
+          record {
+            number = n;
+            suspended = r .suspended;
+            more = r .more;
+            granularity = r .granularity;
+            runs = length (r .descriptors);
+          };
       report = r;
       marks = ws;
       buffer = x;

@@ -21,11 +21,14 @@ ghost use mathlib.Core.Bool.{true, false};
 ghost use Prim.Native.Nat.{_≤_, _<_};
 ghost use mathlib.Core.List.{[]};
 ghost use lib.ListN.{length, replicate};
-ghost use Rattle.rules.specs.StartData.{placed};
-ghost use Rattle.rules.specs.Device.{freshController, cleaned, closedDevice};
-ghost use Rattle.tracker.specs.Calls.{shareAt, withClear, freshChange, stopChange, suspendChange, resumeChange, writeNote, receiveReceipt};
-ghost use Rattle.record.specs.Record.{soundWith};
-ghost use Rattle.tracker.specs.Inner.{placeNumber};
+ghost use Rattle.rules.specs.Refusals.{refusal};
+ghost use Rattle.rules.specs.StartData.{headerOf, placed};
+ghost use Rattle.rules.specs.declared.Header.the-variants.{Is};
+ghost use Rattle.rules.specs.Device.{freshController, cleaned, closedDevice, soundDevice};
+ghost use Rattle.tracker.specs.Calls.{shareAt, withClear, freshChange, startChange, stopChange, suspendChange, resumeChange, writeNote, receiveReceipt};
+ghost use Rattle.record.specs.Record.{soundWith, countsOf};
+ghost use Rattle.start_data.specs.Answer.{headerNumber};
+ghost use Rattle.tracker.specs.Inner.{placeNumber, listedTests};
 
 // The answer of a call that may change the record: its number, and the record as it is afterwards.
 pub struct Changed {
@@ -146,6 +149,96 @@ fn clear_share(marks: &mut [u64], i: usize)
     bits::clear_span(marks, base, base + 4096);
 }
 
+// ---- start
+
+// The number of a refused header.
+fn header_number(h: Header) -> u8
+    ensures { λ r. ⌜ r ≡ headerNumber h ⌝ }
+{
+    match h {
+        Header::Is(_, _) => 0,
+        Header::Refused(n, _) => n,
+    }
+}
+
+// The first of 7, 8 (listed ranges), 9, 10, 11 and 12 that a start structure with this granularity and count breaks, or 0.
+fn list_number(d: Device, g: u8, n: u32, data: &[u8]) -> u8
+    requires { ⌜ (soundDevice d ≡ true) × (headerOf (now «data») ≡ Is g n) ⌝ }
+    ensures { λ r. ⌜ r ≡ refusal (listedTests (d .settings) (countsOf d) (now («data» .entry))) ⌝ }
+{
+    let s = d.settings;
+    if !record::granularity_ok(s, g) {
+        return 7;
+    }
+    let count = n as usize;
+    if data.len() < 8 + 12 * count {
+        return 8;
+    }
+    if count > 16 {
+        return 9;
+    }
+    let ranges = start_data::read_ranges(data, count);
+    let number = record::list_refusal(s, g, count as u8, ranges);
+    if number != 0 {
+        return number;
+    }
+    if count + record::counts(d) > s.limit as usize {
+        return 12;
+    }
+    0
+}
+
+// Starts tracking a controller from a start structure: its granularity and ranges are recorded and its share of the marks is clear. Refused, in this
+// order: 1, 2, 4 suspended, 3 already tracked, 8 no whole header, 6 version, 7 granularity, 8 listed ranges not there, 9 range rules, 10 power of
+// two, 11 too many units, 12 descriptor limit passed.
+pub fn start(d: Device, marks: &mut [u64], id: u16, data: &[u8]) -> Changed
+    ensures { λ r. ⌜ (r ≡ startChange d (now (marks .entry)) id (now («data» .entry)) .answer) × (now (marks .exit) ≡ startChange d (now (marks .entry)) id (now («data» .entry)) .marks) ⌝ }
+{
+    let place = record::locate(d, marks.len(), id);
+    let Place::At(i) = place else {
+        let number = number_of(place);
+        return Changed { number, device: d };
+    };
+    let c = d.controllers[i];
+    if c.suspended {
+        return Changed {
+            number: 4,
+            device: d,
+        };
+    }
+    let t = c.tracking;
+    let Tracking::Off = t else {
+        return Changed {
+            number: 3,
+            device: d,
+        };
+    };
+    let header = start_data::read_header(data);
+    let Header::Is(g, n) = header else {
+        let number = header_number(header);
+        return Changed { number, device: d };
+    };
+    let number = list_number(d, g, n, data);
+    if number != 0 {
+        return Changed { number, device: d };
+    }
+    clear_share(marks, i);
+    let ranges = start_data::read_ranges(data, n as usize);
+    let on = Tracking::On(g, n as u8);
+    let mut e = d;
+    e.controllers[i] = Controller {
+        tracking: on,
+        suspended: false,
+        ranges,
+    };
+    Changed {
+        number: 0,
+        device: e,
+    }
+}
+
+// ---- stop
+
 // Stops tracking a controller: its ranges are forgotten and its share of the marks is clear. Refused, in this order: 1, 2, 4 suspended, 5 not tracked.
 pub fn stop(d: Device, marks: &mut [u64], id: u16) -> Changed
     ensures { λ r. ⌜ (r ≡ stopChange d (now (marks .entry)) id .answer) × (now (marks .exit) ≡ stopChange d (now (marks .entry)) id .marks) ⌝ }
@@ -183,6 +276,8 @@ pub fn stop(d: Device, marks: &mut [u64], id: u16) -> Changed
         device: e,
     }
 }
+
+// ---- suspend and resume
 
 // Suspends a controller: type 1 suspends, also where it is suspended already; type 0 is a notice and changes nothing. Pending units stay. Refused, in
 // this order: 1, 2, 15 another type.
@@ -282,7 +377,15 @@ pub fn note(d: Device, marks: &mut [u64], id: u16, at: u64, bytes: Bytes) -> Wri
     };
     let ranges = c.ranges;
     let size = record::unit_size(g);
-    let count = marking::mark_ranges(marks, 4096 * i, size, n as usize, ranges, at, at + (length - 1));
+    let count = marking::mark_ranges(
+        marks,
+        4096 * i,
+        size,
+        n as usize,
+        ranges,
+        at,
+        at + (length - 1),
+    );
     Written { number: 0, count }
 }
 
@@ -331,7 +434,15 @@ pub fn receive(d: Device, marks: &mut [u64], id: u16, buffer: &mut [u8]) -> Rece
     }
     let ranges = c.ranges;
     let unit = record::unit_size(g);
-    let listed = scan::list_runs(marks, 4096 * i, n as usize, ranges, unit, buffer, (size - 16) / 16);
+    let listed = scan::list_runs(
+        marks,
+        4096 * i,
+        n as usize,
+        ranges,
+        unit,
+        buffer,
+        (size - 16) / 16,
+    );
     let suspended = c.suspended;
     report_data::put_header(buffer, id, suspended, listed.more, listed.runs as u32, g);
     Received {

@@ -38,15 +38,20 @@ pub fn touched(r: Range, size: u64, at: u64, last: u64) -> Span
     if to <= from {
         return Span { from: 0, to: 0 };
     }
-    Span {
-        from: from,
-        to: to,
-    }
+    Span { from: from, to: to }
 }
 
 // Marks every unit of the first n ranges that the bytes from `at` to `last` touch, and counts those that were not pending before. The ranges' marks
 // stand from bit `base` on.
-pub fn mark_ranges(marks: &mut [u64], base: usize, size: u64, n: usize, ranges: [Range; 16], at: u64, last: u64) -> usize
+pub fn mark_ranges(
+    marks: &mut [u64],
+    base: usize,
+    size: u64,
+    n: usize,
+    ranges: [Range; 16],
+    at: u64,
+    last: u64,
+) -> usize
     requires { ⌜ (0 < size) × (at ≤ last) × (n ≤ 16) × (length (now marks) ≡ 512) × (base + length (unitsFrom size 0 (take n ranges)) ≤ 32768) ⌝ }
     ensures { λ r. ⌜ (r ≡ newly (writeTo at last) (unitsFrom size 0 (take n ranges)) (getShare (flat (now (marks .entry))) base (length (unitsFrom size 0 (take n ranges)))))
         × (flat (now (marks .exit)) ≡ putShare (flat (now (marks .entry))) base (mark (writeTo at last) (unitsFrom size 0 (take n ranges)) (getShare (flat (now (marks .entry))) base (length (unitsFrom size 0 (take n ranges)))))) ⌝ }

@@ -24,7 +24,16 @@ pub enum Next {
 }
 
 // The next run from unit `pos` on, in a row that begins with unit `begin`, or in the rows after it.
-pub fn next_run(marks: &[u64], base: usize, n: usize, ranges: [Range; 16], row: usize, begin: usize, pos: usize, size: u64) -> Next
+pub fn next_run(
+    marks: &[u64],
+    base: usize,
+    n: usize,
+    ranges: [Range; 16],
+    row: usize,
+    begin: usize,
+    pos: usize,
+    size: u64,
+) -> Next
     requires { ⌜ (0 < size) × (n ≤ 16) × (length (now marks) ≡ 512) × (base + length (unitsFrom size 0 (take n ranges)) ≤ 32768) × Stands size (take n ranges) row begin pos ⌝ }
     ensures { λ r. ⌜ NextIs size (take n ranges) (getShare (flat (now (marks .entry))) base (length (unitsFrom size 0 (take n ranges)))) pos r ⌝ }
 {
@@ -58,7 +67,15 @@ pub struct Listed {
 }
 
 // Lists the first runs, as many as there is room for, one descriptor after another from byte 16 of the buffer on, and makes them clear.
-pub fn list_runs(marks: &mut [u64], base: usize, n: usize, ranges: [Range; 16], size: u64, buffer: &mut [u8], room: usize) -> Listed
+pub fn list_runs(
+    marks: &mut [u64],
+    base: usize,
+    n: usize,
+    ranges: [Range; 16],
+    size: u64,
+    buffer: &mut [u8],
+    room: usize,
+) -> Listed
     requires { ⌜ (0 < size) × RangesEnd size (take n ranges) ⌝ ∗ ⌜ (n ≤ 16) × (length (now marks) ≡ 512) × (base + length (unitsFrom size 0 (take n ranges)) ≤ 32768) × (16 + 16 * room ≤ length (now buffer)) ⌝ }
     ensures { λ r. ⌜ Lists size (take n ranges) (flat (now (marks .entry))) base (now (buffer .entry)) room (r .runs) (r .more) (flat (now (marks .exit))) (now (buffer .exit)) ⌝ }
 {

@@ -112,12 +112,13 @@ add-mark-ranges c = search needs
 mark-ranges-requires : tie.Need-mark-ranges-requires
 mark-ranges-requires c κs =
     let m = c .before .before .before in
-    let z = c .before .unit-size .ensures in
-    ( rw z (unitSize-pos _)
-    , omega arith
-    , held m .few
-    , whereIs-at _ _ _ _ (found (c .before .before .before .before .before .before .before .before .before .before)) .whole
-    , rw z (fits m) )
+    let z = c .before .unit-size .ensures in (
+      rw z (unitSize-pos _),
+      omega arith,
+      held m .few,
+      whereIs-at _ _ _ _ (found (c .before .before .before .before .before .before .before .before .before .before)) .whole,
+      rw z (fits m),
+    )
 
 same-length : tie.Need-same-length
 same-length c = search needs
@@ -129,8 +130,8 @@ returns-6 c =
     let a = k .before .before .before .before .before .before .args in
     let z = c .before .before .before .before .unit-size .ensures in
     let w : writeTo (a .at) (a .at + (a .bytes .0 - 1)) ≡ record { address = a .at; bytes = a .bytes .0 } =
-          let e : a .at + (a .bytes .0 - 1) - a .at + 1 ≡ a .bytes .0 = omega arith in
-          ap (λ (b : ℕ). record { address = a .at; bytes = b }) e in
+    let e : a .at + (a .bytes .0 - 1) - a .at + 1 ≡ a .bytes .0 = omega arith in
+    ap (λ (b : ℕ). record { address = a .at; bytes = b }) e in
     let r = c .before .before .mark-ranges in
     notes _ 0 _ _ (write-done (a .t1) (now (a .marks)) (a .id) _ _ (found k) (m .before .before .before .before .before .if1 .left) (omega arith) _ _ (m .before .t .given .1) (there k) _ _
     (λ i. c .slice-known2 .given i .fits) (r .kept .0) (rw (z, w) at (r .ensures .0)) (rw (z, w) at (r .ensures .1)))

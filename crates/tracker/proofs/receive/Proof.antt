@@ -109,9 +109,10 @@ sub-list-runs c = search needs
 list-runs-requires : tie.Need-list-runs-requires
 list-runs-requires c κs =
     let m = c .before .before .before .before .before in
-    let z = c .before .before .unit-size .ensures in
-    ( (rw z (unitSize-pos _), rw z (rows-end (m .before .t .given .0 .0) (take (m .before .t .given .0 .1 .0) (getD (m .before .before .before .before .before .before .before .before .before .before .args .t1 .controllers) (m .before .before .before .before .before .place .given .0 .0) noController .ranges)) (held m .rows)))
-    , (held m .few, whereIs-at _ _ _ _ (found (c .before .before .before .before .before .before .before .before .before)) .whole, rw z (fits m), omega arith) )
+    let z = c .before .before .unit-size .ensures in (
+      (rw z (unitSize-pos _), rw z (rows-end (m .before .t .given .0 .0) (take (m .before .t .given .0 .1 .0) (getD (m .before .before .before .before .before .before .before .before .before .before .args .t1 .controllers) (m .before .before .before .before .before .place .given .0 .0) noController .ranges)) (held m .rows))),
+      (held m .few, whereIs-at _ _ _ _ (found (c .before .before .before .before .before .before .before .before .before)) .whole, rw z (fits m), omega arith),
+    )
 
 cast-put-header : tie.Need-cast-put-header
 cast-put-header c =

@@ -24,18 +24,19 @@ abbrev Inv-loop : tie.InvT-loop
 Inv-loop marks₀ base size n at last ranges count₀ from₀ i₀ marks count from i =
     (i ≤ n) × (length marks ≡ 512)
     × Marking (writeTo at last) size ranges n (flat marks) from i count
-        (putShare (flat marks₀) base (mark (writeTo at last) (unitsLeft size ranges n 0) (getShare (flat marks₀) base (length (unitsLeft size ranges n 0)))))
-        (newly (writeTo at last) (unitsLeft size ranges n 0) (getShare (flat marks₀) base (length (unitsLeft size ranges n 0))))
+    (putShare (flat marks₀) base (mark (writeTo at last) (unitsLeft size ranges n 0) (getShare (flat marks₀) base (length (unitsLeft size ranges n 0)))))
+    (newly (writeTo at last) (unitsLeft size ranges n 0) (getShare (flat marks₀) base (length (unitsLeft size ranges n 0))))
 
 abbrev μ-loop : tie.MeasureT-loop
 μ-loop marks₀ base size n at last ranges count₀ from₀ i₀ marks count from i = n - i
 
 -- src/note.rt:57:5
 loop-holds : tie.Need-loop-holds Inv-loop μ-loop
-loop-holds c =
-    ( search needs
-    , search needs
-    , record { fits = omega (arith, flat-length (now (c .before .args .marks))); marked = refl; counted = omega arith } )
+loop-holds c = (
+  search needs,
+  search needs,
+  record { fits = omega (arith, flat-length (now (c .before .args .marks))); marked = refl; counted = omega arith },
+)
 
 -- src/note.rt:58:17
 mul-r : tie.Need-mul-r Inv-loop μ-loop
@@ -54,16 +55,25 @@ add-a : tie.Need-add-a Inv-loop μ-loop
 add-a c =
     let l = c .before .before .before .loop in
     let m = l .inv .2 in
-    omega (arith, flat-length (l .marks), c .touched .ensures .within, c .touched .ensures .order,
-    marking-fits _ _ _ _ _ _ _ _ _ _ m (omega arith) (search needs) _ _ (c .touched .ensures))
+    omega (
+      arith,
+      flat-length (l .marks),
+      c .touched .ensures .within,
+      c .touched .ensures .order,
+      marking-fits _ _ _ _ _ _ _ _ _ _ m (omega arith) (search needs) _ _ (c .touched .ensures),
+    )
 
 -- src/note.rt:61:17
 add-e : tie.Need-add-e Inv-loop μ-loop
 add-e c =
     let l = c .before .before .before .loop in
     let m = l .inv .2 in
-    omega (arith, flat-length (l .marks), c .touched .ensures .within,
-    marking-fits _ _ _ _ _ _ _ _ _ _ m (omega arith) (search needs) _ _ (c .touched .ensures))
+    omega (
+      arith,
+      flat-length (l .marks),
+      c .touched .ensures .within,
+      marking-fits _ _ _ _ _ _ _ _ _ _ m (omega arith) (search needs) _ _ (c .touched .ensures),
+    )
 
 -- src/note.rt:62:18
 mark-span-requires : tie.Need-mark-span-requires Inv-loop μ-loop
@@ -87,8 +97,11 @@ add-from : tie.Need-add-from Inv-loop μ-loop
 add-from c =
     let l = c .before .before .before .before .before .before .before .before .loop in
     let m = l .inv .2 in
-    omega (arith, flat-length (l .marks),
-    marking-fits _ _ _ _ _ _ _ _ _ _ m (omega arith) (search needs) _ _ (c .before .before .before .before .before .touched .ensures))
+    omega (
+      arith,
+      flat-length (l .marks),
+      marking-fits _ _ _ _ _ _ _ _ _ _ m (omega arith) (search needs) _ _ (c .before .before .before .before .before .touched .ensures),
+    )
 
 -- src/note.rt:64:9
 add-i : tie.Need-add-i Inv-loop μ-loop
@@ -102,10 +115,11 @@ loop-less c = search needs
 loop-again : tie.Need-loop-again Inv-loop μ-loop
 loop-again c =
     let l = c .before .before .before .before .before .before .before .before .loop in
-    let e = c .before .before .before .mark-span .ensures in
-    ( omega arith
-    , search needs
-    , marking-next _ _ _ _ _ _ _ _ _ _ (l .inv .2) (omega arith) (search needs) _ _ (c .before .before .before .before .before .touched .ensures) _ _ (e .0) (e .1) )
+    let e = c .before .before .before .mark-span .ensures in (
+      omega arith,
+      search needs,
+      marking-next _ _ _ _ _ _ _ _ _ _ (l .inv .2) (omega arith) (search needs) _ _ (c .before .before .before .before .before .touched .ensures) _ _ (e .0) (e .1),
+    )
 
 -- src/note.rt:49:1
 same-length : tie.Need-same-length Inv-loop μ-loop

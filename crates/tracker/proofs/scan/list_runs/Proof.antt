@@ -153,11 +153,12 @@ loop-less c = search needs
 loop-again : tie.Need-loop-again Inv-loop μ-loop
 loop-again c =
     let k = c .before .before .before .before .before .before .before .before .before .before .before in
-    let a = address k in
-    ( search needs
-    , search needs
-    , listing-next _ _ _ _ _ _ (fits (k .before .before .before .before .before)) _ _ _ _ _ _ (k .before .before .before .before .before .loop .inv .2) _ _ _ _ (found k) _ _ _ (omega arith)
-      (c .before .before .before .before .before .before .before .before .clear-span .ensures) (sym (a .2)) (c .before .before .put-descriptor .ensures) )
+    let a = address k in (
+      search needs,
+      search needs,
+      listing-next _ _ _ _ _ _ (fits (k .before .before .before .before .before)) _ _ _ _ _ _ (k .before .before .before .before .before .loop .inv .2) _ _ _ _ (found k) _ _ _ (omega arith)
+          (c .before .before .before .before .before .before .before .before .clear-span .ensures) (sym (a .2)) (c .before .before .put-descriptor .ensures),
+    )
 
 pub list-runs-spec : {M : Type 1} → statement M
 list-runs-spec =
