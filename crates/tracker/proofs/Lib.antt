@@ -1,6 +1,3 @@
-pub mod NoteLaws
-pub mod ScanSteps
-pub mod ListSteps
 pub mod FreshLaws
 pub mod Answers
 pub mod CallLaws

@@ -28,7 +28,7 @@ use Rattle.record.specs.declared.Place.the-variants.{At, Refused}
 use Rattle.record.proofs.RecordLaws.{Located, whereIs-at, whereIs-refused}
 use Rattle.record.proofs.RangeLaws.{RowFacts}
 use Rattle.tracker.specs.Calls.{shareAt, withMarks, marksAt, Receipt, received, reportIn, receiveDone, receiveReceipt}
-use Rattle.tracker.specs.Scan.{rowOf, RangesEnd, Lists}
+use Rattle.scan.specs.Scan.{rowOf, RangesEnd, Lists}
 use Rattle.tracker.specs.declared.Received.{Received}
 
 -- ---- a promise met

@@ -1,4 +1,2 @@
 pub mod Calls
-pub mod Note
-pub mod Scan
 pub mod Inner

@@ -4,9 +4,6 @@
 // Each contract is an equation with a function of specs/Calls.antt: it says every returned value, every field of the record, every word of the marks
 // and every byte of the buffer afterwards.
 
-mod marking;
-mod scan;
-
 use record::Found;
 use record::Place;
 use rules::Bytes;

@@ -14,7 +14,7 @@ use Rattle.record.specs.declared.Place.the-variants.{At, Refused}
 use Rattle.record.proofs.RecordLaws.{whereIs-at}
 use Rattle.record.proofs.LoopLaws.{length-mapped}
 use Rattle.record.proofs.RangeLaws.{HeldFacts}
-use Rattle.tracker.specs.Note.{writeTo}
+use Rattle.marking.specs.Note.{writeTo}
 use Rattle.tracker.proofs.Answers.{notes}
 use Rattle.tracker.proofs.WriteLaws.{sound-found, sound-nothing, write-refused, write-suspended, write-past, write-off, write-empty, write-done}
 use Rattle.tracker.proofs.CallLaws.{held-at, share-within}

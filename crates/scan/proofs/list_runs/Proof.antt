@@ -1,4 +1,4 @@
--- `tracker::scan::list_runs` is right: each turn finds the next run, makes it clear and stores its descriptor. The loop's invariant (`Listing`): what is listed are
+-- `scan::list_runs` is right: each turn finds the next run, makes it clear and stores its descriptor. The loop's invariant (`Listing`): what is listed are
 -- the first runs, what was passed is clear, and the later runs are left. The measure is the room that is left. Assumes nothing.
 use mathlib.Core.Path.{_≡_, refl, sym, ap, subst, _∙_}
 use Prim.Native.Nat.{_≤_, _<_, _-_, _+_, _*_, _^_}
@@ -11,15 +11,15 @@ use Rattle.bits.specs.Share.{getShare}
 use Rattle.bits.proofs.Flat.{flat-length}
 use Rattle.rules.specs.Units.{unitsFrom}
 use Rattle.rules.specs.StartData.{noRange}
-use Rattle.tracker.specs.Scan.{addressAt, NextIs, RunFound}
-use Rattle.tracker.proofs.ListSteps.{found-address, Listing, listing-start, listing-done, listing-full, listing-next, found-within}
-use Rattle.tracker.proofs.scan.list_runs.Statement.{statement}
-use Rattle.tracker.proofs.scan.list_runs.Tie as tie
-use Rattle.tracker.proofs.scan.list_runs.Reads as reads
-use Rattle.tracker.proofs.scan.list_runs.Lts as lts
+use Rattle.scan.specs.Scan.{addressAt, NextIs, RunFound}
+use Rattle.scan.proofs.ListSteps.{found-address, Listing, listing-start, listing-done, listing-full, listing-next, found-within}
+use Rattle.scan.proofs.list_runs.Statement.{statement}
+use Rattle.scan.proofs.list_runs.Tie as tie
+use Rattle.scan.proofs.list_runs.Reads as reads
+use Rattle.scan.proofs.list_runs.Lts as lts
 use Rattle.bits.proofs.clear_span.Reads as clear-span-reads
 use Rattle.report_data.proofs.put_descriptor.Reads as put-descriptor-reads
-use Rattle.tracker.proofs.scan.next_run.Reads as next-run-reads
+use Rattle.scan.proofs.next_run.Reads as next-run-reads
 
 abbrev Inv-loop : tie.InvT-loop
 Inv-loop marks₀ base n size buffer₀ room ranges runs₀ row₀ begin₀ pos₀ marks buffer runs row begin pos =

@@ -7,7 +7,7 @@ ghost use lib.ListN.{length, take};
 ghost use Rattle.bits.specs.Flat.{flat};
 ghost use Rattle.bits.specs.Share.{getShare, putShare};
 ghost use Rattle.rules.specs.Units.{unitsFrom, mark, newly};
-ghost use Rattle.tracker.specs.Note.{writeTo, Touched};
+ghost use Rattle.marking.specs.Note.{writeTo, Touched};
 
 // Units of a range, counted from its first: those from `from` below `to`.
 pub struct Span {

@@ -12,8 +12,8 @@ use Rattle.rules.specs.StartData.{noRange}
 use Rattle.rules.specs.Lists.{nonEmpty}
 use Rattle.rules.specs.Report.{runs, descriptor, descriptorBytes, reportedRuns, laterRuns, marksLeft}
 use Rattle.rules.specs.declared.Range.{Range}
-use Rattle.tracker.specs.declared.scan.Next.{Next}
-use Rattle.tracker.specs.declared.scan.Next.the-variants.{Is, Nothing}
+use Rattle.scan.specs.declared.Next.{Next}
+use Rattle.scan.specs.declared.Next.the-variants.{Is, Nothing}
 
 -- the range of a row; past the last there is none, of length 0
 abbrev pub rowOf : List Range → ℕ → Range

@@ -20,7 +20,7 @@ use Rattle.rules.specs.Report.{runs}
 use Rattle.rules.specs.declared.Range.{Range}
 use Rattle.rules.proofs.UnitLaws.{unitsOfRow-length}
 use Rattle.rules.proofs.ScanLaws.{left-on, left-length, run-next, pending-skip}
-use Rattle.tracker.specs.Scan.{rowOf, addressAt, Stands, RunFound}
+use Rattle.scan.specs.Scan.{rowOf, addressAt, Stands, RunFound}
 
 module _ (size : ℕ) (rs : List Range) where
   abbrev us : List Unit

@@ -1,4 +1,4 @@
--- `tracker::marking::mark_ranges` is right: in each range the touched units are a span, which is marked. The loop's invariant (`Marking`): what is still to be
+-- `marking::mark_ranges` is right: in each range the touched units are a span, which is marked. The loop's invariant (`Marking`): what is still to be
 -- marked makes of the marks and the count as they are now what is promised. The measure is the ranges that are left. Assumes nothing.
 use mathlib.Core.Path.{_≡_, refl, sym, ap, _∙_}
 use Prim.Native.Nat.{_≤_, _-_, _+_}
@@ -11,14 +11,14 @@ use Rattle.bits.specs.Share.{getShare, putShare}
 use Rattle.bits.proofs.Flat.{flat-length}
 use Rattle.rules.specs.Units.{mark, newly}
 use Rattle.rules.proofs.UnitLaws.{newly-le}
-use Rattle.tracker.specs.Note.{writeTo}
-use Rattle.tracker.proofs.NoteLaws.{Marking, unitsLeft, marking-fits, marking-next, marking-bits, marking-count}
-use Rattle.tracker.proofs.marking.mark_ranges.Statement.{statement}
-use Rattle.tracker.proofs.marking.mark_ranges.Tie as tie
-use Rattle.tracker.proofs.marking.mark_ranges.Reads as reads
-use Rattle.tracker.proofs.marking.mark_ranges.Lts as lts
+use Rattle.marking.specs.Note.{writeTo}
+use Rattle.marking.proofs.NoteLaws.{Marking, unitsLeft, marking-fits, marking-next, marking-bits, marking-count}
+use Rattle.marking.proofs.mark_ranges.Statement.{statement}
+use Rattle.marking.proofs.mark_ranges.Tie as tie
+use Rattle.marking.proofs.mark_ranges.Reads as reads
+use Rattle.marking.proofs.mark_ranges.Lts as lts
 use Rattle.bits.proofs.mark_span.Reads as mark-span-reads
-use Rattle.tracker.proofs.marking.touched.Reads as touched-reads
+use Rattle.marking.proofs.touched.Reads as touched-reads
 
 abbrev Inv-loop : tie.InvT-loop
 Inv-loop marks₀ base size n at last ranges count₀ from₀ i₀ marks count from i =

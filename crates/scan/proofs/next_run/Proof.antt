@@ -1,4 +1,4 @@
--- `tracker::scan::next_run` is right: row by row the next set mark is looked for, and behind it the next clear one. The loop's invariant (`Scanned`): all marks
+-- `scan::next_run` is right: row by row the next set mark is looked for, and behind it the next clear one. The loop's invariant (`Scanned`): all marks
 -- from `pos` to where it stands are clear. The measure is the rows that are left. Assumes nothing.
 use mathlib.Core.Path.{_≡_}
 use Prim.Native.Nat.{_≤_, _-_, _+_}
@@ -11,11 +11,11 @@ use Rattle.bits.specs.Flat.{flat}
 use Rattle.bits.specs.Share.{getShare}
 use Rattle.bits.proofs.Flat.{flat-length}
 use Rattle.rules.specs.Units.{unitsFrom}
-use Rattle.tracker.proofs.ScanSteps.{Scanned, scanned-start, search-nothing, search-end, search-low, search-row, search-high, search-run}
-use Rattle.tracker.proofs.scan.next_run.Statement.{statement}
-use Rattle.tracker.proofs.scan.next_run.Tie as tie
-use Rattle.tracker.proofs.scan.next_run.Reads as reads
-use Rattle.tracker.proofs.scan.next_run.Lts as lts
+use Rattle.scan.proofs.ScanSteps.{Scanned, scanned-start, search-nothing, search-end, search-low, search-row, search-high, search-run}
+use Rattle.scan.proofs.next_run.Statement.{statement}
+use Rattle.scan.proofs.next_run.Tie as tie
+use Rattle.scan.proofs.next_run.Reads as reads
+use Rattle.scan.proofs.next_run.Lts as lts
 use Rattle.bits.proofs.next_clear.Reads as next-clear-reads
 use Rattle.bits.proofs.next_set.Reads as next-set-reads
 

@@ -21,7 +21,7 @@ use Rattle.rules.specs.StartData.{noRange}
 use Rattle.rules.specs.declared.Range.{Range}
 use Rattle.rules.proofs.ListLaws.{front-at, front-end}
 use Rattle.rules.proofs.UnitLaws.{unitsOfRow-length, unitsOfRow-at, mark-length, mark-append, newly-append, mark-at}
-use Rattle.tracker.specs.Note.{writeTo, unitAt, Touched}
+use Rattle.marking.specs.Note.{writeTo, unitAt, Touched}
 
 noUnit : Unit
 noUnit = record { row = 0; address = 0; size = 0 }

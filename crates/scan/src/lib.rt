@@ -8,7 +8,7 @@ ghost use lib.ListN.{length, take};
 ghost use Rattle.bits.specs.Flat.{flat};
 ghost use Rattle.bits.specs.Share.{getShare};
 ghost use Rattle.rules.specs.Units.{unitsFrom};
-ghost use Rattle.tracker.specs.Scan.{Stands, NextIs, RangesEnd, Lists};
+ghost use Rattle.scan.specs.Scan.{Stands, NextIs, RangesEnd, Lists};
 
 // A run: its row, the row's first unit, its own first unit and the unit just past it.
 pub struct Run {

@@ -1,10 +1,10 @@
 use borrow.Author.Needs.{needs}
-use Rattle.tracker.proofs.NoteLaws.{touched-before, touched-to, touched-after, touched-span}
-use Rattle.tracker.proofs.marking.touched.Statement.{statement}
-use Rattle.tracker.proofs.marking.touched.Tie as tie
-use Rattle.tracker.proofs.marking.touched.Reads as reads
-use Rattle.tracker.proofs.marking.touched.Lts as lts
-use Rattle.tracker.proofs.marking.one_more.Reads as one-more-reads
+use Rattle.marking.proofs.NoteLaws.{touched-before, touched-to, touched-after, touched-span}
+use Rattle.marking.proofs.touched.Statement.{statement}
+use Rattle.marking.proofs.touched.Tie as tie
+use Rattle.marking.proofs.touched.Reads as reads
+use Rattle.marking.proofs.touched.Lts as lts
+use Rattle.marking.proofs.one_more.Reads as one-more-reads
 
 -- src/note.rt:31:9
 returns : tie.Need-returns

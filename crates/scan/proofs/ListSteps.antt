@@ -26,8 +26,8 @@ use Rattle.rules.specs.declared.Range.{Range}
 use Rattle.rules.proofs.ListLaws.{join-take-drop}
 use Rattle.rules.proofs.RunLaws.{runs-join}
 use Rattle.rules.proofs.ScanLaws.{clearBefore, clearFirst-clearBefore, descriptor-row}
-use Rattle.tracker.specs.Scan.{rowOf, addressAt, Stands, RunFound, RangesEnd, Lists}
-use Rattle.tracker.proofs.ScanSteps.{stands-start, stands-end}
+use Rattle.scan.specs.Scan.{rowOf, addressAt, Stands, RunFound, RangesEnd, Lists}
+use Rattle.scan.proofs.ScanSteps.{stands-start, stands-end}
 
 -- ---- the marks with all before a place clear
 

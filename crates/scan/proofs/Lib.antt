@@ -1,0 +1,2 @@
+pub mod ScanSteps
+pub mod ListSteps
