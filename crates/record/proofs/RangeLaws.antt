@@ -188,12 +188,15 @@ module _ (s : Settings) (g n : ℕ) (rs : List Range) where
   pub listTests-done : passes (rangeTests g n rs) ≡ true → powersOk s rs ≡ true → sum (map (λ (r : Range). r .length) rs) ≤ 4096 → refusal (listTests s g n rs) ≡ 0
   listTests-done e f h = listTests-refusal ∙ rw (e, f, unitsOk-sum g rs, le-leb (sum (map (λ (r : Range). r .length) rs)) 4096 h)
 
+  -- no test has the number 0
+  pub listTests-numbers : All (λ (t : Test). 1 ≤ t .number) (listTests s g n rs)
+  listTests-numbers =
+      All-append (λ (t : Test). 1 ≤ t .number) (rangeTests g n rs) ((powersOk s rs else 10) ∷ (unitsOk g rs else 11) ∷ [])
+      (All-map (λ t e. omega arith) (rangeTests g n rs) (rangeTests-number g n rs)) (omega arith, (omega arith, tt))
+
   -- the answer 0 says that all are passed
   pub listTests-none : (k : ℕ) → k ≡ refusal (listTests s g n rs) → eqb k 0 ≡ passes (listTests s g n rs)
-  listTests-none k e =
-      rw e (refusal-none (listTests s g n rs)
-      (All-append (λ (t : Test). 1 ≤ t .number) (rangeTests g n rs) ((powersOk s rs else 10) ∷ (unitsOk g rs else 11) ∷ [])
-      (All-map (λ t e. omega arith) (rangeTests g n rs) (rangeTests-number g n rs)) (omega arith, (omega arith, tt))))
+  listTests-none k e = rw e (refusal-none (listTests s g n rs) listTests-numbers)
 
 -- ---- what ranges that pass 9, 10 and 11 at a granularity that passes 7 are known by
 

@@ -24,6 +24,17 @@ module _ {A : Type 0} (P : A → Type 0) (refuse : ℕ → ℕ → A) where
       go true e ih = ih (λ h. f (e, h))
       go false e ih = bad (t .number) (t .place)
 
+-- two verdicts over one table are related where their ends are, and what they make of a refusal
+pub verdict-both : {A B : Type 0} (R : A → B → Type 0) (ts : List Test) (a : A) (b : B) (f : ℕ → ℕ → A) (g : ℕ → ℕ → B)
+    → All (λ (t : Test). 1 ≤ t .number) ts → ((n i : ℕ) → 1 ≤ n → R (f n i) (g n i)) → (Passed ts → R a b) → R (verdict ts a f) (verdict ts b g)
+verdict-both R [] a b f g h r p = p tt
+verdict-both R (t ∷ ts) a b f g h r p = go (t .ok) refl (verdict-both R ts a b f g (h .1) r)
+  where
+    go : (c : Bool) → t .ok ≡ c → ((Passed ts → R a b) → R (verdict ts a f) (verdict ts b g))
+        → R (cond c (verdict ts a f) (f (t .number) (t .place))) (cond c (verdict ts b g) (g (t .number) (t .place)))
+    go true e ih = ih (λ q. p (e, q))
+    go false e ih = r (t .number) (t .place) (h .0)
+
 -- one table after another
 pub verdict-append : {A : Type 0} (ts us : List Test) (done : A) (refuse : ℕ → ℕ → A) → verdict (ts ++ us) done refuse ≡ verdict ts (verdict us done refuse) refuse
 verdict-append [] us done refuse = refl
@@ -95,3 +106,32 @@ refusal-none (t ∷ ts) h = go (t .ok) (refusal-none ts (h .1))
     go : (b : Bool) → eqb (refusal ts) 0 ≡ passes ts → eqb (cond b (refusal ts) (t .number)) 0 ≡ (b && passes ts)
     go true e = e
     go false e = ne-eqb (t .number) 0 (λ z. absurd (omega (arith, h .0)))
+
+-- ---- tables one after another
+
+-- where the first part refuses, the whole does so with the same number
+pub refusal-first : (ts us : List Test) → refusal ts ≢ 0 → refusal (ts ++ us) ≡ refusal ts
+refusal-first [] us h = absurd (h refl)
+refusal-first (t ∷ ts) us h = go (t .ok) (refusal-first ts us) h
+  where
+    go : (b : Bool) → (refusal ts ≢ 0 → refusal (ts ++ us) ≡ refusal ts) → cond b (refusal ts) (t .number) ≢ 0 → cond b (refusal (ts ++ us)) (t .number) ≡ cond b (refusal ts) (t .number)
+    go true ih h = ih h
+    go false ih h = refl
+
+-- where it is passed, the rest answers
+pub refusal-rest : (ts us : List Test) → passes ts ≡ true → refusal (ts ++ us) ≡ refusal us
+refusal-rest ts us e = go ts (passes-Passed ts e)
+  where
+    go : (ts : List Test) → Passed ts → refusal (ts ++ us) ≡ refusal us
+    go [] h = refl
+    go (t ∷ ts) h = rw (h .0) (go ts (h .1))
+
+-- a table that answers a number refuses with it
+pub verdict-number : {A : Type 0} (ts : List Test) (done : A) (f : ℕ → A) → refusal ts ≢ 0 → verdict ts done (λ n i. f n) ≡ f (refusal ts)
+verdict-number [] done f h = absurd (h refl)
+verdict-number (t ∷ ts) done f h = go (t .ok) (verdict-number ts done f) h
+  where
+    go : (b : Bool) → (refusal ts ≢ 0 → verdict ts done (λ n i. f n) ≡ f (refusal ts)) → cond b (refusal ts) (t .number) ≢ 0
+        → cond b (verdict ts done (λ n i. f n)) (f (t .number)) ≡ f (cond b (refusal ts) (t .number))
+    go true ih h = ih h
+    go false ih h = refl

@@ -23,53 +23,18 @@ use Rattle.rules.specs.declared.Settings.{Settings}
 use Rattle.rules.specs.declared.Tracking.the-variants.{Off, On}
 use Rattle.rules.specs.declared.Header.{Header}
 use Rattle.rules.specs.declared.Header.the-variants as header
-use Rattle.rules.proofs.ListLaws.{All, All-append, All-map}
-use Rattle.rules.proofs.RefusalLaws.{Passed, passes-Passed, refusal-none, verdict-passed}
+use Rattle.rules.proofs.ListLaws.{All, All-append}
+use Rattle.rules.proofs.RefusalLaws.{Passed, passes-Passed, refusal-first, refusal-rest, refusal-none, verdict-passed, verdict-number}
 use Rattle.rules.proofs.OrderLaws.{StartPassed}
 use Rattle.rules.proofs.StartLaws.{rangesOf-length}
 use Rattle.record.specs.Record.{noController, withController, whereIs, seenIn, countsOf}
 use Rattle.record.specs.declared.Place.the-variants.{At, Refused}
 use Rattle.record.proofs.RecordLaws.{Located, whereIs-at, whereIs-refused}
-use Rattle.record.proofs.RangeLaws.{rangeTests-number}
+use Rattle.record.proofs.RangeLaws.{listTests-numbers}
 use Rattle.start_data.specs.Answer.{headerNumber}
 use Rattle.start_data.proofs.Answers.{headerOf-is, HeaderIs, headerOf-refused, HeaderRefused, noHeader, otherVersion}
 use Rattle.tracker.specs.Calls.{Change, changed, withClear, shareAt, startDone, startChange}
 use Rattle.tracker.specs.Inner.{listedTests}
-
--- ---- tables one after another
-
--- where the first part refuses, the whole does so with the same number
-refusal-first : (ts us : List Test) → refusal ts ≢ 0 → refusal (ts ++ us) ≡ refusal ts
-refusal-first [] us h = absurd (h refl)
-refusal-first (t ∷ ts) us h = go (t .ok) (refusal-first ts us) h
-  where
-    go : (b : Bool) → (refusal ts ≢ 0 → refusal (ts ++ us) ≡ refusal ts) → cond b (refusal ts) (t .number) ≢ 0 → cond b (refusal (ts ++ us)) (t .number) ≡ cond b (refusal ts) (t .number)
-    go true ih h = ih h
-    go false ih h = refl
-
--- where it is passed, the rest answers
-refusal-rest : (ts us : List Test) → passes ts ≡ true → refusal (ts ++ us) ≡ refusal us
-refusal-rest ts us e = go ts (passes-Passed ts e)
-  where
-    go : (ts : List Test) → Passed ts → refusal (ts ++ us) ≡ refusal us
-    go [] h = refl
-    go (t ∷ ts) h = rw (h .0) (go ts (h .1))
-
--- a table that answers a number refuses with it
-verdict-number : {A : Type 0} (ts : List Test) (done : A) (f : ℕ → A) → refusal ts ≢ 0 → verdict ts done (λ n i. f n) ≡ f (refusal ts)
-verdict-number [] done f h = absurd (h refl)
-verdict-number (t ∷ ts) done f h = go (t .ok) (verdict-number ts done f) h
-  where
-    go : (b : Bool) → (refusal ts ≢ 0 → verdict ts done (λ n i. f n) ≡ f (refusal ts)) → cond b (refusal ts) (t .number) ≢ 0
-        → cond b (verdict ts done (λ n i. f n)) (f (t .number)) ≡ f (cond b (refusal ts) (t .number))
-    go true ih h = ih h
-    go false ih h = refl
-
--- no test of a start has the number 0
-list-numbers : (s : Settings) (g n : ℕ) (rs : List Range) → All (λ (t : Test). 1 ≤ t .number) (listTests s g n rs)
-list-numbers s g n rs =
-    All-append (λ (t : Test). 1 ≤ t .number) (rangeTests g n rs) ((powersOk s rs else 10) ∷ (unitsOk g rs else 11) ∷ [])
-    (All-map (λ t e. omega arith) (rangeTests g n rs) (rangeTests-number g n rs)) (omega arith, (omega arith, tt))
 
 -- ---- 7 and what follows it
 
@@ -107,7 +72,7 @@ module _ (s : Settings) (counts : ℕ) (x : List ℕ) (g n : ℕ) (e : headerOf 
         module _ (q : 0 ≡ refusal (listTests s g n (take n (placed (recordsAt rangeAt 12 x 8 n))))) where
           pass : passes (listTests s g n (rangesOf x)) ≡ true
           pass =
-              sym (refusal-none (listTests s g n (rangesOf x)) (list-numbers s g n (rangesOf x)))
+              sym (refusal-none (listTests s g n (rangesOf x)) (listTests-numbers s g n (rangesOf x)))
               ∙ eq-eqb (refusal (listTests s g n (rangesOf x))) 0 (sym (q ∙ ap (λ rs. refusal (listTests s g n rs)) ranges-read))
 
           last : refusal (listedTests s counts x) ≡ refusal ((leb (n + counts) (s .limit) else 12) ∷ [])
@@ -131,7 +96,7 @@ module _ (s : Settings) (counts : ℕ) (x : List ℕ) (g n : ℕ) (e : headerOf 
         (
           omega arith,
           All-append (λ (t : Test). 1 ≤ t .number) (listTests s (granularityOf x) (countOf x) (rangesOf x)) ((leb (countOf x + counts) (s .limit) else 12) ∷ [])
-              (list-numbers s (granularityOf x) (countOf x) (rangesOf x)) (omega arith, tt),
+              (listTests-numbers s (granularityOf x) (countOf x) (rangesOf x)) (omega arith, tt),
         ),
       )
 
