@@ -1,5 +1,5 @@
 -- A record and its marks, seen as a device of the rules (rules' `State`); and the calls of `tracker`, seen as calls of the rules.
-use Prim.Native.Nat.{ℕ, zero, suc}
+use Prim.Native.Nat.{ℕ, suc}
 use mathlib.Core.Bool.{cond}
 use mathlib.Core.List.{List, [], _∷_}
 use lib.Dec.{eqb}
@@ -14,6 +14,7 @@ use Rattle.rules.specs.declared.Tracking.{Tracking}
 use Rattle.rules.specs.declared.Tracking.the-variants.{Off, On}
 use Rattle.rules.specs.declared.Controller.{Controller}
 use Rattle.rules.specs.declared.Device.{Device}
+use Rattle.tracker.specs.declared.Changed.{Changed}
 use Rattle.tracker.specs.Calls.{shareAt, marksAt, Change, startChange, stopChange, suspendChange, resumeChange, Note, writeNote, Receipt, receiveReceipt}
 
 -- ---- a record and its marks
@@ -46,25 +47,29 @@ pub record Outcome : Type 0 where
 abbrev pub answered : ℕ → Answer → Answer
 answered n a = cond (eqb n 0) a (refused n)
 
-abbrev pub changes : Change → List ℕ → Outcome
-changes c x = record { answer = answered (c .answer .number) done; device = c .answer .device; marks = c .marks; bytes = x }
+-- what a call that may change the record comes to, with what was lent with it
+abbrev pub changes : List ℕ → Change → Outcome
+changes x c = record { answer = answered (c .answer .number) done; device = c .answer .device; marks = c .marks; bytes = x }
+
+-- suspend and resume leave the marks as they were
+abbrev pub flags : List ℕ → Changed → Outcome
+flags ws c = record { answer = answered (c .number) done; device = c .device; marks = ws; bytes = [] }
+
+-- a write and a receive leave the record as it was
+abbrev pub notes : Device → Note → Outcome
+notes d n = record { answer = answered (n .answer .number) (wrote (n .answer .count)); device = d; marks = n .marks; bytes = [] }
+
+abbrev pub receipts : Device → Receipt → Outcome
+receipts d r = record { answer = answered (r .answer .number) (reported (r .report)); device = d; marks = r .marks; bytes = r .buffer }
 
 -- the calls of `tracker`, on a record and marks
+abbrev pub runAs : Device → List ℕ → ℕ → Op → Outcome
+runAs d ws id (start x) = changes x (startChange d ws id x)
+runAs d ws id stop = changes [] (stopChange d ws id)
+runAs d ws id (write w) = notes d (writeNote d ws id w)
+runAs d ws id (receive x) = receipts d (receiveReceipt d ws id x)
+runAs d ws id (suspend kind) = flags ws (suspendChange d (length ws) id kind)
+runAs d ws id resume = flags ws (resumeChange d (length ws) id)
+
 unfoldable pub run : Device → List ℕ → Call → Outcome
-run d ws k = go (k .op)
-  where
-    go : Op → Outcome
-    go (start x) = changes (startChange d ws (k .id) x) x
-    go stop = changes (stopChange d ws (k .id)) []
-    go (write w) =
-        let n = writeNote d ws (k .id) w in
-        record { answer = answered (n .answer .number) (wrote (n .answer .count)); device = d; marks = n .marks; bytes = [] }
-    go (receive x) =
-        let r = receiveReceipt d ws (k .id) x in
-        record { answer = answered (r .answer .number) (reported (r .report)); device = d; marks = r .marks; bytes = r .buffer }
-    go (suspend kind) =
-        let c = suspendChange d (length ws) (k .id) kind in
-        record { answer = answered (c .number) done; device = c .device; marks = ws; bytes = [] }
-    go resume =
-        let c = resumeChange d (length ws) (k .id) in
-        record { answer = answered (c .number) done; device = c .device; marks = ws; bytes = [] }
+run d ws k = runAs d ws (k .id) (k .op)
