@@ -1,3 +1,6 @@
 pub mod MarkLaws
 pub mod ViewLaws
 pub mod StepLaws
+pub mod SessionLaws
+pub mod AnswerLaws
+pub mod Theorems

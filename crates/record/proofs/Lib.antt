@@ -1,4 +1,5 @@
 pub mod LoopLaws
 pub mod SettingsLaws
+pub mod PowerLaws
 pub mod RangeLaws
 pub mod RecordLaws

@@ -1,24 +1,23 @@
--- Laws of the range rules as the code tests them. Assumes nothing.
-use Prim.Native.Nat.{ℕ, zero, suc, _+_, _-_, _*_, _/_, _%_, _^_, _<_, _≤_}
-use mathlib.Core.Path.{_≡_, refl, ap, sym, subst, _∙_}
-use mathlib.Core.Bool.{Bool, true, false, _&&_, _||_, not, cond, and-true, and-false, or-comm, true≢false}
+-- Laws of the range rules (9, 10 and 11) as the code asks them: one range, two ranges, each rule of the table, the answer; and what ranges that
+-- pass are known by (`RowFacts`, `HeldFacts`). All of it is the library's interface. Assumes nothing.
+use Prim.Native.Nat.{ℕ, suc, _+_, _-_, _%_, _^_, _<_, _≤_}
+use mathlib.Core.Path.{_≡_, refl, sym, _∙_}
+use mathlib.Core.Bool.{true, false, cond, and-true, and-false, or-comm}
 use mathlib.Core.List.{List, [], _∷_, _++_, map}
 use native.Mathlib.Omega.{arith}
-use native.Mathlib.Decide.{decLe}
-use native.Mathlib.Nat.{mul-pos, lt-of-lt-of-le, lt-of-not-le, pow-suc}
+use native.Mathlib.Nat.{mul-pos, lt-of-lt-of-le}
 use lib.Dec.{leb, eqb}
 use lib.ListN.{length, getD}
-use lib.Pow.{pow-pos, pow-mono, shl-lt, shr-lt}
-use lib.Count.{trailingZeros, under}
+use lib.Pow.{pow-pos, pow-mono, shl-lt}
 use borrow.Author.Tests.{leb-true, le-leb, lt-leb, eqb-true, eq-eqb, ne-eqb}
-use Rattle.rules.specs.Lists.{all, every, pairs, sum, someBelow}
+use Rattle.rules.specs.Lists.{all, every, pairs, sum}
 use Rattle.rules.specs.Refusals.{Test, _else_, passes, refusal}
 use Rattle.rules.specs.Settings.{granularityOk, unitSize, bytesOf}
 use Rattle.rules.specs.Units.{units}
 use Rattle.rules.specs.Ranges.{endOf, rowTests, rowsTests, apart, rangeTests, isPower, powersOk, unitsOk, listTests}
 use Rattle.rules.specs.declared.Range.{Range}
 use Rattle.rules.specs.declared.Settings.{Settings}
-use Rattle.rules.proofs.ListLaws.{All, All-map, All-append, or-intro-left, or-intro-right, or-cases, bool-ext, every-not}
+use Rattle.rules.proofs.ListLaws.{All, All-map, All-append, or-intro-left, or-cases, bool-ext, every-not}
 use Rattle.rules.proofs.RefusalLaws.{Passed, Passed-left, Passed-right, refusal-alike, refusal-none, passes-all, passes-append, passes-Passed}
 use Rattle.rules.proofs.UnitLaws.{unitsFrom-length}
 use Rattle.record.proofs.SettingsLaws.{granularityOk-greatest}
@@ -35,6 +34,7 @@ bytesOf-pos g u h = mul-pos h (pow-pos (12 + g))
 
 -- ---- one range
 
+-- two orders that say each other are one test
 pub leb-ext : (a b c d : ℕ) → (a ≤ b → c ≤ d) → (c ≤ d → a ≤ b) → leb a b ≡ leb c d
 leb-ext a b c d f g = bool-ext (leb a b) (leb c d) (λ e. le-leb c d (f (leb-true a b e))) (λ e. le-leb a b (g (leb-true c d e)))
 
@@ -83,53 +83,9 @@ apart-first g r q b e h k =
 pub apart-last : (g : ℕ) (r q : Range) (b : ℕ) → b ≡ bytesOf g (q .length) → 1 ≤ r .length → q .start < r .start → leb b (r .start - q .start) ≡ apart g r q
 apart-last g r q b e h k = apart-first g q r b e h (omega arith) ∙ or-comm (leb (endOf g q) (r .start)) (leb (endOf g r) (q .start))
 
--- ---- powers of two
+-- ---- 10
 
-pub someBelow-hit : (n : ℕ) (p : ℕ → Bool) (k : ℕ) → k < n → p k ≡ true → someBelow n p ≡ true
-someBelow-hit zero p k h e = absurd (omega arith)
-someBelow-hit (suc n) p k h e = go (decLe n k) (λ l. someBelow-hit n p k l e)
-  where
-    go : Dec (n ≤ k) → (k < n → someBelow n p ≡ true) → someBelow (suc n) p ≡ true
-    go (yes l) f = let z : k ≡ n = omega arith in or-intro-left (p n) (someBelow n p) (subst (λ i. p i ≡ true) z e)
-    go (no l) f = or-intro-right (p n) (someBelow n p) (f (lt-of-not-le l))
-
-pub someBelow-is : (n : ℕ) (p : ℕ → Bool) → someBelow n p ≡ true → (k : ℕ) × (k < n) × (p k ≡ true)
-someBelow-is zero p e = absurd (true≢false (sym e))
-someBelow-is (suc n) p e =
-    or-cases (p n) (someBelow n p) ((k : ℕ) × (k < suc n) × (p k ≡ true)) e
-    (λ f. (n, omega arith, f))
-    (λ f. let r = someBelow-is n p f in (r .0, omega (arith, r .1), r .2))
-
--- a power's trailing zeros
-pub trailing-power : (k j : ℕ) → j < k → trailingZeros k (2 ^ j) ≡ j
-unfolding trailingZeros
-trailing-power zero j h = absurd (omega arith)
-trailing-power (suc k) zero h = refl
-trailing-power (suc k) (suc j) h =
-    let even : 2 ^ suc j % 2 ≡ 0 = omega (arith, pow-suc 2 j) in
-    let half : 2 ^ suc j / 2 ≡ 2 ^ j = omega (arith, pow-suc 2 j) in
-    rw (even, half) (ap suc (trailing-power k j (omega arith)))
-
--- a number of k digits that is not 0 has fewer than k
-pub trailing-below : (k n : ℕ) → 0 < n → n < 2 ^ k → trailingZeros k n < k
-unfolding trailingZeros
-trailing-below zero n h l = absurd (omega arith)
-trailing-below (suc k) n h l = go (n % 2) refl (trailing-below k (n / 2))
-  where
-    go : (d : ℕ) → n % 2 ≡ d → (0 < n / 2 → n / 2 < 2 ^ k → trailingZeros k (n / 2) < k) → under d (trailingZeros k (n / 2)) < suc k
-    go zero e f = omega (arith, f (omega arith) (omega (arith, pow-suc 2 k)))
-    go (suc d) e f = omega arith
-
--- a length is a power of two exactly if it is the power of its trailing zeros
-pub isPower-trailing : (n : ℕ) → trailingZeros 32 n < 32 → isPower n ≡ eqb n (2 ^ trailingZeros 32 n)
-isPower-trailing n h =
-    bool-ext (isPower n) (eqb n (2 ^ trailingZeros 32 n))
-    (λ e. let w = someBelow-is 32 (λ k. eqb n (2 ^ k)) e in
-    let q : n ≡ 2 ^ w .0 = eqb-true n (2 ^ w .0) (w .2) in
-    eq-eqb n (2 ^ trailingZeros 32 n) (q ∙ ap (λ k. 2 ^ k) (sym (ap (trailingZeros 32) q ∙ trailing-power 32 (w .0) (w .1)))))
-    (λ e. someBelow-hit 32 (λ k. eqb n (2 ^ k)) (trailingZeros 32 n) h e)
-
--- 10, where the rule is off and where it is on
+-- where the rule is off, and where it is on
 pub powersOk-off : (s : Settings) (rs : List Range) → s .powers ≡ false → powersOk s rs ≡ true
 unfolding powersOk
 powersOk-off s rs e = rw e
@@ -200,9 +156,10 @@ module _ (s : Settings) (g n : ℕ) (rs : List Range) where
 
 -- ---- what ranges that pass 9, 10 and 11 at a granularity that passes 7 are known by
 
+-- the granularity passes 7 and is small; there are some ranges, and few; each passes 9 by itself; no two share a unit; 10; 11
 pub record HeldFacts (s : Settings) (g n : ℕ) (rs : List Range) : Type 0 where
   pub granularity : granularityOk s g ≡ true
-  pub fine : g ≤ 20
+  pub small : g ≤ 20
   pub some : 1 ≤ n
   pub few : n ≤ 16
   pub rows : All (RowFacts g) rs
@@ -222,7 +179,7 @@ module _ (s : Settings) (g n : ℕ) (rs : List Range) where
       let rest = Passed-right (rangeTests g n rs) ((powersOk s rs else 10) ∷ (unitsOk g rs else 11) ∷ []) p in
       record {
         granularity = e;
-        fine = omega (arith, granularityOk-greatest s g e);
+        small = omega (arith, granularityOk-greatest s g e);
         some = leb-true 1 n (nine .0);
         few = leb-true n 16 (nine .1 .0);
         rows = rowsTests-facts g 0 rs (Passed-left (rowsTests g 0 rs) ((pairs (apart g) rs else 9) ∷ []) (nine .1 .1));

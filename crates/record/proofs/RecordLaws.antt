@@ -2,14 +2,14 @@
 -- interface. Assumes nothing.
 use Prim.Native.Nat.{ℕ, _+_, _<_, _≤_, min}
 use mathlib.Core.Path.{_≡_, refl, ap, sym, _∙_}
-use mathlib.Core.Bool.{Bool, true, false, _&&_, cond, and-true, and-false}
-use mathlib.Core.List.{List, [], _∷_, map}
+use mathlib.Core.Bool.{Bool, true, false, cond, and-true, and-false}
+use mathlib.Core.List.{List, _∷_, map}
 use mathlib.Core.Option.{Option, none, some}
 use native.Mathlib.Omega.{arith}
 use lib.ListN.{length, getD, take, drop, length-take}
 use lib.Dec.{leb, eqb}
 use borrow.Author.Tests.{eqb-true, eq-eqb, ne-eqb}
-use Rattle.rules.specs.Lists.{all, sum, placeFrom, isSome}
+use Rattle.rules.specs.Lists.{all, sum, isSome}
 use Rattle.rules.specs.Refusals.{Test, _else_, verdict, passes}
 use Rattle.rules.specs.Settings.{identifiersOf, settingsOk, placeOf, granularityOk}
 use Rattle.rules.specs.Ranges.{listTests}
@@ -18,7 +18,6 @@ use Rattle.rules.specs.declared.Range.{Range}
 use Rattle.rules.specs.declared.Tracking.{Tracking}
 use Rattle.rules.specs.declared.Tracking.the-variants.{Off, On}
 use Rattle.rules.specs.declared.Settings.{Settings}
-use Rattle.rules.specs.declared.Controller.{Controller}
 use Rattle.rules.specs.declared.Device.{Device}
 use Rattle.rules.proofs.ListLaws.{every-not, all-map, and-left, and-right, placeFrom-is, front-at, front-end}
 use Rattle.rules.proofs.RefusalLaws.{passes-Passed}
@@ -152,7 +151,8 @@ whereIs-refused d words id n e ts done refuse = go (soundWith d words) (placeOf 
     go true none e = let z : 2 ≡ n = cc in ap (λ k. refuse k 0) z
     go true (some i) e = let z : _≡_ {A = ℕ} 0 1 = cc in absurd (omega arith)
 
--- what is known where a place was found
+-- what is known where a place was found: the record is sound and the marks are 512 words, together and each by itself; the identifier stands
+-- there in the settings; the place is one of 8, and in use
 pub record Located (d : Device) (words id i : ℕ) : Type 0 where
   pub seen : soundWith d words ≡ true
   pub sound : soundDevice d ≡ true
@@ -161,15 +161,15 @@ pub record Located (d : Device) (words id i : ℕ) : Type 0 where
   pub below : i < 8
   pub used : i < d .settings .count
 
-found-at : (b : Bool) (p : Option ℕ) (i : ℕ) → cond b (placeAt p) (Refused 1) ≡ At i → (b ≡ true) × (p ≡ some i)
-found-at true (some j) i e = let z : j ≡ i = cc in (refl, ap some z)
-found-at true none i e = let z : _≡_ {A = ℕ} 0 1 = cc in absurd (omega arith)
-found-at false p i e = let z : _≡_ {A = ℕ} 0 1 = cc in absurd (omega arith)
+placeAt-at : (b : Bool) (p : Option ℕ) (i : ℕ) → cond b (placeAt p) (Refused 1) ≡ At i → (b ≡ true) × (p ≡ some i)
+placeAt-at true (some j) i e = let z : j ≡ i = cc in (refl, ap some z)
+placeAt-at true none i e = let z : _≡_ {A = ℕ} 0 1 = cc in absurd (omega arith)
+placeAt-at false p i e = let z : _≡_ {A = ℕ} 0 1 = cc in absurd (omega arith)
 
 pub whereIs-at : (d : Device) (words id i : ℕ) → whereIs d words id ≡ At i → Located d words id i
 unfolding whereIs soundWith placeOf
 whereIs-at d words id i e =
-    let w = found-at (soundWith d words) (placeOf (d .settings) id) i e in
+    let w = placeAt-at (soundWith d words) (placeOf (d .settings) id) i e in
     let s = and-left (soundDevice d) (eqb words 512) (w .0) in
     let m = placeFrom-is (identifiersOf (d .settings)) 0 id i (w .1) in
     let used : i < d .settings .count = omega (arith, m .1, m .2, length-take (d .settings .count) (d .settings .identifiers)) in

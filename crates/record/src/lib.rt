@@ -1,4 +1,5 @@
-// Checks of the device record: settings, ranges, soundness, and where a call finds its controller.
+// Checks of the device record: settings, ranges, soundness, and where a call finds its controller. What is public is the library's interface.
+// settings_ok, find, granularity_ok, sound and locate take any values whatever; the others say what they require. No sum here can wrap.
 use rules::Bytes;
 use rules::Controller;
 use rules::Device;
@@ -14,7 +15,6 @@ ghost use mathlib.Core.List.{map};
 ghost use Rattle.rules.specs.Lists.{all, pairs, different, member, sum};
 ghost use Rattle.rules.specs.Refusals.{passes, refusal};
 ghost use Rattle.rules.specs.Settings.{identifiersOf, settingsOk, placeOf, granularityOk, unitSize, bytesOf};
-ghost use Rattle.rules.specs.Units.{units};
 ghost use Rattle.rules.specs.Ranges.{rowTests, apart, isPower, powersOk, listTests};
 ghost use Rattle.rules.specs.Device.{heldOf, heldOk, heldCount, controllersOf, soundDevice};
 ghost use Rattle.record.specs.Record.{foundAt, countsOf, whereIs};
@@ -33,14 +33,14 @@ pub enum Place {
 
 // ---- settings
 
-// How many identifiers there are: as many as are counted, and at most 8.
+// How many identifiers there are: as many as the settings count, and at most 8.
 fn listed(count: usize) -> usize
     ensures { λ r. ⌜ r ≡ min count 8 ⌝ }
 {
     if count < 8 { count } else { 8 }
 }
 
-// Where an identifier stands in the settings, whatever they are.
+// Where an identifier stands in the settings: the earliest place, or nothing.
 pub fn find(s: Settings, id: u16) -> Found
     ensures { λ r. ⌜ r ≡ foundAt (placeOf s id) ⌝ }
 {
@@ -53,14 +53,14 @@ pub fn find(s: Settings, id: u16) -> Found
     Found::Nothing
 }
 
-// Whether `id` is among the identifiers from a place on.
-fn among(s: Settings, id: u16, from: usize) -> bool
+// Whether `x` is among the identifiers from a place on.
+fn among(s: Settings, x: u16, from: usize) -> bool
     requires { ⌜ s .count ≤ 8 ⌝ }
-    ensures { λ r. ⌜ r ≡ member id (drop from (identifiersOf s)) ⌝ }
+    ensures { λ r. ⌜ r ≡ member x (drop from (identifiersOf s)) ⌝ }
 {
     let n = s.count;
     for i in from..n {
-        if s.identifiers[i] == id {
+        if s.identifiers[i] == x {
             return true;
         }
     }
@@ -81,7 +81,7 @@ fn all_different(s: Settings) -> bool
     true
 }
 
-// Whether settings, whatever they are, pass 16.
+// Whether settings pass 16. The cheap rules are asked first; which one is broken makes no difference.
 pub fn settings_ok(s: Settings) -> bool
     ensures { λ r. ⌜ r ≡ settingsOk s ⌝ }
 {
@@ -106,7 +106,7 @@ pub fn settings_ok(s: Settings) -> bool
     all_different(s)
 }
 
-// Whether a granularity passes 7 under the settings, whatever they are.
+// Whether a granularity passes 7: not below the settings' least, and not above their greatest.
 pub fn granularity_ok(s: Settings, g: u8) -> bool
     ensures { λ r. ⌜ r ≡ granularityOk s g ⌝ }
 {
@@ -118,7 +118,7 @@ pub fn granularity_ok(s: Settings, g: u8) -> bool
 
 // ---- ranges
 
-// The bytes of a unit.
+// The bytes of a unit: 2^g times 4 KiB.
 pub fn unit_size(g: u8) -> u64
     requires { ⌜ g ≤ 20 ⌝ }
     ensures { λ r. ⌜ r ≡ unitSize g ⌝ }
@@ -126,7 +126,7 @@ pub fn unit_size(g: u8) -> u64
     1u64 << (12 + g)
 }
 
-// A length in units, in bytes: the one function that converts.
+// A length in units, in bytes: the one function of the granularity that converts. Every length in bytes in this crate comes from it.
 pub fn bytes_of(g: u8, u: Units) -> Bytes
     requires { ⌜ (g ≤ 20) × (u .0 < 4294967296) ⌝ }
     ensures { λ r. ⌜ r .0 ≡ bytesOf g (u .0) ⌝ }
@@ -149,7 +149,8 @@ fn bytes_in(g: u8, r: Range) -> Bytes
     bytes_of(g, units_of(r))
 }
 
-// Whether a range by itself passes 9. Its last byte is held to the last address, so that no sum can wrap.
+// Whether a range by itself passes 9: some units, from a multiple of the unit on, that end at most at 2^64. Its last byte is held to the last
+// address, so that no sum can wrap.
 fn range_ok(g: u8, r: Range) -> bool
     requires { ⌜ g ≤ 20 ⌝ }
     ensures { λ x. ⌜ x ≡ passes (rowTests g 0 r) ⌝ }
@@ -177,7 +178,7 @@ fn ranges_ok(g: u8, n: usize, ranges: [Range; 16]) -> bool
     true
 }
 
-// Whether two ranges share no unit, by the distance of their starts.
+// Whether two ranges of some units share none: the one that starts first is no longer than the distance of the starts.
 fn are_apart(g: u8, r: Range, q: Range) -> bool
     requires { ⌜ (g ≤ 20) × (1 ≤ r .length) × (1 ≤ q .length) ⌝ }
     ensures { λ x. ⌜ x ≡ apart g r q ⌝ }
@@ -206,7 +207,7 @@ fn all_apart(g: u8, n: usize, ranges: [Range; 16]) -> bool
     true
 }
 
-// Whether a length is a power of two: its lowest set bit is all of it.
+// Whether a range's length is a power of two: its lowest set bit is all of it.
 fn is_power(r: Range) -> bool
     ensures { λ x. ⌜ x ≡ isPower (r .length) ⌝ }
 {
@@ -217,7 +218,7 @@ fn is_power(r: Range) -> bool
     n == 1u32 << u32::trailing_zeros(n)
 }
 
-// Whether the first n ranges pass 10.
+// Whether the first n ranges pass 10: the rule is off, or each length is a power of two.
 fn powers_ok(s: Settings, n: usize, ranges: [Range; 16]) -> bool
     requires { ⌜ n ≤ 16 ⌝ }
     ensures { λ x. ⌜ x ≡ powersOk s (take n ranges) ⌝ }
@@ -246,7 +247,7 @@ fn units_in(n: usize, ranges: [Range; 16]) -> Units
     Units(total)
 }
 
-// The first of 9, 10 and 11 that n listed ranges break, or 0.
+// The refusal of n listed ranges: the first of 9, 10 and 11 that they break, or 0. Ranges past the first n are not looked at.
 pub fn list_refusal(s: Settings, g: u8, n: u8, ranges: [Range; 16]) -> u8
     requires { ⌜ g ≤ 20 ⌝ }
     ensures { λ r. ⌜ r ≡ refusal (listTests s g n (take n ranges)) ⌝ }
@@ -276,7 +277,7 @@ pub fn list_refusal(s: Settings, g: u8, n: u8, ranges: [Range; 16]) -> u8
 
 // ---- the record
 
-// How many ranges a controller holds: none where it is off, whatever stands in its places.
+// How many ranges a controller holds: none where it is off, whatever stands in its places for them.
 fn count_of(c: Controller) -> usize
     ensures { λ r. ⌜ (r ≡ heldCount (heldOf c)) × (r ≤ 255) ⌝ }
 {
@@ -287,7 +288,7 @@ fn count_of(c: Controller) -> usize
     }
 }
 
-// The counts of all controllers now tracked, together.
+// The counts of all controllers now tracked, together. At most 8 are in use.
 pub fn counts(d: Device) -> usize
     requires { ⌜ d .settings .count ≤ 8 ⌝ }
     ensures { λ r. ⌜ (r ≡ countsOf d) × (r ≤ 8 * 255) ⌝ }
@@ -331,7 +332,8 @@ fn controllers_ok(d: Device) -> bool
     true
 }
 
-// Whether a record, whatever it is, is sound.
+// Whether a record is sound: its settings pass 16, each controller in use is off or holds what it may, and their counts are within the limit.
+// Unused places are not looked at.
 pub fn sound(d: Device) -> bool
     ensures { λ r. ⌜ r ≡ soundDevice d ⌝ }
 {
@@ -345,8 +347,8 @@ pub fn sound(d: Device) -> bool
     counts(d) <= s.limit as usize
 }
 
-// Where a call with so many mark words finds its controller. Refused with 1 where the record is unsound or the words are not 512, and then with 2
-// where the identifier is not in the settings.
+// Where a call that lends so many words of marks finds its controller. Refused, in this order: 1 where the words are not 512 or the record is
+// unsound, 2 where the identifier is not in the settings.
 pub fn locate(d: Device, words: usize, id: u16) -> Place
     ensures { λ r. ⌜ r ≡ whereIs d words id ⌝ }
 {

@@ -1,8 +1,8 @@
 -- `record::all_apart` is right because each range is compared with each after it.
 -- The outer loop's invariant: the first n are each two apart exactly if those from `i` on are; the inner one's: exactly if the range at `i` is apart from
 -- each from `j` on, and those after `i` are each two apart. The measures are how many are left.
-use mathlib.Core.Path.{_≡_, refl, sym, ap, _∙_}
-use mathlib.Core.Bool.{_&&_, true}
+use mathlib.Core.Path.{_≡_, refl, sym, _∙_}
+use mathlib.Core.Bool.{_&&_}
 use Prim.Native.Nat.{ℕ, _<_, _≤_, _-_, _+_}
 use native.Mathlib.Omega.{arith}
 use borrow.Author.Needs.{needs}
@@ -54,6 +54,7 @@ mul-are-apart c = omega arith
 array-copy-out-are-apart : tie.Need-array-copy-out-are-apart Inv-loop2 μ-loop2 Inv-loop μ-loop
 array-copy-out-are-apart c = omega arith
 
+-- each of the first n has some units
 row : (s : tie.Start Inv-loop2 μ-loop2 Inv-loop μ-loop) (k : ℕ) → k < s .args .n → k < length (s .args .t3) → 1 ≤ (getD (s .args .t3) k noRange) .length
 row s k h l =
     rowTests-facts (s .args .g) (getD (s .args .t3) k noRange)
@@ -75,7 +76,7 @@ returns c =
     let p = q .before .before .before in
     let a = p .before .args in
     let e = all-miss (apart (a .g) (getD (a .t3) (p .loop .i) noRange)) (a .t3) (a .n) (q .loop2 .j) noRange (omega arith) (omega arith) (sym (c .before .are-apart .ensures) ∙ not-true _ (c .if1 .taken)) in
-    sym (q .loop2 .inv ∙ ap (λ b. b && pairs (apart (a .g)) (drop (p .loop .i + 1) (take (a .n) (a .t3)))) e)
+    sym (q .loop2 .inv ∙ rw e)
 
 add-j-2 : tie.Need-add-j-2 Inv-loop2 μ-loop2 Inv-loop μ-loop
 add-j-2 c = omega arith
@@ -89,7 +90,7 @@ loop2-again c =
     let p = q .before .before .before in
     let a = p .before .args in
     let e = all-next (apart (a .g) (getD (a .t3) (p .loop .i) noRange)) (a .t3) (a .n) (q .loop2 .j) noRange (omega arith) (omega arith) (sym (c .before .are-apart .ensures) ∙ not-false _ (c .if1 .left)) in
-    q .loop2 .inv ∙ ap (λ b. b && pairs (apart (a .g)) (drop (p .loop .i + 1) (take (a .n) (a .t3)))) e
+    q .loop2 .inv ∙ rw e
 
 add-i : tie.Need-add-i Inv-loop2 μ-loop2 Inv-loop μ-loop
 add-i c = omega arith
@@ -103,7 +104,7 @@ loop-again c =
     let p = q .before .before .before in
     let a = p .before .args in
     let e = all-end (apart (a .g) (getD (a .t3) (p .loop .i) noRange)) (a .t3) (a .n) (q .loop2 .j) (omega arith) in
-    (p .loop .inv .0, p .loop .inv .1, q .loop2 .inv ∙ ap (λ b. b && pairs (apart (a .g)) (drop (p .loop .i + 1) (take (a .n) (a .t3)))) e)
+    (p .loop .inv .0, p .loop .inv .1, q .loop2 .inv ∙ rw e)
 
 returns-2 : tie.Need-returns-2 Inv-loop2 μ-loop2 Inv-loop μ-loop
 returns-2 c =

@@ -1,5 +1,4 @@
 -- `record::are_apart` is right because two ranges that are not empty are apart exactly if the one that starts first is no longer than the distance of the starts.
-use mathlib.Core.Path.{_≡_}
 use borrow.Author.Needs.{needs}
 use Rattle.record.proofs.RangeLaws.{apart-first, apart-last}
 use Rattle.record.proofs.are_apart.Statement.{statement}

@@ -1,5 +1,5 @@
 -- `record::bytes_in` is right because it converts the range's own length.
-use mathlib.Core.Path.{_≡_, ap, _∙_}
+use mathlib.Core.Path.{ap, _∙_}
 use borrow.Author.Needs.{needs}
 use Rattle.rules.specs.Settings.{bytesOf}
 use Rattle.record.proofs.bytes_in.Statement.{statement}

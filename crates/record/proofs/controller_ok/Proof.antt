@@ -1,5 +1,5 @@
 -- `record::controller_ok` is right because it asks nothing of a controller that is off, and 7 and then the list's rules of one that is on.
-use mathlib.Core.Path.{_≡_, sym, _∙_}
+use mathlib.Core.Path.{sym, _∙_}
 use native.Mathlib.Omega.{arith}
 use borrow.Author.Needs.{needs}
 use borrow.Author.Tests.{not-true, not-false}

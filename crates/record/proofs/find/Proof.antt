@@ -1,7 +1,7 @@
 -- `record::find` is right because the first identifier that fits answers its place.
 -- The loop's invariant: a search from `i` on finds what a search of all finds. The measure is how many identifiers are left.
 use mathlib.Core.Path.{_≡_, refl, sym, ap, _∙_}
-use Prim.Native.Nat.{_≤_, _-_, min}
+use Prim.Native.Nat.{_-_, min}
 use native.Mathlib.Omega.{arith}
 use borrow.Author.Needs.{needs}
 use lib.ListN.{length, drop}

@@ -1,13 +1,13 @@
 -- `record::is_power` is right because a power of two is the power of its trailing zeros (`isPower-trailing`), of which a length that is not 0 has fewer than 32.
 use Prim.Native.Nat.{_<_}
-use mathlib.Core.Path.{_≡_, refl, ap, sym, _∙_}
+use mathlib.Core.Path.{ap, sym, _∙_}
 use native.Mathlib.Omega.{arith}
 use native.Mathlib.Nat.{one-mul}
 use lib.Count.{trailingZeros}
 use lib.Dec.{lit<, eqb}
 use lib.Pow.{shl-exact}
 use Rattle.rules.specs.Ranges.{isPower}
-use Rattle.record.proofs.RangeLaws.{trailing-below, isPower-trailing}
+use Rattle.record.proofs.PowerLaws.{trailing-below, isPower-trailing}
 use Rattle.record.proofs.is_power.Statement.{statement}
 use Rattle.record.proofs.is_power.Tie as tie
 

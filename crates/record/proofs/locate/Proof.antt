@@ -1,5 +1,5 @@
 -- `record::locate` is right because it refuses in the order of the rule: 1 for the words and for the record, then 2; and the search's place is the answer's.
-use mathlib.Core.Path.{_≡_, sym, _∙_}
+use mathlib.Core.Path.{sym, _∙_}
 use borrow.Author.Needs.{needs}
 use borrow.Author.Tests.{not-true, not-false}
 use Rattle.record.proofs.RecordLaws.{whereIs-words, whereIs-unsound, whereIs-nothing, whereIs-found}

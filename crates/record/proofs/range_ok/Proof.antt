@@ -1,5 +1,5 @@
 -- `record::range_ok` is right because it asks the three tests of a row in their order, the last by its last byte (`rowTests-end`).
-use mathlib.Core.Path.{_≡_, sym}
+use mathlib.Core.Path.{sym}
 use native.Mathlib.Omega.{arith}
 use borrow.Author.Needs.{needs}
 use lib.Pow.{pow-pos}

@@ -1,5 +1,5 @@
 -- `record::settings_ok` is right because each test that fails is a rule that is broken, and past them all the last rule is what is left.
-use mathlib.Core.Path.{_≡_, ap, sym, _∙_}
+use mathlib.Core.Path.{ap, sym, _∙_}
 use mathlib.Core.Bool.{not}
 use native.Mathlib.Omega.{arith}
 use borrow.Author.Needs.{needs}

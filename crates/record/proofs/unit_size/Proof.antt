@@ -1,5 +1,5 @@
 -- `record::unit_size` is right because a 1 that is shifted by at most 32 places stays within 64 bits.
-use mathlib.Core.Path.{_≡_, _∙_}
+use mathlib.Core.Path.{_∙_}
 use Prim.Native.Nat.{_+_}
 use native.Mathlib.Omega.{arith}
 use native.Mathlib.Nat.{one-mul}

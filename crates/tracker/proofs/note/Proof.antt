@@ -95,7 +95,7 @@ returns-5 : tie.Need-returns-5
 returns-5 c = notes _ 0 0 _ (write-off _ _ _ _ _ (found (c .before .before .before .before .before .before)) (c .before .before .before .before .if1 .left) (omega arith) (c .enum-told2 .given .1))
 
 unit-size-requires : tie.Need-unit-size-requires
-unit-size-requires c κs = held (c .before) .fine
+unit-size-requires c κs = held (c .before) .small
 
 mul-mark-ranges : tie.Need-mul-mark-ranges
 mul-mark-ranges c = omega (arith, below (c .before .before .before .before .before .before .before .before .before .before))

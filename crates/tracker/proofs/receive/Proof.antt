@@ -95,7 +95,7 @@ returns-3 : tie.Need-returns-3
 returns-3 c = receives-nothing _ 8 _ _ _ (receive-short _ _ _ _ _ (found (c .before .before .before .before .before .before)) _ _ (c .before .before .before .t .given .1) (c .before .if1 .taken)) (c .nothing3 .ensures)
 
 unit-size-requires : tie.Need-unit-size-requires
-unit-size-requires c κs = held (c .before .before) .fine
+unit-size-requires c κs = held (c .before .before) .small
 
 mul-list-runs : tie.Need-mul-list-runs
 mul-list-runs c = omega (arith, below (c .before .before .before .before .before .before .before .before))

@@ -1,0 +1,77 @@
+-- What a call answers, by its table: the number of the first test that is not passed, and refused all is as it was. Assumes nothing.
+use mathlib.Core.Path.{_≡_, refl, ap₂, _∙_}
+use mathlib.Core.Logic.{_≢_}
+use mathlib.Core.Bool.{Bool, true, false, cond}
+use mathlib.Core.List.{List, [], _∷_}
+use mathlib.Core.Option.{Option, none, some}
+use Prim.Native.Nat.{ℕ}
+use lib.Dec.{eqb}
+use lib.ListN.{length}
+use Rattle.rules.specs.Refusals.{Test, verdict, refusal}
+use Rattle.rules.specs.Settings.{settingsOk}
+use Rattle.rules.specs.Units.{Write}
+use Rattle.rules.specs.Order.{freshOrder}
+use Rattle.rules.specs.Device.{closedDevice, freshOf}
+use Rattle.rules.specs.declared.Settings.{Settings}
+use Rattle.rules.specs.declared.Device.{Device}
+use Rattle.rules.specs.declared.Range.{Range}
+use Rattle.rules.specs.declared.Tracking.{Tracking}
+use Rattle.rules.specs.declared.Tracking.the-variants.{Off, On}
+use Rattle.rules.proofs.RefusalLaws.{verdict-has, verdict-map}
+use Rattle.record.specs.Record.{controllerAt}
+use Rattle.tracker.specs.Calls.{shareAt, freshChange, startDone, stopDone, flagDone, noteIn, writeDone, receiveIn, receiveDone}
+use Rattle.demands.specs.Demands.{Answers}
+
+-- what a table's call answers: the first test's number, and refused what is had of every refusal
+pub answers : (A : Type 0) (number : A → ℕ) (was : A → Type 0) (ts : List Test) (end : A) (refuse : ℕ → A)
+    → number end ≡ 0 → ((n : ℕ) → number (refuse n) ≡ n) → ((n : ℕ) → was (refuse n))
+    → Answers (number (verdict ts end (λ n i. refuse n))) ts (was (verdict ts end (λ n i. refuse n)))
+answers A number was ts end refuse z e w =
+    record {
+      first = verdict-map number ts end (λ n i. refuse n) ∙ same ts;
+      refused = verdict-has (λ (r : A). number r ≢ 0 → was r) (λ n i. refuse n) (λ n i h. w n) ts end (λ p h. absurd (h z));
+    }
+  where
+    same : (us : List Test) → verdict us (number end) (λ n i. number (refuse n)) ≡ refusal us
+    same [] = z
+    same (t ∷ us) = ap₂ (λ (a b : ℕ). cond (t .ok) a b) (same us) (e (t .number))
+
+pub start-zero : (d : Device) (ws x : List ℕ) (p : Option ℕ) → startDone d ws x p .answer .number ≡ 0
+start-zero d ws x none = refl
+start-zero d ws x (some i) = refl
+
+pub stop-zero : (d : Device) (ws : List ℕ) (p : Option ℕ) → stopDone d ws p .answer .number ≡ 0
+stop-zero d ws none = refl
+stop-zero d ws (some i) = refl
+
+pub flag-zero : (d : Device) (p : Option ℕ) (b : Bool) → flagDone d p b .number ≡ 0
+flag-zero d none b = refl
+flag-zero d (some i) b = refl
+
+note-zero : (ws : List ℕ) (base : ℕ) (t : Tracking) (rs : List Range) (w : Write) → noteIn ws base t rs w .answer .number ≡ 0
+note-zero ws base Off rs w = refl
+note-zero ws base (On g n) rs w = refl
+
+pub write-zero : (d : Device) (ws : List ℕ) (w : Write) (p : Option ℕ) → writeDone d ws w p .answer .number ≡ 0
+write-zero d ws w none = refl
+write-zero d ws w (some i) = note-zero ws (shareAt i) (controllerAt d (some i) .tracking) (controllerAt d (some i) .ranges) w
+
+report-zero : (ws : List ℕ) (base id : ℕ) (b : Bool) (t : Tracking) (rs : List Range) (x : List ℕ) → receiveIn ws base id b t rs x .answer .number ≡ 0
+report-zero ws base id b Off rs x = refl
+report-zero ws base id b (On g n) rs x = refl
+
+pub receive-zero : (d : Device) (ws : List ℕ) (id : ℕ) (x : List ℕ) (p : Option ℕ) → receiveDone d ws id x p .answer .number ≡ 0
+receive-zero d ws id x none = refl
+receive-zero d ws id x (some i) = report-zero ws (shareAt i) id (controllerAt d (some i) .suspended) (controllerAt d (some i) .tracking) (controllerAt d (some i) .ranges) x
+
+-- a refused fresh makes the closed device
+pub fresh-answers : (s : Settings) (ws : List ℕ)
+    → Answers (freshChange s ws .answer .number) (freshOrder s (length ws)) ((freshChange s ws .answer .device ≡ closedDevice) × (freshChange s ws .marks ≡ ws))
+unfolding freshChange freshOf
+fresh-answers s ws = go (settingsOk s) (eqb (length ws) 512) refl refl
+  where
+    go : (a b : Bool) → settingsOk s ≡ a → eqb (length ws) 512 ≡ b
+        → Answers (freshChange s ws .answer .number) (freshOrder s (length ws)) ((freshChange s ws .answer .device ≡ closedDevice) × (freshChange s ws .marks ≡ ws))
+    go true true e f = rw (e, f) (record { first = refl; refused = λ h. absurd (h refl) })
+    go true false e f = rw (e, f) (record { first = refl; refused = λ h. (refl, refl) })
+    go false b e f = rw e (record { first = refl; refused = λ h. (refl, refl) })

@@ -1,0 +1,96 @@
+-- A session of the calls is a session of the rules: every answer, every byte that was lent, and the device that is left. Assumes nothing.
+use mathlib.Core.Path.{_≡_, refl, sym, ap, ap₂, _∙_}
+use mathlib.Core.Bool.{Bool, true, false, cond}
+use mathlib.Core.List.{List, [], _∷_, map}
+use Prim.Native.Nat.{ℕ, zero, suc, _≤_}
+use native.Mathlib.Omega.{arith}
+use lib.Dec.{eqb}
+use lib.ListN.{length, take, replicate, length-replicate}
+use lib.Seq.{length-take-le}
+use borrow.Author.Tests.{eq-eqb, eqb-true}
+use Rattle.rules.specs.Settings.{settingsOk, identifiersOf}
+use Rattle.rules.specs.Device.{cleaned, freshController, freshDevice, closedDevice, freshOf}
+use Rattle.rules.specs.Machine.{Answer, Slot, freshSlot, State, closed, fresh, Call, Event, step, after, events, lent, stored}
+use Rattle.rules.specs.History.{Did, historyOf}
+use Rattle.rules.specs.Demands.{lentBytes}
+use Rattle.rules.specs.declared.Settings.{Settings}
+use Rattle.rules.specs.declared.Controller.{Controller}
+use Rattle.rules.specs.declared.Device.{Device}
+use Rattle.rules.proofs.ListLaws.{All}
+use Rattle.rules.proofs.SoundLaws.{fresh-closed}
+use Rattle.record.proofs.SettingsLaws.{settingsOk-count}
+use Rattle.tracker.specs.Calls.{freshChange}
+use Rattle.demands.specs.View.{slotsFrom, view, Outcome, run}
+use Rattle.demands.specs.Sessions.{Left, begun, outcome, next, leftAfter, answersTo, bytesTo}
+use Rattle.demands.proofs.ViewLaws.{Listed, Fits}
+use Rattle.demands.proofs.StepLaws.{Like, call-step}
+
+-- ---- fresh
+
+slots-fresh : (ws : List ℕ) (xs : List ℕ) (k n : ℕ) → length xs ≡ n → slotsFrom ws k (replicate n freshController) ≡ map (λ (i : ℕ). freshSlot) xs
+slots-fresh ws [] k n e = rw (sym e)
+slots-fresh ws (x ∷ xs) k zero e = absurd (omega (arith, e))
+slots-fresh ws (x ∷ xs) k (suc n) e = ap (λ l. freshSlot ∷ l) (slots-fresh ws xs (suc k) n (omega (arith, e)))
+
+take-replicate : {A : Type 0} (m n : ℕ) (x : A) → m ≤ n → take m (replicate n x) ≡ replicate m x
+take-replicate zero n x h = refl
+take-replicate (suc m) zero x h = absurd (omega arith)
+take-replicate (suc m) (suc n) x h = ap (λ l. x ∷ l) (take-replicate m n x (omega arith))
+
+off-listed : (n : ℕ) → All Listed (replicate n freshController)
+off-listed zero = tt
+off-listed (suc n) = ((λ g m e. let z : _≡_ {A = ℕ} 0 1 = cc in absurd (omega arith)), off-listed n)
+
+-- what fresh leaves is the rules' fresh device, or closed as theirs
+pub record Begins (s : Settings) (l : Left) : Type 0 where
+  pub state : view (l .device) (l .marks) ≡ fresh s
+  pub fits : Fits (l .device) (l .marks)
+
+pub begins : (s : Settings) (ws : List ℕ) → length (s .identifiers) ≡ 8 → length ws ≡ 512 → Begins s (begun s ws)
+unfolding fresh freshChange freshOf
+begins s ws eight whole = go (settingsOk s) refl
+  where
+    go : (b : Bool) → settingsOk s ≡ b → Begins s (begun s ws)
+    go true e =
+        let few = settingsOk-count s e in
+        rw (e, eq-eqb (length ws) 512 whole, whole)
+        (record {
+          state =
+              rw e (ap (λ l. record { settings = cleaned s; slots = l })
+              (ap (slotsFrom (replicate 512 0) 0) (take-replicate (s .count) 8 freshController few)
+              ∙ slots-fresh (replicate 512 0) (identifiersOf s) 0 (s .count) (length-take-le (s .count) (s .identifiers) (omega (arith, eight)))));
+          fits = record { controllers = length-replicate 8 freshController; listed = off-listed 8; words = length-replicate {A = ℕ} 512 0 };
+        })
+    go false e =
+        rw e (record {
+          state = rw e;
+          fits = record { controllers = length-replicate 8 freshController; listed = off-listed 8; words = whole };
+        })
+
+-- ---- the calls
+
+-- what a session leaves and what it tells, against a session of the rules
+pub record Same (l : Left) (st : State) (ks : List Call) : Type 0 where
+  pub state : view (leftAfter l ks .device) (leftAfter l ks .marks) ≡ after st ks
+  pub told : answersTo l ks ≡ events st ks
+  pub bytes : (a : ℕ) → bytesTo a l ks ≡ lentBytes a (historyOf a (answersTo l ks))
+  pub fits : Fits (leftAfter l ks .device) (leftAfter l ks .marks)
+
+pub same : (ks : List Call) (l : Left) (st : State) → view (l .device) (l .marks) ≡ st → Fits (l .device) (l .marks) → Same l st ks
+same [] l st e h = record { state = e; told = refl; bytes = λ a. refl; fits = h }
+same (k ∷ ks) l st e h =
+    let w : Like (k .id) (lent (k .op)) (run (l .device) (l .marks) k) ((step st k) .0) ((step st k) .1) = rw e at (call-step (l .device) (l .marks) h k) in
+    let r = same ks (next l k) ((step st k) .1) (w .state) (w .fits) in
+    record {
+      state = r .state;
+      told = ap₂ (λ (a : Answer) (es : List Event). record { call = k; answer = a } ∷ es) (w .answer) (r .told);
+      bytes = λ a. bytes-of a (eqb (k .id) a) refl (w .bytes) (r .bytes a);
+      fits = r .fits;
+    }
+  where
+    bytes-of : (a : ℕ) (b : Bool) → eqb (k .id) a ≡ b → outcome l k .bytes ≡ stored (k .id) (lent (k .op)) (outcome l k .answer)
+        → bytesTo a (next l k) ks ≡ lentBytes a (historyOf a (answersTo (next l k) ks))
+        → cond b (outcome l k .bytes ∷ bytesTo a (next l k) ks) (bytesTo a (next l k) ks)
+        ≡ lentBytes a (cond b (record { op = k .op; answer = outcome l k .answer } ∷ historyOf a (answersTo (next l k) ks)) (historyOf a (answersTo (next l k) ks)))
+    bytes-of a true q p ih = ap₂ (λ (x : List ℕ) (xs : List (List ℕ)). x ∷ xs) (p ∙ rw (eqb-true (k .id) a q)) ih
+    bytes-of a false q p ih = ih
