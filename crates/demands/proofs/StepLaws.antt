@@ -51,10 +51,32 @@ use Rattle.demands.proofs.ViewLaws.{Listed, Fits, slot-at, seen-same, p
 -- no test of a call has the number 0
 order-numbers : (s : Settings) (v : Seen) (o : Op) → All (λ (t : Test). 1 ≤ t .number) (order s v o)
 unfolding order
-order-numbers s v (start x) =
-    (omega arith, (omega arith, (omega arith, (omega arith, (omega arith, (omega arith, (omega arith, (omega arith,
-    All-append (λ (t : Test). 1 ≤ t .number) (listTests s (granularityOf x) (countOf x) (rangesOf x)) ((leb (countOf x + v .counts) (s .limit) else 12) ∷ [])
-    (listTests-numbers s (granularityOf x) (countOf x) (rangesOf x)) (omega arith, tt)))))))))
+order-numbers s v (start x) = (
+  omega arith,
+  (
+    omega arith,
+    (
+      omega arith,
+      (
+        omega arith,
+        (
+          omega arith,
+          (
+            omega arith,
+            (
+              omega arith,
+              (
+                omega arith,
+                All-append (λ (t : Test). 1 ≤ t .number) (listTests s (granularityOf x) (countOf x) (rangesOf x)) ((leb (countOf x + v .counts) (s .limit) else 12) ∷ [])
+                    (listTests-numbers s (granularityOf x) (countOf x) (rangesOf x)) (omega arith, tt),
+              ),
+            ),
+          ),
+        ),
+      ),
+    ),
+  ),
+)
 order-numbers s v stop = (omega arith, (omega arith, (omega arith, (omega arith, tt))))
 order-numbers s v (write w) = (omega arith, (omega arith, (omega arith, (omega arith, tt))))
 order-numbers s v (receive x) = (omega arith, (omega arith, (omega arith, (omega arith, tt))))

@@ -2,23 +2,38 @@
 use mathlib.Core.Path.{_≡_, refl, sym, ap, subst, _∙_}
 use mathlib.Core.Logic.{_≢_, _↔_}
 use mathlib.Core.Bool.{Bool, true, false, _||_}
-use mathlib.Core.List.{List, []}
+use mathlib.Core.List.{List, [], _∷_, map}
 use mathlib.Core.Option.{Option, none, some}
 use Prim.Native.Nat.{ℕ, zero, suc, _+_, _≤_, _<_}
 use native.Mathlib.Omega.{arith}
 use lib.Dec.{eqb}
-use lib.ListN.{length, take, getD, getElem?}
+use lib.ListN.{length, take, getD, getElem?, length-map}
 use Rattle.bits.specs.Flat.{flat}
 use Rattle.rules.specs.Settings.{placeOf}
 use Rattle.rules.specs.Units.{Unit, Write, units}
 use Rattle.rules.specs.Order.{startOrder, stopOrder, writeOrder, receiveOrder, suspendOrder, resumeOrder}
 use Rattle.rules.specs.declared.Settings.{Settings}
 use Rattle.rules.specs.declared.Device.{Device}
-use Rattle.rules.specs.Machine.{noReport}
+use Rattle.rules.specs.Machine.{on, Slot, slot, noReport, pendingIn, State, fresh, soundState, slotOf, Call}
+use Rattle.rules.specs.History.{Did, historyOf, only, pendingBy, PendingBy}
+use Rattle.rules.specs.Demands as rules-demands
+use Rattle.rules.specs.Demands.{sessionEnd, sessionHistory, lentBytes, unhindered}
+use Rattle.rules.proofs.SlotHistory.{Known}
+use Rattle.rules.proofs.Sessions.{known-session}
+use Rattle.rules.proofs.ListLaws.{some-inj}
+use Rattle.rules.proofs.StartLaws.{without-loss}
+use Rattle.rules.proofs.Theorems as rules
+use Rattle.rules.specs.declared.Tracking.the-variants.{On}
 use Rattle.record.specs.Record.{controllerAt, seenIn}
-use Rattle.tracker.specs.Calls.{Change, changed, startDone, startChange, stopDone, stopChange, flagDone, suspendChange, resumeChange, Note, noted, writeDone, writeNote, Receipt, received, receiveDone, receiveReceipt}
+use Rattle.bits.proofs.Share.{getShare-at}
+use Rattle.tracker.specs.Calls.{shareAt, Change, changed, startDone, startChange, stopDone, stopChange, flagDone, suspendChange, resumeChange, Note, noted, writeDone, writeNote, Receipt, received, receiveDone, receiveReceipt}
 use Rattle.tracker.specs.declared.Changed.{Changed}
-use Rattle.demands.specs.Demands.{Demand1}
+use Rattle.demands.specs.View.{view, slotOf as slotSeen}
+use Rattle.demands.specs.Sessions.{Left, begun, endOf, historyIn, bytesIn}
+use Rattle.demands.specs.Demands.{Demand1, Soundness, controllerOf, unitsOf, marksIn, Tracked, Demand2, pendingOf, Agree, Demand3}
+use Rattle.demands.proofs.ViewLaws.{Fits, sound-same, slot-at, placeOf-used}
+use Rattle.demands.proofs.SessionLaws.{Begins, begins, Same, same}
+use Rattle.demands.proofs.ClosedLaws.{fresh-done, closed-session, closed-answer}
 use Rattle.demands.proofs.AnswerLaws.{answers, fresh-answers, start-zero, stop-zero, flag-zero, write-zero, receive-zero}
 
 -- ---- demand 1
@@ -54,4 +69,109 @@ demand-1 =
           answers Changed (λ c. c .number) (λ c. c .device ≡ d)
           (resumeOrder (seenIn d words (placeOf (d .settings) id))) (flagDone d (placeOf (d .settings) id) false) (λ n. record { number = n; device = d })
           (flag-zero d (placeOf (d .settings) id) false) (λ n. refl) (λ n. refl);
+    }
+
+-- ---- soundness
+
+-- a session of the calls, as one of the rules
+session : (s : Settings) (ws : List ℕ) (ks : List Call) → length (s .identifiers) ≡ 8 → length ws ≡ 512 → Same (begun s ws) (fresh s) ks
+session s ws ks eight whole = let b = begins s ws eight whole in same ks (begun s ws) (fresh s) (b .state) (b .fits)
+
+pub soundness : Soundness
+soundness =
+    record {
+      kept = λ s ws ks eight e.
+          let f = fresh-done s ws e in
+          let r = session s ws ks eight (f .1) in
+          (sym (sound-same (endOf s ws ks .device) (endOf s ws ks .marks) (r .fits)) ∙ ap soundState (r .state) ∙ rules.soundness .kept s ks (f .0), r .fits .words);
+      closed = λ s ws ks k e.
+          let z = closed-session s ws ks e in
+          (z, rw z (closed-answer ws k .0), rw z (closed-answer ws k .1));
+    }
+
+-- ---- demand 2
+
+at-index : (l : List Bool) (m : ℕ) → m < length l → getElem? l m ≡ some (getD l m false)
+at-index [] m h = absurd (omega arith)
+at-index (x ∷ l) zero h = refl
+at-index (x ∷ l) (suc m) h = at-index l m (omega arith)
+
+inside : (us : List Unit) (m : ℕ) (u : Unit) → getElem? us m ≡ some u → m < length us
+inside [] m u e = let z : _≡_ {A = ℕ} 0 1 = cc in absurd (omega arith)
+inside (x ∷ us) zero u e = omega arith
+inside (x ∷ us) (suc m) u e = omega (arith, inside us m u e)
+
+module _ (s : Settings) (ws : List ℕ) (ks : List Call) (eight : length (s .identifiers) ≡ 8) (whole : length ws ≡ 512) where
+  r : Same (begun s ws) (fresh s) ks
+  r = session s ws ks eight whole
+
+  history-same : (a : ℕ) → historyIn s ws ks a ≡ sessionHistory s ks a
+  history-same a = ap (historyOf a) (r .told)
+
+  slot-same : (a : ℕ) → slotOf (view (endOf s ws ks .device) (endOf s ws ks .marks)) a ≡ slotOf (sessionEnd s ks) a
+  slot-same a = ap (λ (st : State). slotOf st a) (r .state)
+
+  bytes-same : (a : ℕ) → bytesIn s ws ks a ≡ lentBytes a (sessionHistory s ks a)
+  bytes-same a = r .bytes a ∙ ap (lentBytes a) (history-same a)
+
+  module _ (a i g n : ℕ) (place : placeOf (endOf s ws ks .device .settings) a ≡ some i) (t : controllerOf (endOf s ws ks) i .tracking ≡ On g n) where
+    abbrev us : List Unit
+    us = unitsOf (endOf s ws ks) i g n
+
+    abbrev p : List Bool
+    p = marksIn (endOf s ws ks) i g n
+
+    is-on : slotOf (sessionEnd s ks) a ≡ slot (controllerOf (endOf s ws ks) i .suspended) (on g (take n (controllerOf (endOf s ws ks) i .ranges)) p)
+    is-on =
+        let e = endOf s ws ks in
+        sym (slot-same a) ∙ rw place (slot-at (e .device) (e .marks) (r .fits) i (placeOf-used (e .device) a i place) ∙ rw t)
+
+    sized : length p ≡ length us
+    sized =
+        let h : List Did = sessionHistory s ks a in
+        let k : Known h (controllerOf (endOf s ws ks) i .suspended) (on g (take n (controllerOf (endOf s ws ks) i .ranges)) p) = rw is-on at (known-session s a ks) in
+        ap length (k .marks .0) ∙ length-map us (pendingBy h)
+
+    is-tracked : Tracked s ws ks a i g n
+    is-tracked =
+        record {
+          pending = λ m u at.
+              let l = inside us m u at in
+              let e : getElem? p m ≡ some (getD (flat (endOf s ws ks .marks)) (shareAt i + m) false) = at-index p m (omega (arith, l, sized)) ∙ ap some (getShare-at (flat (endOf s ws ks .marks)) (shareAt i) (length us) m false l) in
+              let k = rules.demand-2 .pending s ks a .exactly _ g _ p is-on m u at in (
+                (λ q. subst (λ h. PendingBy h u) (sym (history-same a)) (k .0 (e ∙ ap some q))),
+                (λ q. some-inj (sym e ∙ k .1 (subst (λ h. PendingBy h u) (history-same a) q))),
+              );
+          reports = λ k. rules.demand-2 .reports s ks a _ g _ p is-on k;
+          writes = λ w. rules.demand-2 .writes s ks a _ g _ p is-on w;
+        }
+
+pub demand-2 : Demand2
+demand-2 =
+    record {
+      tracked = λ s ws ks eight whole a i g n place t. is-tracked s ws ks eight whole a i g n place t;
+      touches = rules.demand-2 .touches;
+      structures = without-loss;
+    }
+
+-- ---- demand 3
+
+-- where sessions of the rules agree, those of the calls do
+agree : (s : Settings) (a : ℕ) (ws ws′ : List ℕ) (ks ks′ : List Call) → length (s .identifiers) ≡ 8 → length ws ≡ 512 → length ws′ ≡ 512
+    → rules-demands.Agree s a ks ks′ → Agree s a ws ws′ ks ks′
+agree s a ws ws′ ks ks′ eight whole whole′ w =
+    record {
+      answers = history-same s ws ks eight whole a ∙ w .answers ∙ sym (history-same s ws′ ks′ eight whole′ a);
+      bytes = bytes-same s ws ks eight whole a ∙ w .bytes ∙ sym (bytes-same s ws′ ks′ eight whole′ a);
+      units = ap pendingIn (slot-same s ws ks eight whole a) ∙ w .units ∙ sym (ap pendingIn (slot-same s ws′ ks′ eight whole′ a));
+    }
+
+pub demand-3 : Demand3
+demand-3 =
+    record {
+      together = λ s a ws ws′ ks ks′ eight whole whole′ e f f′.
+          agree s a ws ws′ ks ks′ eight whole whole′
+          (rules.demand-3 .together s a ks ks′ e (rw (history-same s ws ks eight whole a) at f) (rw (history-same s ws′ ks′ eight whole′ a) at f′));
+      alone = λ s a ws ks eight whole f.
+          agree s a ws ws ks (only a ks) eight whole whole (rules.demand-3 .alone s a ks (rw (history-same s ws ks eight whole a) at f));
     }

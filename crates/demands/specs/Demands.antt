@@ -84,7 +84,7 @@ pub record Tracked (s : Settings) (ws : List ℕ) (ks : List Call) (a i g n : �
   pub pending : (m : ℕ) (u : Unit) → getElem? (unitsOf (endOf s ws ks) i g n) m ≡ some u
       → (getD (flat (endOf s ws ks .marks)) (shareAt i + m) false ≡ true) ↔ PendingBy (historyIn s ws ks a) u
   -- "a report lists the earliest pending runs that fit; More To Report is clear exactly when nothing stays pending", with room for k runs
-  pub reports : (b : Bool) (k : ℕ) → Reports b g k (unitsOf (endOf s ws ks) i g n) (marksIn (endOf s ws ks) i g n)
+  pub reports : (k : ℕ) → Reports (controllerOf (endOf s ws ks) i .suspended) g k (unitsOf (endOf s ws ks) i g n) (marksIn (endOf s ws ks) i g n)
   -- a write answers how many units were not pending before it and are after it
   pub writes : (w : Write) → Writes w (unitsOf (endOf s ws ks) i g n) (marksIn (endOf s ws ks) i g n)
 

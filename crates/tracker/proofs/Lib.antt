@@ -4,3 +4,4 @@ pub mod CallLaws
 pub mod WriteLaws
 pub mod ReceiveLaws
 pub mod StartedLaws
+pub mod Promise

@@ -1,0 +1,36 @@
+-- What the calls promise: any two results that a call's promise allows are equal, with what it leaves in what it was lent. `Post` is a public call's
+-- contract as the checker reads it off the source: of its arguments `a`, its result and what it was lent, at exit. Assumes nothing.
+use mathlib.Core.Path.{_≡_, sym, _∙_}
+use denote.Ref.{now}
+use Rattle.tracker.proofs.fresh.Reads as fresh
+use Rattle.tracker.proofs.start.Reads as start
+use Rattle.tracker.proofs.stop.Reads as stop
+use Rattle.tracker.proofs.write.Reads as write
+use Rattle.tracker.proofs.receive.Reads as receive
+use Rattle.tracker.proofs.suspend.Reads as suspend
+use Rattle.tracker.proofs.resume.Reads as resume
+
+-- the answer, and every word of the marks
+pub fresh-determinate : (κs : _) (a : _) (r r′ : _) (e e′ : _) → fresh.Post κs a r e → fresh.Post κs a r′ e′ → (r ≡ r′) × (now (e .1 .0) ≡ now (e′ .1 .0))
+fresh-determinate κs a r r′ e e′ p q = (p .0 ∙ sym (q .0), p .1 ∙ sym (q .1))
+
+pub start-determinate : (κs : _) (a : _) (r r′ : _) (e e′ : _) → start.Post κs a r e → start.Post κs a r′ e′ → (r ≡ r′) × (now (e .1 .0) ≡ now (e′ .1 .0))
+start-determinate κs a r r′ e e′ p q = (p .0 ∙ sym (q .0), p .1 ∙ sym (q .1))
+
+pub stop-determinate : (κs : _) (a : _) (r r′ : _) (e e′ : _) → stop.Post κs a r e → stop.Post κs a r′ e′ → (r ≡ r′) × (now (e .1 .0) ≡ now (e′ .1 .0))
+stop-determinate κs a r r′ e e′ p q = (p .0 ∙ sym (q .0), p .1 ∙ sym (q .1))
+
+pub write-determinate : (κs : _) (a : _) (r r′ : _) (e e′ : _) → write.Post κs a r e → write.Post κs a r′ e′ → (r ≡ r′) × (now (e .1 .0) ≡ now (e′ .1 .0))
+write-determinate κs a r r′ e e′ p q = (p .0 ∙ sym (q .0), p .1 ∙ sym (q .1))
+
+-- and every byte of the buffer
+pub receive-determinate : (κs : _) (a : _) (r r′ : _) (e e′ : _) → receive.Post κs a r e → receive.Post κs a r′ e′
+    → (r ≡ r′) × (now (e .1 .0) ≡ now (e′ .1 .0)) × (now (e .1 .1 .1 .0) ≡ now (e′ .1 .1 .1 .0))
+receive-determinate κs a r r′ e e′ p q = (p .0 ∙ sym (q .0), p .1 ∙ sym (q .1), p .2 ∙ sym (q .2))
+
+-- the marks are only read
+pub suspend-determinate : (κs : _) (a : _) (r r′ : _) (e e′ : _) → suspend.Post κs a r e → suspend.Post κs a r′ e′ → r ≡ r′
+suspend-determinate κs a r r′ e e′ p q = p ∙ sym q
+
+pub resume-determinate : (κs : _) (a : _) (r r′ : _) (e e′ : _) → resume.Post κs a r e → resume.Post κs a r′ e′ → r ≡ r′
+resume-determinate κs a r r′ e e′ p q = p ∙ sym q
