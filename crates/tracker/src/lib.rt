@@ -334,7 +334,7 @@ pub fn resume(d: Device, marks: &[u64], id: u16) -> Changed
 
 // Notes a write on a record that is known to be sound: the touched units of the controller's tracked ranges become pending. Refused, in this order: 2,
 // 4 suspended, 14 a written range that ends past 2^64.
-pub fn note(d: Device, marks: &mut [u64], id: u16, at: u64, bytes: Bytes) -> Written
+fn note(d: Device, marks: &mut [u64], id: u16, at: u64, bytes: Bytes) -> Written
     requires { ⌜ soundWith d (length (now marks)) ≡ true ⌝ }
     ensures { λ r. ⌜ (r ≡ writeNote d (now (marks .entry)) id (record { address = at; bytes = bytes .0 }) .answer)
         × (now (marks .exit) ≡ writeNote d (now (marks .entry)) id (record { address = at; bytes = bytes .0 }) .marks) ⌝ }

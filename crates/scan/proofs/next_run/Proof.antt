@@ -4,13 +4,14 @@ use mathlib.Core.Path.{_≡_}
 use Prim.Native.Nat.{_≤_, _-_, _+_}
 use native.Mathlib.Omega.{arith}
 use denote.Ref.{now}
-use lib.ListN.{length, take}
+use lib.ListN.{length, take, getD}
 use lib.Seq.{length-take-le}
 use borrow.Author.Needs.{needs}
 use Rattle.bits.specs.Flat.{flat}
 use Rattle.bits.specs.Share.{getShare}
 use Rattle.bits.proofs.Flat.{flat-length}
 use Rattle.rules.specs.Units.{unitsFrom}
+use Rattle.rules.specs.StartData.{noRange}
 use Rattle.scan.proofs.ScanSteps.{Scanned, scanned-start, search-nothing, search-end, search-low, search-row, search-high, search-run}
 use Rattle.scan.proofs.next_run.Statement.{statement}
 use Rattle.scan.proofs.next_run.Tie as tie
@@ -26,11 +27,27 @@ Inv-loop marks base n row begin pos size ranges i₀ b₀ p₀ i b p =
 abbrev μ-loop : tie.MeasureT-loop
 μ-loop marks base n row begin pos size ranges i₀ b₀ p₀ i b p = n - i
 
+-- the ranges are there
+there : (f : tie.Start Inv-loop μ-loop) → f .args .n ≤ length (f .args .t4)
+there f = let sixteen : length (f .args .t4) ≡ 16 = search needs in omega arith
+
+-- and their marks lie within the words
+within : (f : tie.Start Inv-loop μ-loop) → f .args .base + length (unitsFrom (f .args .size) 0 (take (f .args .n) (f .args .t4))) ≤ length (flat (now (f .args .marks)))
+within f = omega (arith, flat-length (now (f .args .marks)))
+
+-- the row at which the loop stands ends within the units
+row-end : (c : tie.After-struct-known Inv-loop μ-loop)
+    → let a = c .before .before .before .before .before .args in
+    let l = c .before .before .before .loop in
+    (l .p ≤ l .b + getD (a .t4) (l .i) noRange .length) × (l .b + getD (a .t4) (l .i) noRange .length ≤ length (unitsFrom (a .size) 0 (take (a .n) (a .t4))))
+row-end c =
+    let f = c .before .before .before .before .before in
+    search-end _ (f .pre .0) _ _ (there f) _ _ (within f) _ _ _ _ (c .before .before .before .loop .inv .1) (omega arith)
+
 loop-holds : tie.Need-loop-holds Inv-loop μ-loop
 loop-holds c =
     let a = c .before .args in
-    let sixteen : length (a .t4) ≡ 16 = search needs in
-    let few : length (take (a .n) (a .t4)) ≡ a .n = length-take-le (a .n) (a .t4) (omega arith) in
+    let few : length (take (a .n) (a .t4)) ≡ a .n = length-take-le (a .n) (a .t4) (there (c .before)) in
     (omega (arith, c .before .pre .4 .rows), scanned-start _ _ _ _ _ _ (c .before .pre .4))
 
 mul-r : tie.Need-mul-r Inv-loop μ-loop
@@ -43,35 +60,13 @@ cast-end : tie.Need-cast-end Inv-loop μ-loop
 cast-end c = search needs
 
 add-end : tie.Need-add-end Inv-loop μ-loop
-add-end c =
-    let f = c .before .before .before .before .before in
-    let a = f .args in
-    let l = c .before .before .before .loop in
-    let sixteen : length (a .t4) ≡ 16 = search needs in
-    let there : a .n ≤ length (a .t4) = omega arith in
-    let fits : a .base + length (unitsFrom (a .size) 0 (take (a .n) (a .t4))) ≤ length (flat (now (a .marks))) = omega (arith, flat-length (now (a .marks))) in
-    omega (arith, search-end (a .size) (f .pre .0) (a .t4) (a .n) there (flat (now (a .marks))) (a .base) fits (a .pos) (l .i) (l .b) (l .p) (l .inv .1) (omega arith) .1)
+add-end c = omega (arith, row-end c .1)
 
 add-next-set : tie.Need-add-next-set Inv-loop μ-loop
-add-next-set c =
-    let f = c .before .before .before .before .before in
-    let a = f .args in
-    let l = c .before .before .before .loop in
-    let sixteen : length (a .t4) ≡ 16 = search needs in
-    let there : a .n ≤ length (a .t4) = omega arith in
-    let fits : a .base + length (unitsFrom (a .size) 0 (take (a .n) (a .t4))) ≤ length (flat (now (a .marks))) = omega (arith, flat-length (now (a .marks))) in
-    let e = search-end (a .size) (f .pre .0) (a .t4) (a .n) there (flat (now (a .marks))) (a .base) fits (a .pos) (l .i) (l .b) (l .p) (l .inv .1) (omega arith) in
-    omega (arith, e .0, e .1)
+add-next-set c = omega (arith, row-end c .0, row-end c .1)
 
 add-next-set-2 : tie.Need-add-next-set-2 Inv-loop μ-loop
-add-next-set-2 c =
-    let f = c .before .before .before .before .before in
-    let a = f .args in
-    let l = c .before .before .before .loop in
-    let sixteen : length (a .t4) ≡ 16 = search needs in
-    let there : a .n ≤ length (a .t4) = omega arith in
-    let fits : a .base + length (unitsFrom (a .size) 0 (take (a .n) (a .t4))) ≤ length (flat (now (a .marks))) = omega (arith, flat-length (now (a .marks))) in
-    omega (arith, search-end (a .size) (f .pre .0) (a .t4) (a .n) there (flat (now (a .marks))) (a .base) fits (a .pos) (l .i) (l .b) (l .p) (l .inv .1) (omega arith) .1)
+add-next-set-2 c = omega (arith, row-end c .1)
 
 next-set-requires : tie.Need-next-set-requires Inv-loop μ-loop
 next-set-requires c κs = search needs
@@ -79,32 +74,13 @@ next-set-requires c κs = search needs
 sub-from : tie.Need-sub-from Inv-loop μ-loop
 sub-from c =
     let f = c .before .before .before .before .before .before in
-    let a = f .args in
-    let l = c .before .before .before .before .loop in
-    let sixteen : length (a .t4) ≡ 16 = search needs in
-    let there : a .n ≤ length (a .t4) = omega arith in
-    let fits : a .base + length (unitsFrom (a .size) 0 (take (a .n) (a .t4))) ≤ length (flat (now (a .marks))) = omega (arith, flat-length (now (a .marks))) in
-    search-low (a .size) (f .pre .0) (a .t4) (a .n) there (flat (now (a .marks))) (a .base) fits (a .pos) (l .i) (l .b) (l .p) (l .inv .1) (omega arith) (c .next-set .result) (c .next-set .ensures)
+    search-low _ (f .pre .0) _ _ (there f) _ _ (within f) _ _ _ _ (c .before .before .before .before .loop .inv .1) (omega arith) _ (c .next-set .ensures)
 
 add-next-clear : tie.Need-add-next-clear Inv-loop μ-loop
-add-next-clear c =
-    let f = c .before .before .before .before .before .before .before in
-    let a = f .args in
-    let l = c .before .before .before .before .before .loop in
-    let sixteen : length (a .t4) ≡ 16 = search needs in
-    let there : a .n ≤ length (a .t4) = omega arith in
-    let fits : a .base + length (unitsFrom (a .size) 0 (take (a .n) (a .t4))) ≤ length (flat (now (a .marks))) = omega (arith, flat-length (now (a .marks))) in
-    omega (arith, search-end (a .size) (f .pre .0) (a .t4) (a .n) there (flat (now (a .marks))) (a .base) fits (a .pos) (l .i) (l .b) (l .p) (l .inv .1) (omega arith) .1)
+add-next-clear c = omega (arith, row-end (c .before .before) .1)
 
 add-next-clear-2 : tie.Need-add-next-clear-2 Inv-loop μ-loop
-add-next-clear-2 c =
-    let f = c .before .before .before .before .before .before .before in
-    let a = f .args in
-    let l = c .before .before .before .before .before .loop in
-    let sixteen : length (a .t4) ≡ 16 = search needs in
-    let there : a .n ≤ length (a .t4) = omega arith in
-    let fits : a .base + length (unitsFrom (a .size) 0 (take (a .n) (a .t4))) ≤ length (flat (now (a .marks))) = omega (arith, flat-length (now (a .marks))) in
-    omega (arith, search-end (a .size) (f .pre .0) (a .t4) (a .n) there (flat (now (a .marks))) (a .base) fits (a .pos) (l .i) (l .b) (l .p) (l .inv .1) (omega arith) .1)
+add-next-clear-2 c = omega (arith, row-end (c .before .before) .1)
 
 next-clear-requires : tie.Need-next-clear-requires Inv-loop μ-loop
 next-clear-requires c κs = search needs
@@ -112,22 +88,14 @@ next-clear-requires c κs = search needs
 sub-to : tie.Need-sub-to Inv-loop μ-loop
 sub-to c =
     let f = c .before .before .before .before .before .before .before .before in
-    let a = f .args in
     let l = c .before .before .before .before .before .before .loop in
-    let sixteen : length (a .t4) ≡ 16 = search needs in
-    let there : a .n ≤ length (a .t4) = omega arith in
-    let fits : a .base + length (unitsFrom (a .size) 0 (take (a .n) (a .t4))) ≤ length (flat (now (a .marks))) = omega (arith, flat-length (now (a .marks))) in
-    search-high (a .size) (f .pre .0) (a .t4) (a .n) there (flat (now (a .marks))) (a .base) fits (a .pos) (l .i) (l .b) (l .p) (l .inv .1) (omega arith) (c .before .before .next-set .result) (c .before .before .next-set .ensures) (c .before .if1 .taken) (c .next-clear .result) (c .next-clear .ensures)
+    search-high _ (f .pre .0) _ _ (there f) _ _ (within f) _ _ _ _ (l .inv .1) (omega arith) (c .before .before .next-set .result) (c .before .before .next-set .ensures) (c .before .if1 .taken) (c .next-clear .result) (c .next-clear .ensures)
 
 returns : tie.Need-returns Inv-loop μ-loop
 returns c =
     let f = c .before .before .before .before .before .before .before .before in
-    let a = f .args in
     let l = c .before .before .before .before .before .before .loop in
-    let sixteen : length (a .t4) ≡ 16 = search needs in
-    let there : a .n ≤ length (a .t4) = omega arith in
-    let fits : a .base + length (unitsFrom (a .size) 0 (take (a .n) (a .t4))) ≤ length (flat (now (a .marks))) = omega (arith, flat-length (now (a .marks))) in
-    search-run (a .size) (f .pre .0) (a .t4) (a .n) there (flat (now (a .marks))) (a .base) fits (a .pos) (l .i) (l .b) (l .p) (l .inv .1) (omega arith) (c .before .before .next-set .result) (c .before .before .next-set .ensures) (c .before .if1 .taken) (c .next-clear .result) (c .next-clear .ensures)
+    search-run _ (f .pre .0) _ _ (there f) _ _ (within f) _ _ _ _ (l .inv .1) (omega arith) (c .before .before .next-set .result) (c .before .before .next-set .ensures) (c .before .if1 .taken) (c .next-clear .result) (c .next-clear .ensures)
 
 add-i : tie.Need-add-i Inv-loop μ-loop
 add-i c = search needs
@@ -138,22 +106,14 @@ loop-less c = search needs
 loop-again : tie.Need-loop-again Inv-loop μ-loop
 loop-again c =
     let f = c .before .before .before .before .before .before .before in
-    let a = f .args in
     let l = c .before .before .before .before .before .loop in
-    let sixteen : length (a .t4) ≡ 16 = search needs in
-    let there : a .n ≤ length (a .t4) = omega arith in
-    let fits : a .base + length (unitsFrom (a .size) 0 (take (a .n) (a .t4))) ≤ length (flat (now (a .marks))) = omega (arith, flat-length (now (a .marks))) in
-    (omega arith, search-row (a .size) (f .pre .0) (a .t4) (a .n) there (flat (now (a .marks))) (a .base) fits (a .pos) (l .i) (l .b) (l .p) (l .inv .1) (omega arith) (c .before .next-set .result) (c .before .next-set .ensures) (omega arith))
+    (omega arith, search-row _ (f .pre .0) _ _ (there f) _ _ (within f) _ _ _ _ (l .inv .1) (omega arith) (c .before .next-set .result) (c .before .next-set .ensures) (omega arith))
 
 returns-2 : tie.Need-returns-2 Inv-loop μ-loop
 returns-2 c =
     let f = c .before .before .before in
-    let a = f .args in
     let l = c .before .loop in
-    let sixteen : length (a .t4) ≡ 16 = search needs in
-    let there : a .n ≤ length (a .t4) = omega arith in
-    let fits : a .base + length (unitsFrom (a .size) 0 (take (a .n) (a .t4))) ≤ length (flat (now (a .marks))) = omega (arith, flat-length (now (a .marks))) in
-    search-nothing (a .size) (f .pre .0) (a .t4) (a .n) there (flat (now (a .marks))) (a .base) fits (a .pos) (l .i) (l .b) (l .p) (l .inv .1) (omega arith)
+    search-nothing _ (f .pre .0) _ _ (there f) _ _ (within f) _ _ _ _ (l .inv .1) (omega arith)
 
 pub next-run-spec : {M : Type 1} → statement M
 next-run-spec =
