@@ -4,13 +4,14 @@ use mathlib.Core.Logic.{_≢_, _↔_}
 use mathlib.Core.Bool.{Bool, true, false, _||_}
 use mathlib.Core.List.{List, [], _∷_, map}
 use mathlib.Core.Option.{Option, none, some}
-use Prim.Native.Nat.{ℕ, zero, suc, _+_, _≤_, _<_}
+use Prim.Native.Nat.{ℕ, zero, suc, _+_, _^_, _≤_, _<_}
+use borrow.Author.Tests.{le-leb}
 use native.Mathlib.Omega.{arith}
 use lib.Dec.{eqb}
 use lib.ListN.{length, take, getD, getElem?, length-map}
 use Rattle.bits.specs.Flat.{flat}
 use Rattle.rules.specs.Settings.{placeOf}
-use Rattle.rules.specs.Units.{Unit, Write, units}
+use Rattle.rules.specs.Units.{Unit, Write, mark, newly}
 use Rattle.rules.specs.Order.{startOrder, stopOrder, writeOrder, receiveOrder, suspendOrder, resumeOrder}
 use Rattle.rules.specs.declared.Settings.{Settings}
 use Rattle.rules.specs.declared.Device.{Device}
@@ -24,9 +25,9 @@ use Rattle.rules.proofs.ListLaws.{some-inj}
 use Rattle.rules.proofs.StartLaws.{without-loss}
 use Rattle.rules.proofs.Theorems as rules
 use Rattle.rules.specs.declared.Tracking.the-variants.{On}
-use Rattle.record.specs.Record.{controllerAt, seenIn}
+use Rattle.record.specs.Record.{soundWith, controllerAt, seenIn}
 use Rattle.bits.proofs.Share.{getShare-at}
-use Rattle.tracker.specs.Calls.{shareAt, Change, changed, startDone, startChange, stopDone, stopChange, flagDone, suspendChange, resumeChange, Note, noted, writeDone, writeNote, Receipt, received, receiveDone, receiveReceipt}
+use Rattle.tracker.specs.Calls.{shareAt, withMarks, reportIn, freshChange, Change, changed, startDone, startChange, stopDone, stopChange, flagDone, suspendChange, resumeChange, Note, noted, writeDone, writeNote, Receipt, received, receiveDone, receiveReceipt}
 use Rattle.tracker.specs.declared.Changed.{Changed}
 use Rattle.demands.specs.View.{view, slotOf as slotSeen}
 use Rattle.demands.specs.Sessions.{Left, begun, endOf, historyIn, bytesIn}
@@ -132,24 +133,43 @@ module _ (s : Settings) (ws : List ℕ) (ks : List Call) (eight : length (s .ide
         let k : Known h (controllerOf (endOf s ws ks) i .suspended) (on g (take n (controllerOf (endOf s ws ks) i .ranges)) p) = rw is-on at (known-session s a ks) in
         ap length (k .marks .0) ∙ length-map us (pendingBy h)
 
-    is-tracked : Tracked s ws ks a i g n
-    is-tracked =
-        record {
-          pending = λ m u at.
-              let l = inside us m u at in
-              let e : getElem? p m ≡ some (getD (flat (endOf s ws ks .marks)) (shareAt i + m) false) = at-index p m (omega (arith, l, sized)) ∙ ap some (getShare-at (flat (endOf s ws ks .marks)) (shareAt i) (length us) m false l) in
-              let k = rules.demand-2 .pending s ks a .exactly _ g _ p is-on m u at in (
-                (λ q. subst (λ h. PendingBy h u) (sym (history-same a)) (k .0 (e ∙ ap some q))),
-                (λ q. some-inj (sym e ∙ k .1 (subst (λ h. PendingBy h u) (history-same a) q))),
-              );
-          reports = λ k. rules.demand-2 .reports s ks a _ g _ p is-on k;
-          writes = λ w. rules.demand-2 .writes s ks a _ g _ p is-on w;
-        }
+    -- nothing refuses it
+    sure : freshChange s ws .answer .number ≡ 0 → soundWith (endOf s ws ks .device) (length (endOf s ws ks .marks)) ≡ true
+    unfolding soundWith
+    sure e = let k = soundness .kept s ws ks eight e in rw (k .0, k .1)
+
+    module _ (begun-well : freshChange s ws .answer .number ≡ 0) where
+      is-received : (x : List ℕ) → 32 ≤ length x
+          → receiveReceipt (endOf s ws ks .device) (endOf s ws ks .marks) a x
+          ≡ reportIn (endOf s ws ks .marks) (shareAt i) a (controllerOf (endOf s ws ks) i .suspended) g us p x
+      unfolding receiveReceipt
+      is-received x h = rw (place, sure begun-well, t, le-leb 32 (length x) h)
+
+      is-written : (w : Write) → controllerOf (endOf s ws ks) i .suspended ≡ false → w .address + w .bytes ≤ 2 ^ 64
+          → writeNote (endOf s ws ks .device) (endOf s ws ks .marks) a w ≡ noted 0 (newly w us p) (withMarks (endOf s ws ks .marks) (shareAt i) (mark w us p))
+      unfolding writeNote
+      is-written w e h = rw (place, sure begun-well, e, t, le-leb (w .address + w .bytes) (2 ^ 64) h)
+
+      is-tracked : Tracked s ws ks a i g n
+      is-tracked =
+          record {
+            pending = λ m u at.
+                let l = inside us m u at in
+                let e : getElem? p m ≡ some (getD (flat (endOf s ws ks .marks)) (shareAt i + m) false) = at-index p m (omega (arith, l, sized)) ∙ ap some (getShare-at (flat (endOf s ws ks .marks)) (shareAt i) (length us) m false l) in
+                let k = rules.demand-2 .pending s ks a .exactly _ g _ p is-on m u at in (
+                  (λ q. subst (λ h. PendingBy h u) (sym (history-same a)) (k .0 (e ∙ ap some q))),
+                  (λ q. some-inj (sym e ∙ k .1 (subst (λ h. PendingBy h u) (history-same a) q))),
+                );
+            received = is-received;
+            written = is-written;
+            reports = λ k. rules.demand-2 .reports s ks a _ g _ p is-on k;
+            writes = λ w. rules.demand-2 .writes s ks a _ g _ p is-on w;
+          }
 
 pub demand-2 : Demand2
 demand-2 =
     record {
-      tracked = λ s ws ks eight whole a i g n place t. is-tracked s ws ks eight whole a i g n place t;
+      tracked = λ s ws ks eight e a i g n place t. is-tracked s ws ks eight (fresh-done s ws e .1) a i g n place t e;
       touches = rules.demand-2 .touches;
       structures = without-loss;
     }

@@ -1,7 +1,7 @@
 -- What the customer asked for, as statements about the calls of `tracker`, each proved in proofs/Theorems.antt. Any record, any words, any bytes and
 -- any numbers are meant where nothing else is said. Where a session is meant, its settings have the eight places of their type and the marks are 512
 -- words, as fresh asks.
-use Prim.Native.Nat.{ℕ, _+_}
+use Prim.Native.Nat.{ℕ, _+_, _^_, _≤_}
 use mathlib.Core.Path.{_≡_}
 use mathlib.Core.Logic.{_≢_, _↔_}
 use mathlib.Core.Bool.{Bool, true, false}
@@ -11,7 +11,7 @@ use lib.ListN.{length, take, getD, getElem?}
 use Rattle.bits.specs.Flat.{flat}
 use Rattle.rules.specs.Refusals.{Test, refusal}
 use Rattle.rules.specs.Settings.{settingsOk, placeOf}
-use Rattle.rules.specs.Units.{Unit, Write, units}
+use Rattle.rules.specs.Units.{Unit, Write, units, mark, newly}
 use Rattle.rules.specs.Order.{freshOrder, startOrder, stopOrder, writeOrder, receiveOrder, suspendOrder, resumeOrder}
 use Rattle.rules.specs.Device.{closedDevice, soundDevice}
 use Rattle.rules.specs.Machine.{refused, pendingIn, slotOf, Call, lent}
@@ -22,7 +22,7 @@ use Rattle.rules.specs.declared.Controller.{Controller}
 use Rattle.rules.specs.declared.Device.{Device}
 use Rattle.rules.specs.declared.Tracking.the-variants.{On}
 use Rattle.record.specs.Record.{controllerAt, seenIn}
-use Rattle.tracker.specs.Calls.{shareAt, marksAt, freshChange, startChange, stopChange, suspendChange, resumeChange, writeNote, receiveReceipt}
+use Rattle.tracker.specs.Calls.{shareAt, marksAt, withMarks, freshChange, startChange, stopChange, suspendChange, resumeChange, noted, writeNote, reportIn, receiveReceipt}
 use Rattle.demands.specs.View.{view}
 use Rattle.demands.specs.Sessions.{Left, begun, outcome, leftAfter, endOf, historyIn, bytesIn}
 
@@ -83,13 +83,22 @@ pub record Tracked (s : Settings) (ws : List ℕ) (ks : List Call) (a i g n : �
   -- reported": the mark of its m-th unit is bit 4096 * i + m of the words
   pub pending : (m : ℕ) (u : Unit) → getElem? (unitsOf (endOf s ws ks) i g n) m ≡ some u
       → (getD (flat (endOf s ws ks .marks)) (shareAt i + m) false ≡ true) ↔ PendingBy (historyIn s ws ks a) u
+  -- a receive with a buffer of 32 bytes or more answers and stores the rules' report of these units and marks, and leaves the marks that it leaves
+  pub received : (x : List ℕ) → 32 ≤ length x
+      → receiveReceipt (endOf s ws ks .device) (endOf s ws ks .marks) a x
+      ≡ reportIn (endOf s ws ks .marks) (shareAt i) a (controllerOf (endOf s ws ks) i .suspended) g (unitsOf (endOf s ws ks) i g n) (marksIn (endOf s ws ks) i g n) x
   -- "a report lists the earliest pending runs that fit; More To Report is clear exactly when nothing stays pending", with room for k runs
   pub reports : (k : ℕ) → Reports (controllerOf (endOf s ws ks) i .suspended) g k (unitsOf (endOf s ws ks) i g n) (marksIn (endOf s ws ks) i g n)
-  -- a write answers how many units were not pending before it and are after it
+  -- a write that ends at most at 2^64, of a controller that is not suspended, marks the units that it touches
+  pub written : (w : Write) → controllerOf (endOf s ws ks) i .suspended ≡ false → w .address + w .bytes ≤ 2 ^ 64
+      → writeNote (endOf s ws ks .device) (endOf s ws ks .marks) a w
+      ≡ noted 0 (newly w (unitsOf (endOf s ws ks) i g n) (marksIn (endOf s ws ks) i g n))
+      (withMarks (endOf s ws ks .marks) (shareAt i) (mark w (unitsOf (endOf s ws ks) i g n) (marksIn (endOf s ws ks) i g n)))
+  -- and answers how many units were not pending before it and are after it
   pub writes : (w : Write) → Writes w (unitsOf (endOf s ws ks) i g n) (marksIn (endOf s ws ks) i g n)
 
 pub record Demand2 : Type 1 where
-  pub tracked : (s : Settings) (ws : List ℕ) (ks : List Call) → length (s .identifiers) ≡ 8 → length ws ≡ 512
+  pub tracked : (s : Settings) (ws : List ℕ) (ks : List Call) → length (s .identifiers) ≡ 8 → freshChange s ws .answer .number ≡ 0
       → (a i g n : ℕ) → placeOf (endOf s ws ks .device .settings) a ≡ some i → controllerOf (endOf s ws ks) i .tracking ≡ On g n → Tracked s ws ks a i g n
   pub touches : (w : Write) (u : Unit) → Touches w u
   -- "start structures are read and written without loss"
