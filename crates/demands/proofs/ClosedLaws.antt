@@ -10,13 +10,13 @@ use lib.ListN.{length}
 use borrow.Author.Tests.{eqb-true}
 use Rattle.rules.specs.Settings.{settingsOk}
 use Rattle.rules.specs.Order.{Op, start, stop, write, receive, suspend, resume}
-use Rattle.rules.specs.Device.{closedDevice, sound, freshOf}
+use Rattle.rules.specs.Device.{closedDevice, sound}
 use Rattle.rules.specs.Machine.{refused, Call, lent}
 use Rattle.rules.specs.declared.Settings.{Settings}
 use Rattle.record.specs.Record.{soundWith}
 use Rattle.tracker.specs.Calls.{freshChange, startChange, stopChange, writeNote, receiveReceipt, suspendChange, resumeChange}
 use Rattle.demands.specs.View.{Outcome, runAs, run}
-use Rattle.demands.specs.Sessions.{Left, begun, outcome, leftAfter, endOf}
+use Rattle.demands.specs.Sessions.{Left, outcome, leftAfter, endOf}
 use Rattle.demands.proofs.AnswerLaws.{fresh-answers}
 
 -- fresh is done where the settings pass and the marks are 512 words

@@ -9,18 +9,15 @@ use lib.ListN.{length, take, replicate, length-replicate}
 use lib.Seq.{length-take-le}
 use borrow.Author.Tests.{eq-eqb, eqb-true}
 use Rattle.rules.specs.Settings.{settingsOk, identifiersOf}
-use Rattle.rules.specs.Device.{cleaned, freshController, freshDevice, closedDevice, freshOf}
-use Rattle.rules.specs.Machine.{Answer, Slot, freshSlot, State, closed, fresh, Call, Event, step, after, events, lent, stored}
-use Rattle.rules.specs.History.{Did, historyOf}
+use Rattle.rules.specs.Device.{cleaned, freshController, freshOf}
+use Rattle.rules.specs.Machine.{Answer, freshSlot, State, fresh, Call, Event, step, after, events, lent, stored}
+use Rattle.rules.specs.History.{historyOf}
 use Rattle.rules.specs.Demands.{lentBytes}
 use Rattle.rules.specs.declared.Settings.{Settings}
-use Rattle.rules.specs.declared.Controller.{Controller}
-use Rattle.rules.specs.declared.Device.{Device}
 use Rattle.rules.proofs.ListLaws.{All}
-use Rattle.rules.proofs.SoundLaws.{fresh-closed}
 use Rattle.record.proofs.SettingsLaws.{settingsOk-count}
 use Rattle.tracker.specs.Calls.{freshChange}
-use Rattle.demands.specs.View.{slotsFrom, view, Outcome, run}
+use Rattle.demands.specs.View.{slotsFrom, view, run}
 use Rattle.demands.specs.Sessions.{Left, begun, outcome, next, leftAfter, answersTo, bytesTo}
 use Rattle.demands.proofs.ViewLaws.{Listed, Fits}
 use Rattle.demands.proofs.StepLaws.{Like, call-step}

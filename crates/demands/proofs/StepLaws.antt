@@ -1,8 +1,8 @@
 -- Each call of `tracker` is a step of the rules: of a record and marks seen as a device. Assumes nothing.
-use mathlib.Core.Path.{_≡_, refl, sym, ap, ap₂, subst, _∙_}
+use mathlib.Core.Path.{_≡_, refl, sym, ap, subst, _∙_}
 use mathlib.Core.Logic.{_≢_}
-use mathlib.Core.Bool.{Bool, true, false, _||_, cond, true≢false}
-use mathlib.Core.List.{List, [], _∷_, map}
+use mathlib.Core.Bool.{Bool, true, false, _||_, true≢false}
+use mathlib.Core.List.{List, [], _∷_}
 use mathlib.Core.Option.{Option, none, some}
 use Prim.Native.Nat.{ℕ, zero, suc, _+_, _≤_, _<_}
 use native.Mathlib.Omega.{arith}
@@ -12,19 +12,17 @@ use lib.Seq.{set-getD}
 use borrow.Author.Tests.{ne-eqb}
 use Rattle.bits.proofs.Share.{getShare-length}
 use Rattle.bits.proofs.Flat.{flat-length}
-use Rattle.little.specs.Little.{put}
 use Rattle.little.proofs.Put.{put-take-front, put-length}
-use Rattle.rules.specs.Lists.{isSome, join}
+use Rattle.rules.specs.Lists.{join}
 use Rattle.rules.specs.Refusals.{Test, _else_, verdict}
 use Rattle.rules.specs.Settings.{placeOf}
-use Rattle.rules.specs.Units.{Unit, Write, units, clear, mark, newly}
+use Rattle.rules.specs.Units.{Unit, Write, units, clear, mark}
 use Rattle.rules.specs.StartData.{granularityOf, countOf, rangesOf, noRange, placed}
-use Rattle.rules.specs.Report.{Report, room, reportOn, marksLeft, reportBytes, reportedRuns}
-use Rattle.rules.specs.Order.{Op, start, stop, write, receive, suspend, resume, Seen, order, startOrder, stopOrder, writeOrder, receiveOrder, suspendOrder, resumeOrder}
+use Rattle.rules.specs.Report.{room, marksLeft, reportedRuns}
+use Rattle.rules.specs.Order.{Op, start, stop, write, receive, suspend, resume, Seen, order}
 use Rattle.rules.specs.Device.{soundDevice}
 use Rattle.rules.specs.Ranges.{listTests}
-use Rattle.rules.specs.Machine.{Answer, refused, done, wrote, reported, off, on, Slot, slot, accepted, slotStep, State, slotAt, withSlot, seenAt, stepAt, Call, step, lent, stored, noReport}
-use Rattle.rules.specs.declared.Range.{Range}
+use Rattle.rules.specs.Machine.{Answer, refused, done, wrote, reported, on, Slot, slot, accepted, slotStep, State, slotAt, withSlot, seenAt, stepAt, Call, step, lent, stored, noReport}
 use Rattle.rules.specs.declared.Settings.{Settings}
 use Rattle.rules.specs.declared.Tracking.{Tracking}
 use Rattle.rules.specs.declared.Tracking.the-variants.{Off, On}
@@ -38,9 +36,9 @@ use Rattle.rules.proofs.OrderLaws.{StartPassed, startOrder-passed}
 use Rattle.rules.proofs.StartLaws.{rangesOf-length}
 use Rattle.rules.proofs.Isolation.{withSlot-slotAt}
 use Rattle.record.specs.Record.{soundWith, noController, controllerAt, withController, isOn, seenIn}
-use Rattle.record.proofs.RangeLaws.{HeldFacts, listTests-numbers, listTests-facts}
+use Rattle.record.proofs.RangeLaws.{listTests-numbers, listTests-facts}
 use Rattle.record.proofs.RecordLaws.{soundDevice-facts, soundDevice-held}
-use Rattle.tracker.specs.Calls.{shareAt, marksAt, withMarks, withClear, Change, changed, started, startDone, startAt, startChange, stopped, stopDone, stopAt, stopChange, flagged, flagDone, suspendAt, suspendChange, resumeAt, resumeChange, Note, noted, noteIn, writeDone, writeAt, writeNote, Receipt, received, receiveIn, receiveDone, receiveAt, receiveReceipt}
+use Rattle.tracker.specs.Calls.{shareAt, marksAt, withMarks, withClear, Change, changed, started, startDone, startChange, stopped, stopDone, stopChange, flagged, flagDone, suspendChange, resumeChange, Note, noted, noteIn, writeDone, writeNote, Receipt, received, receiveIn, receiveDone, receiveReceipt}
 use Rattle.tracker.specs.declared.Changed.{Changed}
 use Rattle.demands.specs.View.{marksOf, slotOf, view, Outcome, answered, changes, flags, notes, receipts, runAs, run}
 use Rattle.demands.proofs.MarkLaws.{clear-length, clear-own, clear-other, put-length as marks-length, put-own, put-other}

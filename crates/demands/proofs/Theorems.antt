@@ -1,9 +1,8 @@
 -- What was asked for, proved of the calls. Assumes nothing.
 use mathlib.Core.Path.{_≡_, refl, sym, ap, subst, _∙_}
-use mathlib.Core.Logic.{_≢_, _↔_}
 use mathlib.Core.Bool.{Bool, true, false, _||_}
-use mathlib.Core.List.{List, [], _∷_, map}
-use mathlib.Core.Option.{Option, none, some}
+use mathlib.Core.List.{List, [], _∷_}
+use mathlib.Core.Option.{some}
 use Prim.Native.Nat.{ℕ, zero, suc, _+_, _^_, _≤_, _<_}
 use borrow.Author.Tests.{le-leb}
 use native.Mathlib.Omega.{arith}
@@ -14,11 +13,10 @@ use Rattle.rules.specs.Settings.{placeOf}
 use Rattle.rules.specs.Units.{Unit, Write, mark, newly}
 use Rattle.rules.specs.Order.{startOrder, stopOrder, writeOrder, receiveOrder, suspendOrder, resumeOrder}
 use Rattle.rules.specs.declared.Settings.{Settings}
-use Rattle.rules.specs.declared.Device.{Device}
-use Rattle.rules.specs.Machine.{on, Slot, slot, noReport, pendingIn, State, fresh, soundState, slotOf, Call}
+use Rattle.rules.specs.Machine.{on, slot, noReport, pendingIn, State, fresh, soundState, slotOf, Call}
 use Rattle.rules.specs.History.{Did, historyOf, only, pendingBy, PendingBy}
 use Rattle.rules.specs.Demands as rules-demands
-use Rattle.rules.specs.Demands.{sessionEnd, sessionHistory, lentBytes, unhindered}
+use Rattle.rules.specs.Demands.{sessionEnd, sessionHistory, lentBytes}
 use Rattle.rules.proofs.SlotHistory.{Known}
 use Rattle.rules.proofs.Sessions.{known-session}
 use Rattle.rules.proofs.ListLaws.{some-inj}
@@ -29,11 +27,11 @@ use Rattle.record.specs.Record.{soundWith, controllerAt, seenIn}
 use Rattle.bits.proofs.Share.{getShare-at}
 use Rattle.tracker.specs.Calls.{shareAt, withMarks, reportIn, freshChange, Change, changed, startDone, startChange, stopDone, stopChange, flagDone, suspendChange, resumeChange, Note, noted, writeDone, writeNote, Receipt, received, receiveDone, receiveReceipt}
 use Rattle.tracker.specs.declared.Changed.{Changed}
-use Rattle.demands.specs.View.{view, slotOf as slotSeen}
-use Rattle.demands.specs.Sessions.{Left, begun, endOf, historyIn, bytesIn}
-use Rattle.demands.specs.Demands.{Demand1, Soundness, controllerOf, unitsOf, marksIn, Tracked, Demand2, pendingOf, Agree, Demand3}
-use Rattle.demands.proofs.ViewLaws.{Fits, sound-same, slot-at, placeOf-used}
-use Rattle.demands.proofs.SessionLaws.{Begins, begins, Same, same}
+use Rattle.demands.specs.View.{view}
+use Rattle.demands.specs.Sessions.{begun, endOf, historyIn, bytesIn}
+use Rattle.demands.specs.Demands.{Demand1, Soundness, controllerOf, unitsOf, marksIn, Tracked, Demand2, Agree, Demand3}
+use Rattle.demands.proofs.ViewLaws.{sound-same, slot-at, placeOf-used}
+use Rattle.demands.proofs.SessionLaws.{begins, Same, same}
 use Rattle.demands.proofs.ClosedLaws.{fresh-done, closed-session, closed-answer}
 use Rattle.demands.proofs.AnswerLaws.{answers, fresh-answers, start-zero, stop-zero, flag-zero, write-zero, receive-zero}
 

@@ -1,23 +1,20 @@
 -- A record and its marks seen as a device of the rules: they hold the same and a call sees the same of both; and a controller that is replaced is a
 -- slot that is replaced. Assumes nothing.
-use mathlib.Core.Path.{_≡_, refl, sym, ap, ap₂, subst, _∙_}
+use mathlib.Core.Path.{_≡_, refl, sym, ap, ap₂, _∙_}
 use mathlib.Core.Logic.{_≢_}
-use mathlib.Core.Bool.{Bool, true, false, _&&_, and-true}
+use mathlib.Core.Bool.{Bool, true, false, and-true}
 use mathlib.Core.List.{List, [], _∷_, map}
 use mathlib.Core.Option.{Option, none, some}
 use Prim.Native.Nat.{ℕ, zero, suc, _+_, _≤_, _<_}
 use native.Mathlib.Omega.{arith}
-use native.Mathlib.Nat.{suc-add}
 use lib.Dec.{eqb}
 use lib.ListN.{length, getD, set, take, length-take, length-set}
 use lib.Seq.{ext-getD, getD-set-same, getD-set-other, length-take-le}
 use borrow.Author.Tests.{eq-eqb, eqb-true, eqb-false}
 use Rattle.rules.specs.Lists.{sum}
-use Rattle.rules.specs.Settings.{placeOf, identifiersOf}
-use Rattle.rules.specs.Units.{units}
-use Rattle.rules.specs.Order.{Seen}
-use Rattle.rules.specs.Device.{Held, heldCount, heldIn, heldOf, controllersOf, sound, soundDevice}
-use Rattle.rules.specs.Machine.{off, on, Slot, slot, freshSlot, isSuspended, isTracked, heldBy, State, slotAt, withSlot, soundState, countsIn, seenAt}
+use Rattle.rules.specs.Settings.{placeOf}
+use Rattle.rules.specs.Device.{heldCount, heldIn, heldOf, controllersOf, sound, soundDevice}
+use Rattle.rules.specs.Machine.{Slot, slot, freshSlot, isTracked, heldBy, slotAt, withSlot, soundState, countsIn, seenAt}
 use Rattle.rules.specs.declared.Range.{Range}
 use Rattle.rules.specs.declared.Tracking.{Tracking}
 use Rattle.rules.specs.declared.Tracking.the-variants.{Off, On}
@@ -25,8 +22,8 @@ use Rattle.rules.specs.declared.Controller.{Controller}
 use Rattle.rules.specs.declared.Device.{Device}
 use Rattle.rules.proofs.ListLaws.{All, All-take}
 use Rattle.rules.proofs.StateLaws.{placeOf-is}
-use Rattle.record.specs.Record.{soundWith, noController, controllerAt, withController, isOn, countsOf, seenIn}
-use Rattle.tracker.specs.Calls.{shareAt, marksAt}
+use Rattle.record.specs.Record.{soundWith, noController, withController, isOn, countsOf, seenIn}
+use Rattle.tracker.specs.Calls.{shareAt}
 use Rattle.demands.specs.View.{marksOf, slotOf, slotsFrom, view}
 
 -- ---- what holds of each record and its marks in a session

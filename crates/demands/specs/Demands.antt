@@ -5,17 +5,17 @@ use Prim.Native.Nat.{ℕ, _+_, _^_, _≤_}
 use mathlib.Core.Path.{_≡_}
 use mathlib.Core.Logic.{_≢_, _↔_}
 use mathlib.Core.Bool.{Bool, true, false}
-use mathlib.Core.List.{List, []}
+use mathlib.Core.List.{List}
 use mathlib.Core.Option.{some}
 use lib.ListN.{length, take, getD, getElem?}
 use Rattle.bits.specs.Flat.{flat}
 use Rattle.rules.specs.Refusals.{Test, refusal}
-use Rattle.rules.specs.Settings.{settingsOk, placeOf}
+use Rattle.rules.specs.Settings.{placeOf}
 use Rattle.rules.specs.Units.{Unit, Write, units, mark, newly}
 use Rattle.rules.specs.Order.{freshOrder, startOrder, stopOrder, writeOrder, receiveOrder, suspendOrder, resumeOrder}
 use Rattle.rules.specs.Device.{closedDevice, soundDevice}
 use Rattle.rules.specs.Machine.{refused, pendingIn, slotOf, Call, lent}
-use Rattle.rules.specs.History.{Did, only, PendingBy}
+use Rattle.rules.specs.History.{only, PendingBy}
 use Rattle.rules.specs.Demands.{Reports, Touches, Writes, WithoutLoss, unhindered}
 use Rattle.rules.specs.declared.Settings.{Settings}
 use Rattle.rules.specs.declared.Controller.{Controller}
@@ -24,7 +24,7 @@ use Rattle.rules.specs.declared.Tracking.the-variants.{On}
 use Rattle.record.specs.Record.{controllerAt, seenIn}
 use Rattle.tracker.specs.Calls.{shareAt, marksAt, withMarks, freshChange, startChange, stopChange, suspendChange, resumeChange, noted, writeNote, reportIn, receiveReceipt}
 use Rattle.demands.specs.View.{view}
-use Rattle.demands.specs.Sessions.{Left, begun, outcome, leftAfter, endOf, historyIn, bytesIn}
+use Rattle.demands.specs.Sessions.{Left, outcome, endOf, historyIn, bytesIn}
 
 -- ---- demand 1: "A refusal returns its number from document 01 and zeros, and the device record, the marks and the report buffer stay as they were"
 

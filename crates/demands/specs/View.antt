@@ -7,8 +7,7 @@ use lib.ListN.{length, take}
 use Rattle.rules.specs.Units.{units}
 use Rattle.rules.specs.Order.{Op, start, stop, write, receive, suspend, resume}
 use Rattle.rules.specs.Device.{controllersOf}
-use Rattle.rules.specs.Machine.{Marks, off, on, Slot, slot, State, Answer, refused, done, wrote, reported, Call, Event}
-use Rattle.rules.specs.Report.{Report}
+use Rattle.rules.specs.Machine.{Marks, off, on, Slot, slot, State, Answer, refused, done, wrote, reported, Call}
 use Rattle.rules.specs.declared.Range.{Range}
 use Rattle.rules.specs.declared.Tracking.{Tracking}
 use Rattle.rules.specs.declared.Tracking.the-variants.{Off, On}

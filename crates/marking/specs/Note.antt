@@ -1,7 +1,7 @@
 -- What the inner functions of `write` promise: the units of one range that a written range touches, as a span. These serve this crate alone.
 use Prim.Native.Nat.{ℕ, _+_, _-_, _*_, _≤_, _<_}
 use mathlib.Core.Path.{_≡_}
-use mathlib.Core.Bool.{Bool, _&&_}
+use mathlib.Core.Bool.{_&&_}
 use lib.Dec.{leb, ltb}
 use Rattle.rules.specs.Units.{Unit, Write, touches}
 use Rattle.rules.specs.declared.Range.{Range}

@@ -8,8 +8,8 @@ use mathlib.Core.Option.{none, some}
 use native.Mathlib.Numerals.{add-one}
 use native.Mathlib.Omega.{arith}
 use borrow.Author.Tests.{eq-eqb, ne-eqb}
-use lib.ListN.{length, getD, take, drop, length-take, length-map, drop-of-length-le}
-use lib.Seq.{drop-cons, getD-take}
+use lib.ListN.{length, getD, take, drop, length-take, length-map}
+use lib.Seq.{getD-take}
 use Rattle.rules.specs.Lists.{all, any, pairs, sum, placeFrom}
 use Rattle.rules.proofs.ListLaws.{All, all-at, front-at, front-end}
 

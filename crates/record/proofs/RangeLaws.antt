@@ -1,9 +1,9 @@
 -- Laws of the range rules (9, 10 and 11) as the code asks them: one range, two ranges, each rule of the table, the answer; and what ranges that
 -- pass are known by (`RowFacts`, `HeldFacts`). All of it is the library's interface. Assumes nothing.
 use Prim.Native.Nat.{ℕ, suc, _+_, _-_, _%_, _^_, _<_, _≤_}
-use mathlib.Core.Path.{_≡_, refl, sym, _∙_}
+use mathlib.Core.Path.{_≡_, refl, _∙_}
 use mathlib.Core.Bool.{true, false, cond, and-true, and-false, or-comm}
-use mathlib.Core.List.{List, [], _∷_, _++_, map}
+use mathlib.Core.List.{List, [], _∷_, map}
 use native.Mathlib.Omega.{arith}
 use native.Mathlib.Nat.{mul-pos, lt-of-lt-of-le}
 use lib.Dec.{leb, eqb}

@@ -1,24 +1,24 @@
 -- Demand 3: a session, seen by one controller, is its slot alone, unless a start of it is refused for what controllers share. Assumes nothing.
 use mathlib.Core.Path.{_≡_, refl, sym, ap, ap₂, subst, _∙_}
 use mathlib.Core.Logic.{_≢_}
-use mathlib.Core.Bool.{Bool, true, false, _&&_, not, cond, true≢false}
-use mathlib.Core.List.{List, [], _∷_, _++_, map}
+use mathlib.Core.Bool.{Bool, true, false, not, cond, true≢false}
+use mathlib.Core.List.{List, [], _∷_, map}
 use mathlib.Core.Option.{Option, none, some}
-use Prim.Native.Nat.{ℕ, zero, suc, _+_, _≤_, _<_}
+use Prim.Native.Nat.{ℕ, zero, suc, _+_, _<_}
 use native.Mathlib.Omega.{arith}
 use native.Mathlib.Nat.{zero-add}
 use lib.Dec.{leb, eqb}
 use lib.ListN.{length, getD, set}
 use lib.Seq.{set-getD}
 use borrow.Author.Tests.{eqb-true, eqb-false, leb-true, le-leb}
-use Rattle.rules.specs.Lists.{all, member, sum, isSome}
+use Rattle.rules.specs.Lists.{member, sum, isSome}
 use Rattle.rules.specs.Refusals.{Test, _else_, verdict}
 use Rattle.rules.specs.Settings.{settingsOk, identifiersOf, placeOf, granularityOk}
 use Rattle.rules.specs.Ranges.{listTests}
 use Rattle.rules.specs.StartData.{headerThere, versionOk, rangesThere, granularityOf, countOf, rangesOf}
 use Rattle.rules.specs.Order.{Op, start, stop, write, receive, suspend, resume, Seen, order}
-use Rattle.rules.specs.Device.{heldCount, cleaned, closedSettings}
-use Rattle.rules.specs.Machine.{Answer, refused, off, on, Slot, slot, freshSlot, isSuspended, isTracked, heldBy, pendingIn, accepted, slotStep, State, closed, fresh, soundState, countsIn, slotAt, withSlot, slotOf, seenAt, stepAt, Call, Event, step, after, events, numberOf}
+use Rattle.rules.specs.Device.{heldCount, cleaned}
+use Rattle.rules.specs.Machine.{Answer, refused, off, on, Slot, slot, freshSlot, isSuspended, isTracked, heldBy, accepted, slotStep, State, closed, fresh, soundState, countsIn, slotAt, withSlot, slotOf, seenAt, stepAt, Call, Event, step, after, events, numberOf}
 use Rattle.rules.specs.History.{Did, only, historyOf}
 use Rattle.rules.specs.Demands.{unhindered, sharedRefusals}
 use Rattle.rules.specs.declared.Settings.{Settings}

@@ -1,6 +1,6 @@
 -- Laws of the calls' tables: what is known where all tests of a table are passed. Assumes nothing.
-use mathlib.Core.Path.{_≡_, refl, sym, ap, _∙_}
-use mathlib.Core.Bool.{Bool, true, false, not}
+use mathlib.Core.Path.{_≡_}
+use mathlib.Core.Bool.{true, not}
 use mathlib.Core.List.{List, [], _∷_, _++_}
 use Prim.Native.Nat.{ℕ, _+_, _≤_}
 use lib.Dec.{leb}
@@ -9,11 +9,11 @@ use Rattle.rules.specs.Lists.{pairs}
 use Rattle.rules.specs.Refusals.{Test, _else_}
 use Rattle.rules.specs.Settings.{granularityOk}
 use Rattle.rules.specs.Ranges.{apart, rowsTests, rangeTests, listTests, powersOk, unitsOk}
-use Rattle.rules.specs.StartData.{headerThere, versionOk, rangesThere, granularityOf, countOf, rangesOf}
+use Rattle.rules.specs.StartData.{granularityOf, countOf, rangesOf}
 use Rattle.rules.specs.Order.{Seen, startOrder}
 use Rattle.rules.specs.declared.Range.{Range}
 use Rattle.rules.specs.declared.Settings.{Settings}
-use Rattle.rules.proofs.ListLaws.{All, All-left, All-right}
+use Rattle.rules.proofs.ListLaws.{All-left, All-right}
 use Rattle.rules.proofs.RefusalLaws.{Passed}
 
 -- ---- ranges

@@ -1,20 +1,20 @@
 -- What a report lists, clears and leaves, unit by unit; and the count of a write. Assumes nothing.
-use mathlib.Core.Path.{_≡_, refl, sym, ap, ap₂, subst, _∙_}
+use mathlib.Core.Path.{_≡_, refl, sym, ap, subst, _∙_}
 use mathlib.Core.Logic.{_↔_}
-use mathlib.Core.Bool.{Bool, true, false, _&&_, _||_, not, cond, and-true, and-false, true≢false}
-use mathlib.Core.List.{List, [], _∷_, _++_, map}
-use mathlib.Core.Option.{Option, none, some}
-use Prim.Native.Nat.{ℕ, zero, suc, _+_, _<_}
+use mathlib.Core.Bool.{Bool, true, false, _&&_, not, cond, and-true, and-false, true≢false}
+use mathlib.Core.List.{List, [], _∷_, map}
+use mathlib.Core.Option.{some}
+use Prim.Native.Nat.{ℕ, _+_, _<_}
 use native.Mathlib.Omega.{arith}
-use lib.ListN.{length, take, drop, getElem?}
+use lib.ListN.{drop, getElem?}
 use Rattle.rules.specs.Lists.{all, join, nonEmpty}
 use Rattle.rules.specs.Settings.{unitSize}
 use Rattle.rules.specs.Units.{Unit, Write, touches, mark, newly, pending}
-use Rattle.rules.specs.Report.{follows, withFirst, runs, reportedRuns, marksLeft, reportOn}
-use Rattle.rules.specs.Demands.{isRow, lastOf, isCut, areCut, becomes, Reports, Writes}
-use Rattle.rules.proofs.ListLaws.{All, All-map, All-left, All-at, map-at, join-take-drop, and-intro, and-left, and-right, not-intro, some-inj}
+use Rattle.rules.specs.Report.{follows, withFirst, runs, reportedRuns, marksLeft}
+use Rattle.rules.specs.Demands.{isRow, areCut, becomes, Reports, Writes}
+use Rattle.rules.proofs.ListLaws.{All, All-map, All-left, All-at, map-at, join-take-drop, and-intro, not-intro}
 use Rattle.rules.proofs.UnitLaws.{Free, Apart, Sized, All-pending, Apart-pending, newly-is, unitSize-pos}
-use Rattle.rules.proofs.RunLaws.{listed, runs-join, runs-run, runs-unlisted, first-runs, marksLeft-map, more-exactly}
+use Rattle.rules.proofs.RunLaws.{listed, runs-join, runs-unlisted, first-runs, marksLeft-map, more-exactly}
 
 -- ---- runs are cut where the next unit does not follow, and nowhere else
 

@@ -1,19 +1,19 @@
 -- Laws of runs and reports: runs are longest rows, in order; the descriptors of the first runs list exactly those runs' units; what a report leaves.
 -- Assumes nothing.
-use mathlib.Core.Path.{_≡_, refl, sym, ap, ap₂, subst, _∙_}
-use mathlib.Core.Bool.{Bool, true, false, _&&_, _||_, not, cond}
+use mathlib.Core.Path.{_≡_, refl, sym, ap, subst, _∙_}
+use mathlib.Core.Bool.{Bool, true, false, _&&_, not, cond}
 use mathlib.Core.List.{List, [], _∷_, _++_, map}
 use Prim.Native.Nat.{ℕ, zero, suc, _+_, _*_, _≤_, _<_}
 use native.Mathlib.Omega.{arith}
 use native.Mathlib.Nat.{zero-mul, suc-mul}
 use native.Mathlib.Decide.{decLt}
 use lib.Dec.{leb, ltb, eqb}
-use lib.ListN.{length, take, drop, length-append}
+use lib.ListN.{length, take, drop}
 use borrow.Author.Tests.{leb-true, ltb-true, eqb-true, le-leb, lt-ltb}
 use Rattle.rules.specs.Lists.{any, join, nonEmpty}
 use Rattle.rules.specs.Settings.{unitSize, bytesOf}
 use Rattle.rules.specs.Units.{Unit, pending}
-use Rattle.rules.specs.Report.{follows, withFirst, runs, Descriptor, descriptor, Report, reportedRuns, laterRuns, reportOn, clearFirst, marksLeft}
+use Rattle.rules.specs.Report.{follows, withFirst, runs, Descriptor, descriptor, reportedRuns, laterRuns, reportOn, clearFirst, marksLeft}
 use Rattle.rules.specs.History.{lists}
 use Rattle.rules.proofs.ListLaws.{All, All-map, All-append, All-left, All-right, All-take, All-drop, join-take-drop, take-join, drop-join, and-left, and-right, and-intro, or-intro-left, or-intro-right, or-neither, false-intro}
 use Rattle.rules.proofs.UnitLaws.{In, Free, Apart, Sized, Chain, chain-within, unitSize-pos, All-pending, Apart-pending}

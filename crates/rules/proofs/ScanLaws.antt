@@ -1,20 +1,19 @@
 -- Laws for a loop that goes over a controller's marks once, from the first unit on: clear marks are passed, a row of set marks is the next run, and
 -- what was passed is clear afterwards. Assumes nothing.
-use mathlib.Core.Path.{_≡_, refl, sym, ap, ap₂, subst, _∙_}
+use mathlib.Core.Path.{_≡_, refl, sym, ap, subst, _∙_}
 use mathlib.Core.Bool.{Bool, true, false, _&&_, cond}
-use mathlib.Core.List.{List, [], _∷_, _++_, map, append-assoc}
+use mathlib.Core.List.{List, [], _∷_, _++_, map}
 use Prim.Native.Nat.{ℕ, zero, suc, _+_, _-_, _*_, _≤_, _<_}
 use native.Mathlib.Omega.{arith}
-use native.Mathlib.Nat.{add-zero, add-suc, suc-mul, zero-mul}
+use native.Mathlib.Nat.{add-zero, suc-mul, zero-mul}
 use lib.Dec.{eqb}
 use lib.ListN.{length, take, drop, getD, length-append, length-take}
 use lib.Seq.{drop-drop, take-append-le, drop-append-le, drop-cons}
 use borrow.Author.Tests.{eq-eqb, ne-eqb}
-use Rattle.rules.specs.Lists.{join}
 use Rattle.rules.specs.Units.{Unit, unitsOfRow, unitsFrom, pending}
-use Rattle.rules.specs.Report.{follows, withFirst, runs, Descriptor, descriptor, clearFirst}
+use Rattle.rules.specs.Report.{follows, withFirst, runs, descriptor, clearFirst}
 use Rattle.rules.specs.declared.Range.{Range}
-use Rattle.rules.proofs.ListLaws.{All, All-map, All-append, All-both}
+use Rattle.rules.proofs.ListLaws.{All, All-map, All-append}
 use Rattle.rules.proofs.UnitLaws.{All-pending, chain-within, unitsOfRow-chain, unitsOfRow-row, unitsOfRow-length}
 
 -- ---- what is pending from a unit on

@@ -1,12 +1,12 @@
 -- Sessions: what each controller's slot holds is told by the history of its own calls (demand 2), whatever the others are called with.
 -- Assumes nothing.
-use mathlib.Core.Path.{_≡_, refl, sym, ap, ap₂, subst, _∙_}
+use mathlib.Core.Path.{_≡_, refl}
 use mathlib.Core.Bool.{Bool, true, false, cond}
-use mathlib.Core.List.{List, [], _∷_, _++_, map, append-assoc, append-nil}
+use mathlib.Core.List.{List, [], _∷_, _++_, append-assoc, append-nil}
 use Prim.Native.Nat.{ℕ}
 use lib.Dec.{eqb}
 use borrow.Author.Tests.{eqb-true, eqb-false}
-use Rattle.rules.specs.Machine.{Slot, slotOf, State, fresh, Call, Event, step, after, events, seenAt}
+use Rattle.rules.specs.Machine.{slotOf, State, fresh, Call, Event, step, after, events, seenAt}
 use Rattle.rules.specs.Settings.{placeOf}
 use Rattle.rules.specs.History.{Did, historyOf, slotBy}
 use Rattle.rules.specs.declared.Settings.{Settings}

@@ -8,19 +8,18 @@ use mathlib.Core.Option.{Option, none, some}
 use Prim.Native.Nat.{ℕ}
 use lib.Dec.{eqb}
 use lib.ListN.{length}
-use Rattle.rules.specs.Refusals.{verdict}
 use Rattle.rules.specs.Settings.{unitSize}
 use Rattle.rules.specs.Units.{Unit, Write, units, touches, clear, mark, newly}
 use Rattle.rules.specs.StartData.{granularityOf, countOf, rangesOf}
-use Rattle.rules.specs.Report.{Report, room, reportOn, reportedRuns, marksLeft}
-use Rattle.rules.specs.Order.{Op, start, stop, write, receive, suspend, resume, Seen, order, startOrder}
+use Rattle.rules.specs.Report.{room, reportOn, marksLeft}
+use Rattle.rules.specs.Order.{Op, start, stop, write, receive, suspend, resume, Seen, order}
 use Rattle.rules.specs.Machine.{Answer, refused, done, wrote, reported, Marks, off, on, Slot, slot, accepted, slotStep}
 use Rattle.rules.specs.History.{Did, isAccepted, touchedBy, startedBy, reportedBy, quietSince, pendingBy, PendingBy, tracksAfter, tracksBy, suspendsAfter, suspendedBy, marksBy, slotBy}
 use Rattle.rules.specs.declared.Range.{Range}
 use Rattle.rules.specs.declared.Settings.{Settings}
 use Rattle.rules.proofs.ListLaws.{map-same}
 use Rattle.rules.proofs.RefusalLaws.{Passed, verdict-has}
-use Rattle.rules.proofs.OrderLaws.{StartPassed, startOrder-passed, listTests-apart}
+use Rattle.rules.proofs.OrderLaws.{startOrder-passed, listTests-apart}
 use Rattle.rules.proofs.UnitLaws.{Apart, unitsFrom-apart, unitsFrom-sized, mark-map}
 use Rattle.rules.proofs.RunLaws.{marksLeft-map}
 

@@ -1,24 +1,22 @@
 -- From a fresh device no sequence of calls leads to an unsound one: a call leaves its own slot sound and the counts within the limit.
 -- Assumes nothing.
-use mathlib.Core.Path.{_≡_, refl, sym, ap, subst, _∙_}
-use mathlib.Core.Bool.{Bool, true, false, _||_, cond, true≢false}
-use mathlib.Core.List.{List, [], _∷_, _++_, map}
+use mathlib.Core.Path.{_≡_, refl, _∙_}
+use mathlib.Core.Bool.{Bool, true, false, _||_}
+use mathlib.Core.List.{List, [], _∷_, map}
 use mathlib.Core.Option.{Option, none, some}
 use Prim.Native.Nat.{ℕ, zero, suc, _+_, _≤_}
 use native.Mathlib.Omega.{arith}
-use lib.Dec.{leb, eqb}
+use lib.Dec.{eqb}
 use lib.ListN.{length, getD, set}
 use borrow.Author.Tests.{leb-true, le-leb}
 use Rattle.little.proofs.Records.{recordsAt-length}
 use Rattle.rules.specs.Lists.{all, sum}
-use Rattle.rules.specs.Refusals.{Test, _else_, passes}
-use Rattle.rules.specs.Settings.{settingsOk, settingsRules, granularityOk, identifiersOf, placeOf}
-use Rattle.rules.specs.Ranges.{listTests, powersOk}
+use Rattle.rules.specs.Settings.{settingsOk, identifiersOf, placeOf}
+use Rattle.rules.specs.Ranges.{listTests}
 use Rattle.rules.specs.StartData.{granularityOf, countOf, rangeAt, rangesOf}
 use Rattle.rules.specs.Order.{Op, start, stop, write, receive, suspend, resume, Seen, order}
-use Rattle.rules.specs.Device.{Held, heldOk, heldCount, sound, soundRules, cleaned, closedSettings}
-use Rattle.rules.specs.Machine.{Answer, refused, Marks, off, on, Slot, slot, freshSlot, heldBy, accepted, slotStep, State, closed, fresh, soundState, countsIn, slotAt, seenAt, stepAt, Call, step, after}
-use Rattle.rules.specs.declared.Range.{Range}
+use Rattle.rules.specs.Device.{Held, heldOk, heldCount, sound, soundRules, cleaned}
+use Rattle.rules.specs.Machine.{Answer, refused, Marks, off, on, Slot, slot, freshSlot, heldBy, accepted, slotStep, State, closed, fresh, soundState, seenAt, stepAt, Call, step, after}
 use Rattle.rules.specs.declared.Settings.{Settings}
 use Rattle.rules.proofs.ListLaws.{all-set, every-at, and-left, and-right, and-intro, map-set}
 use Rattle.rules.proofs.RefusalLaws.{Passed, verdict-has, passes-all}

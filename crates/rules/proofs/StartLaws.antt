@@ -1,26 +1,22 @@
 -- Laws of the start structure, and both round trips: its reader and its writer rest on one description of a range's record. Assumes nothing.
 use mathlib.Core.Path.{_≡_, refl, sym, ap, _∙_}
-use mathlib.Core.Bool.{Bool, true, false}
 use mathlib.Core.List.{List, [], _∷_, _++_, append-assoc}
-use Prim.Native.Nat.{ℕ, zero, suc, _+_, _-_, _*_, _/_, _%_, _^_, _≤_, _<_}
+use Prim.Native.Nat.{ℕ, _+_, _-_, _*_, _%_, _≤_, _<_}
 use native.Mathlib.Nat.{zero-add}
 use native.Mathlib.Omega.{arith}
-use lib.Dec.{leb, eqb}
 use lib.ListN.{length, getD, take, drop, replicate, length-append}
 use lib.Seq.{take-add, drop-drop}
-use borrow.Author.Tests.{leb-true, eqb-true, le-leb, eq-eqb}
-use Rattle.little.specs.Little.{numberAt, numberBytes, put, records, recordsAt}
+use borrow.Author.Tests.{leb-true, eqb-true, le-leb}
+use Rattle.little.specs.Little.{numberBytes, put, records, recordsAt}
 use Rattle.little.proofs.Put.{put-is, put-drop-after, put-take-front}
 use Rattle.little.proofs.Numbers.{numberBytes-length, numberAt-here, numberAt-next, numberBytes-numberAt}
 use Rattle.little.proofs.Records.{records-length, recordsAt-length, recordsAt-here, records-recordsAt}
-use Rattle.rules.specs.Refusals.{verdict}
 use Rattle.rules.specs.StartData.{versionOf, granularityOf, countOf, rangeAt, rangesOf, startSize, readTests, startData, noRange, placed, rangeBytes, headerBytes, startBytes, writeTests, startWritten}
 use Rattle.rules.specs.Demands.{Fits, Bytes, WithoutLoss}
 use Rattle.rules.specs.declared.Range.{Range}
-use Rattle.rules.specs.declared.Header.{Header}
 use Rattle.rules.specs.declared.Header.the-variants.{Is, Refused}
 use Rattle.rules.specs.declared.StartData.{StartData}
-use Rattle.rules.proofs.RefusalLaws.{Passed, verdict-has, verdict-passed}
+use Rattle.rules.proofs.RefusalLaws.{Passed, verdict-has}
 
 -- ---- sizes
 

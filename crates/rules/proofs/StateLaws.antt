@@ -1,13 +1,13 @@
 -- Laws of the device: a call changes its own controller's slot as the rules for a slot say, and leaves every other slot and the settings.
 -- Assumes nothing.
-use mathlib.Core.Path.{_≡_, refl, sym, ap, ap₂, subst, _∙_}
+use mathlib.Core.Path.{_≡_, refl, sym, ap, _∙_}
 use mathlib.Core.Logic.{_≢_}
 use mathlib.Core.Bool.{Bool, true, false, cond}
 use mathlib.Core.List.{List, [], _∷_, _++_, map}
 use mathlib.Core.Option.{Option, none, some}
 use Prim.Native.Nat.{ℕ, zero, suc, _+_, _-_, _<_}
 use native.Mathlib.Omega.{arith}
-use lib.ListN.{length, take, getD, set, length-set, length-map, replicate}
+use lib.ListN.{length, take, getD, length-set, length-map, replicate}
 use lib.Seq.{getD-set-same, getD-set-other}
 use Rattle.rules.specs.Settings.{identifiersOf, settingsOk, placeOf}
 use Rattle.rules.specs.Order.{Op, start, stop, write, receive, suspend, resume, Seen, order}

@@ -1,27 +1,25 @@
 -- The demands, proved of the rules: one declaration for each statement of specs/Demands.antt. Assumes nothing.
-use mathlib.Core.Path.{_≡_, refl, sym, ap, subst, _∙_}
+use mathlib.Core.Path.{_≡_, refl, sym, ap, _∙_}
 use mathlib.Core.Logic.{_↔_}
-use mathlib.Core.Bool.{Bool, true, false}
+use mathlib.Core.Bool.{true}
 use mathlib.Core.List.{List, [], _∷_, map}
 use mathlib.Core.Option.{Option, none, some}
-use Prim.Native.Nat.{ℕ, zero, suc, _+_, _*_, _-_, _%_, _^_, _≤_, _<_}
+use Prim.Native.Nat.{ℕ, _+_, _-_, _%_, _^_, _≤_, _<_}
 use native.Mathlib.Omega.{arith}
 use native.Mathlib.Nat.{lt-of-lt-of-le, mul-mod-right}
 use lib.ListN.{getElem?}
 use lib.Pow.{pow-add, pow-mono, shl-lt}
-use Rattle.rules.specs.Refusals.{verdict}
 use Rattle.little.specs.Little.{numberAt, numberBytes, records, recordsAt}
-use Rattle.rules.specs.Settings.{settingsOk, placeOf, granularityOk, unitSize, bytesOf}
+use Rattle.rules.specs.Settings.{settingsOk, placeOf, granularityOk, unitSize}
 use Rattle.rules.specs.Units.{Unit, Write, units, touches}
 use Rattle.rules.specs.Ranges.{rangeTests, powersOk, unitsOk}
 use Rattle.rules.specs.StartData.{rangesOf, startBytes}
 use Rattle.rules.specs.Order.{Op, start, stop, write, receive, suspend, resume, order}
 use Rattle.rules.specs.Device.{sound, heldOk}
-use Rattle.rules.specs.Machine.{Answer, refused, off, on, Slot, slot, pendingIn, accepted, State, fresh, closed, soundState, slotAt, withSlot, slotOf, seenAt, stepAt, Call, step, after, events}
-use Rattle.rules.specs.History.{Did, only, historyOf, PendingBy, pendingBy}
+use Rattle.rules.specs.Machine.{Answer, refused, off, on, Slot, slot, pendingIn, accepted, State, fresh, closed, slotAt, withSlot, slotOf, seenAt, stepAt, Call, step, after}
+use Rattle.rules.specs.History.{Did, only, pendingBy}
 use Rattle.rules.specs.Demands.{sessionEnd, sessionHistory, Refusals, Soundness, Pending, Demand2, Agree, unhindered, lentBytes, Demand3, Granularity}
 use Rattle.rules.specs.Worked.{Case, cases, answered}
-use Rattle.rules.specs.declared.Range.{Range}
 use Rattle.rules.specs.declared.Settings.{Settings}
 use Rattle.rules.proofs.ListLaws.{map-at, some-inj}
 use Rattle.rules.proofs.RefusalLaws.{verdict-has}

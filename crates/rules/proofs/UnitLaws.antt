@@ -1,6 +1,6 @@
 -- Laws of units and their marks: the units of ranges that pass 9 share no byte and are of one size; what a write marks; what is pending.
 -- Assumes nothing.
-use mathlib.Core.Path.{_≡_, refl, sym, ap, ap₂, subst, _∙_}
+use mathlib.Core.Path.{_≡_, refl, sym, ap, _∙_}
 use mathlib.Core.Logic.{_↔_}
 use mathlib.Core.Bool.{Bool, true, false, _&&_, _||_, not, cond}
 use mathlib.Core.List.{List, [], _∷_, _++_, map}
@@ -12,8 +12,8 @@ use lib.ListN.{length, getD, length-append}
 use lib.Pow.{pow-pos}
 use borrow.Author.Tests.{leb-true, ltb-true, lt-ltb}
 use Rattle.rules.specs.Lists.{all, pairs, sum}
-use Rattle.rules.specs.Settings.{unitSize, bytesOf}
-use Rattle.rules.specs.Units.{Unit, unitsOfRow, unitsFrom, units, Write, touches, clear, mark, newly, pending}
+use Rattle.rules.specs.Settings.{unitSize}
+use Rattle.rules.specs.Units.{Unit, unitsOfRow, unitsFrom, Write, touches, mark, newly, pending}
 use Rattle.rules.specs.Ranges.{endOf, apart}
 use Rattle.rules.specs.declared.Range.{Range}
 use Rattle.rules.proofs.ListLaws.{All, All-map, All-append, and-left, and-right, and-intro, or-cases}

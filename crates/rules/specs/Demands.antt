@@ -1,18 +1,18 @@
 -- What is asked of the rules, as statements, each proved in proofs/Theorems.antt. A session is any list of calls from a fresh device, each call given what
 -- the last one left; settings that break 16 make the closed device, and the statements hold of it too.
-use Prim.Native.Nat.{ℕ, suc, _+_, _*_, _%_, _^_, _≤_, _<_}
+use Prim.Native.Nat.{ℕ, suc, _+_, _%_, _^_, _≤_, _<_}
 use mathlib.Core.Path.{_≡_}
-use mathlib.Core.Logic.{_≢_, _↔_}
+use mathlib.Core.Logic.{_↔_}
 use mathlib.Core.Bool.{Bool, true, false, _&&_, not}
-use mathlib.Core.List.{List, [], _∷_, _++_, map}
-use mathlib.Core.Option.{Option, none, some}
+use mathlib.Core.List.{List, [], _∷_, map}
+use mathlib.Core.Option.{none, some}
 use lib.ListN.{length, take, drop, getD, getElem?}
 use Rattle.rules.specs.Lists.{all, any, join, member}
 use Rattle.rules.specs.Settings.{settingsOk, unitSize, bytesOf}
 use Rattle.rules.specs.Units.{Unit, Write, units, touches, mark, newly, pending}
-use Rattle.rules.specs.StartData.{countOf, granularityOf, rangesOf, startSize, startBytes, startData, startWritten, placed}
-use Rattle.rules.specs.Report.{follows, runs, Descriptor, descriptor, Report, reportOn, marksLeft}
-use Rattle.rules.specs.Machine.{Answer, refused, Slot, slot, on, heldBy, pendingIn, State, fresh, soundState, slotOf, Call, Event, step, after, events, lent, stored, numberOf, newlyOf, noReport, reportOf}
+use Rattle.rules.specs.StartData.{startSize, startBytes, startData, startWritten, placed}
+use Rattle.rules.specs.Report.{follows, runs, Descriptor, descriptor, reportOn, marksLeft}
+use Rattle.rules.specs.Machine.{refused, slot, on, pendingIn, State, fresh, soundState, slotOf, Call, step, after, events, lent, stored, numberOf, newlyOf, noReport, reportOf}
 use Rattle.rules.specs.History.{Did, only, historyOf, PendingBy, lists, slotBy}
 use Rattle.rules.specs.declared.Range.{Range}
 use Rattle.rules.specs.declared.Settings.{Settings}

@@ -5,12 +5,12 @@ use mathlib.Core.Bool.{Bool, true, false}
 use mathlib.Core.List.{List, [], _∷_, _++_, map}
 use mathlib.Core.Option.{Option, none, some}
 use lib.Dec.{leb}
-use lib.ListN.{length, take, drop, replicate}
+use lib.ListN.{length, take, replicate}
 use Rattle.rules.specs.Lists.{all, every, sum}
 use Rattle.rules.specs.Refusals.{_else_, passes, verdict}
 use Rattle.rules.specs.Settings.{settingsOk, granularityOk, identifiersOf}
 use Rattle.rules.specs.Ranges.{listTests}
-use Rattle.rules.specs.StartData.{noRange, placed}
+use Rattle.rules.specs.StartData.{placed}
 use Rattle.rules.specs.Order.{freshOrder}
 use Rattle.rules.specs.declared.Range.{Range}
 use Rattle.rules.specs.declared.Tracking.{Tracking}

@@ -1,6 +1,6 @@
 -- What demand 2 speaks of, told from calls and answers alone: "an accepted write by its controller touched it after tracking last started and after
 -- it was last reported". Nothing here looks at a device.
-use Prim.Native.Nat.{ℕ, zero, suc, _+_}
+use Prim.Native.Nat.{ℕ, _+_}
 use mathlib.Core.Path.{_≡_}
 use mathlib.Core.Bool.{Bool, true, false, _&&_, _||_, not, cond}
 use mathlib.Core.List.{List, [], _∷_, _++_, map}
@@ -8,9 +8,9 @@ use mathlib.Core.Option.{Option, none, some}
 use lib.Dec.{leb, ltb, eqb}
 use Rattle.rules.specs.Lists.{any}
 use Rattle.rules.specs.Settings.{bytesOf}
-use Rattle.rules.specs.Units.{Unit, Write, touches, units}
+use Rattle.rules.specs.Units.{Unit, touches, units}
 use Rattle.rules.specs.StartData.{granularityOf, rangesOf}
-use Rattle.rules.specs.Report.{Descriptor, Report}
+use Rattle.rules.specs.Report.{Descriptor}
 use Rattle.rules.specs.Order.{Op, start, stop, write, receive, suspend, resume}
 use Rattle.rules.specs.Machine.{Answer, refused, done, wrote, reported, reportOf, Call, Event, Marks, off, on, Slot, slot}
 use Rattle.rules.specs.declared.Range.{Range}

@@ -1,6 +1,6 @@
 -- Document 01 as a machine: a device is its settings and a slot for each controller; a call to a controller is answered and leaves a device.
 -- One call sees the settings, its own controller's slot and what `Seen` says of the device, and changes that slot alone.
-use Prim.Native.Nat.{ℕ, _+_}
+use Prim.Native.Nat.{ℕ}
 use mathlib.Core.Bool.{Bool, true, false, _||_, cond}
 use mathlib.Core.List.{List, [], _∷_, map}
 use mathlib.Core.Option.{Option, none, some}
@@ -10,7 +10,7 @@ use Rattle.little.specs.Little.{put}
 use Rattle.rules.specs.Lists.{sum, isSome}
 use Rattle.rules.specs.Refusals.{verdict}
 use Rattle.rules.specs.Settings.{settingsOk, identifiersOf, placeOf}
-use Rattle.rules.specs.Units.{Unit, Write, units, clear, mark, newly, pending}
+use Rattle.rules.specs.Units.{Unit, units, clear, mark, newly, pending}
 use Rattle.rules.specs.StartData.{granularityOf, rangesOf}
 use Rattle.rules.specs.Report.{Report, room, reportOn, marksLeft, reportBytes}
 use Rattle.rules.specs.Order.{Op, start, stop, write, receive, suspend, resume, Seen, order}

@@ -1,11 +1,11 @@
 -- Document 01, "Refusal numbers": the calls, and the order of each call's refusals, a table each, first hit answers. What a call that is not refused
 -- does stands in Machine.antt.
 use Prim.Native.Nat.{ℕ, _+_, _^_}
-use mathlib.Core.Bool.{Bool, _||_, not}
+use mathlib.Core.Bool.{Bool, not}
 use mathlib.Core.List.{List, [], _∷_, _++_}
 use lib.Dec.{leb, eqb}
 use lib.ListN.{length}
-use Rattle.rules.specs.Refusals.{Test, _else_, _place_}
+use Rattle.rules.specs.Refusals.{Test, _else_}
 use Rattle.rules.specs.Settings.{settingsOk, granularityOk}
 use Rattle.rules.specs.Units.{Write}
 use Rattle.rules.specs.Ranges.{listTests}

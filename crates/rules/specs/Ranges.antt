@@ -1,6 +1,6 @@
 -- Document 01, "The start structure", range rules (9), and the rules 10 and 11 of the same ranges. Each part of 9 is a test of its own, with the
 -- row that it is about.
-use Prim.Native.Nat.{ℕ, zero, suc, _+_, _%_, _^_}
+use Prim.Native.Nat.{ℕ, suc, _+_, _%_, _^_}
 use mathlib.Core.Bool.{Bool, _||_, not}
 use mathlib.Core.List.{List, [], _∷_, _++_}
 use lib.Dec.{leb, eqb}

@@ -2,12 +2,12 @@
 -- The layout is that of figures TMC-FIG2 and TMC-FIG3 of source document 001: version in byte 0, bytes 2:1 reserved, granularity in byte 3,
 -- count in bytes 7:4, and from byte 8 on 12 bytes for each range, its start address in 7:0 and its length in units in 11:8.
 use Prim.Native.Nat.{ℕ, _+_, _-_, _*_, _/_}
-use mathlib.Core.Bool.{Bool, cond}
+use mathlib.Core.Bool.{Bool}
 use mathlib.Core.List.{List, [], _∷_, _++_}
 use lib.Dec.{leb, eqb}
 use lib.ListN.{length, getD, replicate}
 use Rattle.little.specs.Little.{numberAt, numberBytes, put, records, recordsAt}
-use Rattle.rules.specs.Refusals.{Test, _else_, _place_, verdict, refusal}
+use Rattle.rules.specs.Refusals.{Test, _else_, _place_, verdict}
 use Rattle.rules.specs.declared.Range.{Range}
 use Rattle.rules.specs.declared.Header.{Header}
 use Rattle.rules.specs.declared.Header.the-variants.{Is, Refused}

@@ -4,10 +4,9 @@ use Prim.Native.Nat.{ℕ, zero, suc, _+_, _-_, _^_}
 use mathlib.Core.Bool.{Bool, true, false}
 use mathlib.Core.List.{List, [], _∷_, map}
 use lib.ListN.{replicate}
-use Rattle.rules.specs.Units.{Write}
 use Rattle.rules.specs.StartData.{startBytes}
 use Rattle.rules.specs.Report.{Descriptor}
-use Rattle.rules.specs.Order.{Op, start, stop, write, receive, suspend, resume}
+use Rattle.rules.specs.Order.{start, write, receive}
 use Rattle.rules.specs.Machine.{Answer, refused, done, wrote, reported, Call, Event, events, fresh}
 use Rattle.rules.specs.declared.Range.{Range}
 use Rattle.rules.specs.declared.Settings.{Settings}

@@ -1,6 +1,6 @@
 -- Laws of the loop that lists runs: what was listed are the first runs, what was passed is clear, and what is left are the later runs.
 -- Assumes nothing.
-use mathlib.Core.Path.{_≡_, refl, sym, ap, ap₂, subst, _∙_}
+use mathlib.Core.Path.{_≡_, refl, sym, ap, ap₂, _∙_}
 use mathlib.Core.Bool.{Bool, true, false}
 use mathlib.Core.List.{List, [], _∷_, _++_, map}
 use Prim.Native.Nat.{ℕ, zero, suc, _+_, _-_, _*_, _^_, _≤_, _<_}
@@ -8,7 +8,7 @@ use native.Mathlib.Numerals.{add-one}
 use native.Mathlib.Omega.{arith}
 use native.Mathlib.Nat.{suc-mul, mul-le-mul-right}
 use native.Mathlib.Decide.{decLt}
-use lib.ListN.{length, getD, take, drop, length-append, length-take, length-drop, length-map, List·getD-append, List·getD-eq-default, drop-of-length-le}
+use lib.ListN.{length, getD, take, drop, length-append, length-take, length-drop, length-map, List·getD-append, drop-of-length-le}
 use lib.Seq.{ext-getD, getD-append-add, getD-drop, drop-at, take-all, drop-drop, getD-take}
 use Rattle.bits.specs.Span.{fill}
 use Rattle.bits.specs.Share.{getShare, putShare}
@@ -21,13 +21,13 @@ use Rattle.report_data.proofs.Blocks.{descriptorBytes-length}
 use Rattle.rules.specs.Lists.{join, nonEmpty}
 use Rattle.rules.specs.Units.{Unit, unitsOfRow, unitsFrom, pending}
 use Rattle.rules.specs.StartData.{noRange}
-use Rattle.rules.specs.Report.{runs, Descriptor, descriptor, descriptorBytes, reportedRuns, laterRuns, marksLeft, clearFirst}
+use Rattle.rules.specs.Report.{runs, descriptor, descriptorBytes, marksLeft}
 use Rattle.rules.specs.declared.Range.{Range}
 use Rattle.rules.proofs.ListLaws.{join-take-drop}
 use Rattle.rules.proofs.RunLaws.{runs-join}
 use Rattle.rules.proofs.ScanLaws.{clearBefore, clearFirst-clearBefore, descriptor-row}
 use Rattle.scan.specs.Scan.{rowOf, addressAt, Stands, RunFound, RangesEnd, Lists}
-use Rattle.scan.proofs.ScanSteps.{stands-start, stands-end}
+use Rattle.scan.proofs.ScanSteps.{stands-start}
 
 -- ---- the marks with all before a place clear
 

@@ -1,14 +1,14 @@
 -- Laws of the scan over a controller's units: where it stands after units, after a row and at the start; what the next set mark and the next clear one
 -- make of it. Assumes nothing.
-use mathlib.Core.Path.{_≡_, refl, sym, ap, ap₂, subst, _∙_}
-use mathlib.Core.Bool.{Bool, true, false, not}
-use mathlib.Core.List.{List, [], _∷_, _++_, map}
-use Prim.Native.Nat.{ℕ, zero, suc, _+_, _-_, _*_, _≤_, _<_}
+use mathlib.Core.Path.{_≡_, sym, ap, ap₂, subst, _∙_}
+use mathlib.Core.Bool.{Bool, true, false}
+use mathlib.Core.List.{List, [], _∷_, _++_}
+use Prim.Native.Nat.{ℕ, suc, _+_, _-_, _*_, _≤_, _<_}
 use native.Mathlib.Numerals.{add-one}
 use native.Mathlib.Omega.{arith}
 use native.Mathlib.Nat.{add-mul, zero-mul}
 use native.Mathlib.Decide.{decLt}
-use lib.ListN.{length, getD, take, drop, length-drop, length-append, drop-of-length-le, List·getD-eq-default}
+use lib.ListN.{length, getD, take, drop, length-drop, drop-of-length-le, List·getD-eq-default}
 use lib.Seq.{drop-cons, getD-take, length-take-le}
 use Rattle.bits.specs.Next.{next}
 use Rattle.bits.specs.Share.{getShare}
@@ -18,7 +18,6 @@ use Rattle.rules.specs.Units.{Unit, unitsOfRow, unitsFrom, pending}
 use Rattle.rules.specs.StartData.{noRange}
 use Rattle.rules.specs.Report.{runs}
 use Rattle.rules.specs.declared.Range.{Range}
-use Rattle.rules.proofs.UnitLaws.{unitsOfRow-length}
 use Rattle.rules.proofs.ScanLaws.{left-on, left-length, run-next, pending-skip}
 use Rattle.scan.specs.Scan.{rowOf, addressAt, Stands, RunFound}
 

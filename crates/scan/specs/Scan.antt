@@ -1,13 +1,13 @@
 -- What the inner functions of `receive` promise: where a scan over a controller's units stands, and the next run from there. These serve this crate
 -- alone; what a run is, is defined in `rules`.
-use Prim.Native.Nat.{ℕ, zero, suc, _+_, _-_, _*_, _^_, _≤_, _<_}
+use Prim.Native.Nat.{ℕ, suc, _+_, _-_, _*_, _^_, _≤_, _<_}
 use mathlib.Core.Path.{_≡_}
 use mathlib.Core.Bool.{Bool, false}
 use mathlib.Core.List.{List, [], _∷_, _++_, map}
 use lib.ListN.{length, drop, getD}
 use Rattle.bits.specs.Share.{getShare, putShare}
 use Rattle.little.specs.Little.{put, records}
-use Rattle.rules.specs.Units.{Unit, unitsOfRow, unitsFrom, pending}
+use Rattle.rules.specs.Units.{unitsOfRow, unitsFrom, pending}
 use Rattle.rules.specs.StartData.{noRange}
 use Rattle.rules.specs.Lists.{nonEmpty}
 use Rattle.rules.specs.Report.{runs, descriptor, descriptorBytes, reportedRuns, laterRuns, marksLeft}

@@ -1,12 +1,11 @@
 -- A promise that names what a call answers and leaves, met by what it returns and leaves. Assumes nothing.
-use mathlib.Core.Path.{_≡_, refl, sym, ap, ap₂, _∙_}
+use mathlib.Core.Path.{_≡_, refl, sym, ap, _∙_}
 use mathlib.Core.List.{List}
 use Prim.Native.Nat.{ℕ}
 use Rattle.rules.specs.declared.Device.{Device}
-use Rattle.tracker.specs.Calls.{Change, changed, Note, noted, Receipt}
+use Rattle.tracker.specs.Calls.{Change, changed, Note, noted}
 use Rattle.tracker.specs.declared.Changed.{Changed}
 use Rattle.tracker.specs.declared.Written.{Written}
-use Rattle.tracker.specs.declared.Received.{Received}
 
 abbrev pub Leaves : Change → Changed → List ℕ → Type 0
 Leaves c r ws = (r ≡ c .answer) × (ws ≡ c .marks)

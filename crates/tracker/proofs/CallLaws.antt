@@ -1,23 +1,20 @@
 -- What each call answers, case by case of its table. Assumes nothing.
-use mathlib.Core.Path.{_≡_, refl, sym, ap, _∙_}
-use mathlib.Core.Bool.{Bool, true, false, _||_, not, or-true, or-false}
-use mathlib.Core.List.{List, [], _∷_}
-use mathlib.Core.Option.{Option, none, some}
-use Prim.Native.Nat.{ℕ, _+_, _*_, _^_, _≤_, _<_}
+use mathlib.Core.Path.{_≡_, sym, ap, _∙_}
+use mathlib.Core.Bool.{true, false, _||_, or-true, or-false}
+use mathlib.Core.List.{List}
+use Prim.Native.Nat.{ℕ, _+_, _≤_, _<_}
 use native.Mathlib.Omega.{arith}
-use lib.Dec.{leb, eqb}
-use lib.ListN.{length, getD, set, take, drop}
+use lib.Dec.{eqb}
+use lib.ListN.{length, getD, take, drop}
 use lib.Seq.{set-getD}
-use borrow.Author.Tests.{le-leb, lt-leb, eq-eqb, ne-eqb}
+use borrow.Author.Tests.{lt-leb}
 use Rattle.bits.specs.Flat.{flat, Words}
 use Rattle.bits.specs.Span.{fill}
 use Rattle.bits.proofs.Pack.{pack-only}
 use Rattle.rules.specs.Settings.{placeOf}
 use Rattle.rules.specs.Units.{units}
 use Rattle.rules.specs.Order.{stopOrder, suspendOrder, resumeOrder}
-use Rattle.rules.specs.declared.Controller.{Controller}
 use Rattle.rules.specs.declared.Device.{Device}
-use Rattle.rules.specs.declared.Tracking.{Tracking}
 use Rattle.rules.specs.declared.Tracking.the-variants.{Off, On}
 use Rattle.record.specs.Record.{noController, controllerAt, withController, whereIs, seenIn}
 use Rattle.record.specs.declared.Place.{Place}
@@ -25,7 +22,7 @@ use Rattle.record.specs.declared.Place.the-variants.{At, Refused}
 use Rattle.record.proofs.RecordLaws.{Located, whereIs-at, whereIs-refused, soundDevice-held}
 use Rattle.record.proofs.RangeLaws.{HeldFacts}
 use Rattle.tracker.specs.Inner.{placeNumber}
-use Rattle.tracker.specs.Calls.{Change, changed, withClear, shareAt, stopped, stopDone, stopChange, flagged, flagDone, suspendChange, resumeChange}
+use Rattle.tracker.specs.Calls.{changed, withClear, shareAt, stopped, stopDone, stopChange, flagged, flagDone, suspendChange, resumeChange}
 use Rattle.tracker.specs.declared.Changed.{Changed}
 
 -- ---- the place

@@ -1,10 +1,9 @@
 -- What a receive answers, case by case of its table; what its loop lists and its header say together is the report. Assumes nothing.
-use mathlib.Core.Path.{_≡_, refl, sym, ap, ap₂, subst, _∙_}
-use mathlib.Core.Bool.{Bool, true, false}
-use mathlib.Core.List.{List, [], _∷_, map}
-use Prim.Native.Nat.{ℕ, zero, suc, _+_, _-_, _*_, _/_, _^_, _≤_, _<_}
+use mathlib.Core.Path.{_≡_, sym, ap, ap₂, _∙_}
+use mathlib.Core.Bool.{Bool, false}
+use mathlib.Core.List.{List, [], _∷_}
+use Prim.Native.Nat.{ℕ, zero, suc, _-_, _≤_, _<_}
 use native.Mathlib.Omega.{arith}
-use lib.Dec.{leb}
 use lib.ListN.{length, getD, take, drop, length-take, length-map}
 use borrow.Author.Tests.{le-leb, lt-leb}
 use Rattle.bits.specs.Flat.{flat, Words}
@@ -12,12 +11,11 @@ use Rattle.bits.specs.Share.{getShare, putShare}
 use Rattle.bits.proofs.Pack.{pack-only}
 use Rattle.little.specs.Little.{put}
 use Rattle.report_data.proofs.Blocks.{report-done}
-use Rattle.rules.specs.Settings.{placeOf, unitSize, bytesOf}
+use Rattle.rules.specs.Settings.{placeOf, unitSize}
 use Rattle.rules.specs.Units.{Unit, unitsFrom, units, pending}
-use Rattle.rules.specs.Report.{runs, Report, descriptor, room, reportOn, reportHeader, reportedRuns, laterRuns, marksLeft}
+use Rattle.rules.specs.Report.{runs, Report, descriptor, room, reportOn, reportHeader, reportedRuns, marksLeft}
 use Rattle.rules.specs.Order.{receiveOrder}
 use Rattle.rules.specs.Machine.{noReport}
-use Rattle.rules.specs.StartData.{noRange}
 use Rattle.rules.specs.declared.Device.{Device}
 use Rattle.rules.specs.declared.Range.{Range}
 use Rattle.rules.specs.declared.Tracking.the-variants.{Off, On}
@@ -28,7 +26,7 @@ use Rattle.record.specs.declared.Place.the-variants.{At, Refused}
 use Rattle.record.proofs.RecordLaws.{Located, whereIs-at, whereIs-refused}
 use Rattle.record.proofs.RangeLaws.{RowFacts}
 use Rattle.tracker.specs.Calls.{shareAt, withMarks, marksAt, Receipt, received, reportIn, receiveDone, receiveReceipt}
-use Rattle.scan.specs.Scan.{rowOf, RangesEnd, Lists}
+use Rattle.scan.specs.Scan.{RangesEnd, Lists}
 use Rattle.tracker.specs.declared.Received.{Received}
 
 -- ---- a promise met

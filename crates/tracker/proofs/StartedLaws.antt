@@ -1,12 +1,12 @@
 -- What a start answers, case by case of its table. Assumes nothing.
-use mathlib.Core.Path.{_≡_, refl, sym, ap, ap₂, subst, _∙_}
+use mathlib.Core.Path.{_≡_, sym, ap, _∙_}
 use mathlib.Core.Logic.{_≢_}
-use mathlib.Core.Bool.{Bool, true, false, not, cond}
+use mathlib.Core.Bool.{true, false}
 use mathlib.Core.List.{List, [], _∷_, _++_}
-use mathlib.Core.Option.{Option, none, some}
-use Prim.Native.Nat.{ℕ, zero, suc, _+_, _*_, _≤_, _<_}
+use mathlib.Core.Option.{some}
+use Prim.Native.Nat.{ℕ, _+_, _*_, _≤_, _<_}
 use native.Mathlib.Omega.{arith}
-use lib.Dec.{leb, eqb}
+use lib.Dec.{leb}
 use lib.ListN.{length, getD, take, drop, replicate}
 use borrow.Author.Tests.{le-leb, lt-leb, leb-true, eq-eqb}
 use Rattle.little.specs.Little.{recordsAt}
@@ -14,26 +14,22 @@ use Rattle.little.proofs.Put.{put-take-front}
 use Rattle.little.proofs.Records.{recordsAt-length}
 use Rattle.rules.specs.Refusals.{Test, _else_, verdict, refusal, passes}
 use Rattle.rules.specs.Settings.{placeOf, granularityOk}
-use Rattle.rules.specs.Ranges.{rangeTests, listTests, powersOk, unitsOk}
-use Rattle.rules.specs.StartData.{granularityOf, countOf, rangesOf, rangeAt, rangesThere, startSize, headerThere, versionOk, headerOf, noRange, placed}
+use Rattle.rules.specs.Ranges.{rangeTests, listTests}
+use Rattle.rules.specs.StartData.{granularityOf, countOf, rangesOf, rangeAt, startSize, headerOf, noRange, placed}
 use Rattle.rules.specs.Order.{startOrder}
 use Rattle.rules.specs.declared.Device.{Device}
-use Rattle.rules.specs.declared.Range.{Range}
 use Rattle.rules.specs.declared.Settings.{Settings}
 use Rattle.rules.specs.declared.Tracking.the-variants.{Off, On}
-use Rattle.rules.specs.declared.Header.{Header}
 use Rattle.rules.specs.declared.Header.the-variants as header
 use Rattle.rules.proofs.ListLaws.{All, All-append}
 use Rattle.rules.proofs.RefusalLaws.{Passed, passes-Passed, refusal-first, refusal-rest, refusal-none, verdict-passed, verdict-number}
-use Rattle.rules.proofs.OrderLaws.{StartPassed}
-use Rattle.rules.proofs.StartLaws.{rangesOf-length}
 use Rattle.record.specs.Record.{noController, withController, whereIs, seenIn, countsOf}
 use Rattle.record.specs.declared.Place.the-variants.{At, Refused}
 use Rattle.record.proofs.RecordLaws.{Located, whereIs-at, whereIs-refused}
 use Rattle.record.proofs.RangeLaws.{listTests-numbers}
 use Rattle.start_data.specs.Answer.{headerNumber}
 use Rattle.start_data.proofs.Answers.{headerOf-is, HeaderIs, headerOf-refused, HeaderRefused, noHeader, otherVersion}
-use Rattle.tracker.specs.Calls.{Change, changed, withClear, shareAt, startDone, startChange}
+use Rattle.tracker.specs.Calls.{changed, withClear, shareAt, startDone, startChange}
 use Rattle.tracker.specs.Inner.{listedTests}
 
 -- ---- 7 and what follows it

@@ -1,33 +1,30 @@
 -- What a noted write answers, case by case of its table; a written range of no bytes leaves every word as it was. Assumes nothing.
 use mathlib.Core.Path.{_≡_, refl, sym, ap, ap₂, _∙_}
-use mathlib.Core.Bool.{Bool, true, false, _&&_, _||_, not, cond, or-false}
+use mathlib.Core.Bool.{Bool, true, false, or-false}
 use mathlib.Core.List.{List, [], _∷_}
 use mathlib.Core.Option.{Option, none, some}
-use Prim.Native.Nat.{ℕ, zero, suc, _+_, _-_, _*_, _^_, _≤_, _<_}
+use Prim.Native.Nat.{ℕ, _+_, _-_, _^_, _≤_, _<_}
 use native.Mathlib.Omega.{arith}
 use native.Mathlib.Nat.{zero-add}
-use lib.Dec.{leb}
 use lib.ListN.{length, getD, take, drop}
 use borrow.Author.Tests.{le-leb, lt-leb}
 use Rattle.bits.specs.Flat.{flat, Words}
-use Rattle.bits.specs.Share.{getShare, putShare}
+use Rattle.bits.specs.Share.{putShare}
 use Rattle.bits.specs.Pack.{pack}
 use Rattle.bits.proofs.Flat.{flat-length}
 use Rattle.bits.proofs.Pack.{pack-only, pack-flat}
 use Rattle.bits.proofs.Share.{getShare-length, putShare-getShare}
-use Rattle.rules.specs.Settings.{placeOf, unitSize}
+use Rattle.rules.specs.Settings.{placeOf}
 use Rattle.rules.specs.Units.{Unit, Write, units, touches, mark, newly}
 use Rattle.rules.specs.Order.{writeOrder}
 use Rattle.rules.specs.declared.Device.{Device}
-use Rattle.rules.specs.declared.Range.{Range}
 use Rattle.rules.specs.declared.Tracking.{Tracking}
 use Rattle.rules.specs.declared.Tracking.the-variants.{Off, On}
 use Rattle.record.specs.Record.{noController, whereIs, seenIn, soundWith, foundAt, placeAt}
-use Rattle.record.specs.declared.Found.{Found}
 use Rattle.record.specs.declared.Found.the-variants as found
 use Rattle.record.specs.declared.Place.the-variants.{At, Refused}
 use Rattle.record.proofs.RecordLaws.{Located, whereIs-at, whereIs-refused}
-use Rattle.tracker.specs.Calls.{shareAt, withMarks, marksAt, Note, noted, writeDone, writeNote}
+use Rattle.tracker.specs.Calls.{shareAt, withMarks, marksAt, noted, writeDone, writeNote}
 use Rattle.tracker.proofs.CallLaws.{share-within}
 
 -- ---- the place, on a record that is known to be sound

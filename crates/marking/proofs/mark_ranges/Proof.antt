@@ -1,10 +1,10 @@
 -- `marking::mark_ranges` is right: in each range the touched units are a span, which is marked. The loop's invariant (`Marking`): what is still to be
 -- marked makes of the marks and the count as they are now what is promised. The measure is the ranges that are left. Assumes nothing.
-use mathlib.Core.Path.{_≡_, refl, sym, ap, _∙_}
-use Prim.Native.Nat.{_≤_, _-_, _+_}
+use mathlib.Core.Path.{_≡_, refl}
+use Prim.Native.Nat.{_≤_, _-_}
 use native.Mathlib.Omega.{arith}
 use denote.Ref.{now}
-use lib.ListN.{length, take}
+use lib.ListN.{length}
 use borrow.Author.Needs.{needs}
 use Rattle.bits.specs.Flat.{flat}
 use Rattle.bits.specs.Share.{getShare, putShare}

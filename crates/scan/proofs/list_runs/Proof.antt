@@ -1,6 +1,6 @@
 -- `scan::list_runs` is right: each turn finds the next run, makes it clear and stores its descriptor. The loop's invariant (`Listing`): what is listed are
 -- the first runs, what was passed is clear, and the later runs are left. The measure is the room that is left. Assumes nothing.
-use mathlib.Core.Path.{_≡_, refl, sym, ap, subst, _∙_}
+use mathlib.Core.Path.{_≡_, refl, sym, subst}
 use Prim.Native.Nat.{_≤_, _<_, _-_, _+_, _*_, _^_}
 use native.Mathlib.Omega.{arith}
 use denote.Ref.{now}

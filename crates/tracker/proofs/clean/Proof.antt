@@ -1,7 +1,7 @@
 -- `tracker::clean` is right: each turn makes one unused identifier 0. The loop's invariant: with zeros from i on, the settings are what they are to be.
 -- The measure is the places that are left. Assumes nothing.
 use mathlib.Core.Path.{_≡_, refl}
-use Prim.Native.Nat.{_-_, _≤_}
+use Prim.Native.Nat.{_-_}
 use native.Mathlib.Omega.{arith}
 use borrow.Author.Needs.{needs}
 use lib.ListN.{length}

@@ -1,16 +1,15 @@
 -- `tracker::note` is right: it refuses in the order of its table, and marks the spans of touched units, which are the units that the rules mark.
 -- Assumes nothing.
-use mathlib.Core.Path.{_≡_, refl, sym, ap, subst, _∙_}
+use mathlib.Core.Path.{_≡_, sym, ap, _∙_}
 use Prim.Native.Nat.{ℕ, _+_, _-_, _*_, _<_, _≤_}
 use native.Mathlib.Omega.{arith}
 use denote.Ref.{now}
 use lib.ListN.{length, getD, take}
 use borrow.Author.Needs.{needs}
-use Rattle.bits.specs.Flat.{flat}
 use Rattle.rules.specs.Units.{units}
 use Rattle.rules.proofs.UnitLaws.{unitSize-pos}
 use Rattle.record.specs.Record.{noController, whereIs}
-use Rattle.record.specs.declared.Place.the-variants.{At, Refused}
+use Rattle.record.specs.declared.Place.the-variants.{At}
 use Rattle.record.proofs.RecordLaws.{whereIs-at}
 use Rattle.record.proofs.LoopLaws.{length-mapped}
 use Rattle.record.proofs.RangeLaws.{HeldFacts}

@@ -1,6 +1,6 @@
 -- `tracker::start` is right: it refuses in the order of its table; done, the share is clear and granularity, count and ranges are recorded.
 -- Assumes nothing.
-use mathlib.Core.Path.{_≡_, refl, sym, ap, _∙_}
+use mathlib.Core.Path.{_≡_, sym, ap, _∙_}
 use Prim.Native.Nat.{_<_, _≤_}
 use native.Mathlib.Omega.{arith}
 use denote.Ref.{now}

@@ -1,5 +1,5 @@
 -- `tracker::write` is right: past refusal 1 it is the note on a sound record. Assumes nothing.
-use mathlib.Core.Path.{_≡_, sym, _∙_}
+use mathlib.Core.Path.{sym, _∙_}
 use borrow.Author.Needs.{needs}
 use borrow.Author.Tests.{not-true, not-false, eq-eqb}
 use Rattle.record.specs.Record.{soundWith}
