@@ -99,9 +99,6 @@ module _ (w : Write) where
 
   -- ---- one range
 
-  touches-row : (row size a j : ℕ) → touches w (record { row = row; address = a + j * size; size = size }) ≡ touches w (record { row = 0; address = a + j * size; size = size })
-  touches-row row size a j = refl
-
   row-span : (row size : ℕ) (r : Range) (from to : ℕ) → Touched w size r from to → SpanTouched (unitsOfRow row size (r .start) (r .length)) from (to - from)
   row-span row size r from to t j h =
       let k : j < r .length = omega (arith, unitsOfRow-length row size (r .start) (r .length)) in

@@ -2,7 +2,7 @@
 
 use rules::Range;
 ghost use mathlib.Core.Path.{_≡_};
-ghost use Prim.Native.Nat.{_+_, _*_, _≤_, _<_, min};
+ghost use Prim.Native.Nat.{_+_, _≤_, _<_, min};
 ghost use lib.ListN.{length, take};
 ghost use Rattle.bits.specs.Flat.{flat};
 ghost use Rattle.bits.specs.Share.{getShare, putShare};

@@ -181,9 +181,3 @@ whereIs-at d words id i e =
       below = omega (arith, soundDevice-facts d s .count);
       used = used;
     }
-
--- the first two tests are passed, and the rest of the table answers
-pub whereIs-passes : (d : Device) (words id i : ℕ) → whereIs d words id ≡ At i
-    → {A : Type 0} (ts : List Test) (done : A) (refuse : ℕ → ℕ → A)
-    → verdict (((seenIn d words (placeOf (d .settings) id)) .sound else 1) ∷ ((seenIn d words (placeOf (d .settings) id)) .known else 2) ∷ ts) done refuse ≡ verdict ts done refuse
-whereIs-passes d words id i e ts done refuse = let l = whereIs-at d words id i e in rw (l .seen, l .place)

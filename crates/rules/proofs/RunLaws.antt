@@ -229,11 +229,6 @@ marksLeft-pending k us p =
     ∙ ap (drop (length (join (reportedRuns k us p)))) (sym (runs-join (pending us p)))
     ∙ drop-join k (runs (pending us p))
 
--- what was pending is what is reported and then what stays
-pub report-splits : (k : ℕ) (us : List Unit) (p : List Bool) → pending us p ≡ join (reportedRuns k us p) ++ pending us (marksLeft k us p)
-report-splits k us p =
-    sym (ap (λ l. join (reportedRuns k us p) ++ l) (marksLeft-pending k us p) ∙ join-take-drop k (runs (pending us p)) ∙ runs-join (pending us p))
-
 -- More To Report is set exactly if something stays pending
 pub more-exactly : (b : Bool) (g k : ℕ) (us : List Unit) (p : List Bool) → reportOn b g k us p .more ≡ nonEmpty (pending us (marksLeft k us p))
 more-exactly b g k us p =

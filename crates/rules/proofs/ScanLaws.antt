@@ -192,10 +192,6 @@ module _ (us : List Unit) (row size : ℕ) (rs : List Range) where
           (further-unfollowed last row size (a + suc m * size + 1 * size) (k - suc m - 1) refl (omega (arith, suc-mul m size)))
           (rows-unfollowed last size (suc row) rs (omega arith)))))
 
--- a row is over: the next one begins
-pub left-next : (us : List Unit) (pos row size a : ℕ) (r : Range) (rs : List Range) → Left us pos row size a 0 (r ∷ rs) → Left us pos (suc row) size (r .start) (r .length) rs
-left-next us pos row size a r rs e = e
-
 -- the run's descriptor
 pub descriptor-row : (row size a m : ℕ) → descriptor (unitsOfRow row size a (suc m)) ≡ record { address = a; length = suc m }
 descriptor-row row size a m = ap (λ n. record { address = a; length = suc n }) (unitsOfRow-length row size (a + size) m)

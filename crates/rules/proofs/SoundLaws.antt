@@ -9,17 +9,17 @@ use native.Mathlib.Omega.{arith}
 use lib.Dec.{eqb}
 use lib.ListN.{length, getD, set}
 use borrow.Author.Tests.{leb-true, le-leb}
-use Rattle.little.proofs.Records.{recordsAt-length}
 use Rattle.rules.specs.Lists.{all, sum}
 use Rattle.rules.specs.Settings.{settingsOk, identifiersOf, placeOf}
 use Rattle.rules.specs.Ranges.{listTests}
-use Rattle.rules.specs.StartData.{granularityOf, countOf, rangeAt, rangesOf}
+use Rattle.rules.specs.StartData.{granularityOf, countOf, rangesOf}
 use Rattle.rules.specs.Order.{Op, start, stop, write, receive, suspend, resume, Seen, order}
 use Rattle.rules.specs.Device.{Held, heldOk, heldCount, sound, soundRules, cleaned}
 use Rattle.rules.specs.Machine.{Answer, refused, Marks, off, on, Slot, slot, freshSlot, heldBy, accepted, slotStep, State, closed, fresh, soundState, seenAt, stepAt, Call, step, after}
 use Rattle.rules.specs.declared.Settings.{Settings}
 use Rattle.rules.proofs.ListLaws.{all-set, every-at, and-left, and-right, and-intro, map-set}
 use Rattle.rules.proofs.RefusalLaws.{Passed, verdict-has, passes-all}
+use Rattle.rules.proofs.StartLaws.{rangesOf-length}
 use Rattle.rules.proofs.OrderLaws.{StartPassed, startOrder-passed}
 use Rattle.rules.proofs.StateLaws.{cleaned-identifiers}
 
@@ -46,10 +46,6 @@ sound-intro s hs e f l = rw (e, f, le-leb (sum (map heldCount hs)) (s .limit) l)
 -- it holds what it may, and n counts that had its old count in them are within the limit with its new one
 abbrev Stays : Settings → ℕ → Slot → Slot → Type 0
 Stays s n c c′ = (heldOk s (heldBy c′) ≡ true) × (n + heldCount (heldBy c′) ≤ s .limit + heldCount (heldBy c))
-
-rangesOf-length : (x : List ℕ) → length (rangesOf x) ≡ countOf x
-unfolding rangesOf
-rangesOf-length x = recordsAt-length rangeAt 12 x 8 (countOf x)
 
 started-ok : (s : Settings) (v : Seen) (x : List ℕ) → StartPassed s v x
     → heldOk s (some (record { granularity = granularityOf x; count = length (rangesOf x); ranges = rangesOf x })) ≡ true

@@ -1,16 +1,20 @@
 -- What the readers' answers tell whoever calls them: of the bytes, the number and the place. All but `of-header` is the crate's interface. Assumes nothing.
 use mathlib.Core.Path.{_≡_, refl}
-use mathlib.Core.Bool.{Bool, true, false}
+use mathlib.Core.Bool.{Bool, true, false, and-false}
 use mathlib.Core.List.{List, [], _∷_}
-use Prim.Native.Nat.{ℕ}
+use Prim.Native.Nat.{ℕ, _≤_, _<_}
 use native.Mathlib.Omega.{arith}
+use lib.Dec.{leb}
+use lib.ListN.{length, replicate}
+use borrow.Author.Tests.{le-leb, lt-leb}
+use Rattle.little.specs.Little.{recordsAt}
 use Rattle.rules.specs.Refusals.{_else_, verdict, refusal}
-use Rattle.rules.specs.StartData.{granularityOf, countOf, rangesOf, headerThere, versionOk, headerTests, headerOf, readTests, startData, placed}
+use Rattle.rules.specs.StartData.{granularityOf, countOf, rangesOf, rangeAt, startSize, noRange, headerThere, versionOk, headerTests, headerOf, readTests, startData, placed}
 use Rattle.rules.specs.declared.Header.{Header}
 use Rattle.rules.specs.declared.Header.the-variants.{Is, Refused}
 use Rattle.rules.specs.declared.StartData.{StartData}
 use Rattle.rules.proofs.RefusalLaws.{verdict-has, verdict-map}
-use Rattle.start_data.specs.Answer.{headerNumber, headerPlace}
+use Rattle.start_data.specs.Answer.{headerNumber, headerPlace, rangesRead}
 
 -- ---- a header
 
@@ -70,3 +74,18 @@ module _ (x : List ℕ) where
 
   pub startData-place : headerPlace (startData x .header) ≡ verdict (readTests x) 0 (λ k at. at)
   startData-place = of-header headerPlace
+
+-- ---- the ranges
+
+module _ (x : List ℕ) (n : ℕ) where
+  pub rangesRead-many : 16 < n → rangesRead x n ≡ replicate 16 noRange
+  unfolding rangesRead
+  rangesRead-many h = rw (lt-leb n 16 h)
+
+  pub rangesRead-short : length x < startSize n → rangesRead x n ≡ replicate 16 noRange
+  unfolding rangesRead
+  rangesRead-short h = rw (lt-leb (startSize n) (length x) h, and-false (leb n 16))
+
+  pub rangesRead-there : n ≤ 16 → startSize n ≤ length x → rangesRead x n ≡ placed (recordsAt rangeAt 12 x 8 n)
+  unfolding rangesRead
+  rangesRead-there h k = rw (le-leb n 16 h, le-leb (startSize n) (length x) k)

@@ -8,6 +8,7 @@ ghost use Prim.Native.Nat.{_+_, _≤_};
 ghost use lib.ListN.{length, take, replicate};
 ghost use Rattle.little.specs.Little.{put, records, recordsAt};
 ghost use Rattle.rules.specs.Refusals.{refusal};
+ghost use Rattle.start_data.specs.Answer.{rangesRead};
 ghost use Rattle.rules.specs.StartData.{rangeAt, startSize, headerOf, startData, noRange, placed, rangeBytes, headerBytes, writeTests, startWritten};
 
 // The header: its granularity and its count of ranges, whatever that is. Refused with 8 where the 8 bytes are not there, then with 6 where the
@@ -36,9 +37,8 @@ fn read_range(s: &[u8], at: usize) -> Range
     Range { start, length }
 }
 
-// The first `n` ranges of a structure that is known to be there, and zeros in the places after them.
-// Nothing is refused: that `n` is at most 16 and that the ranges are wholly there is the caller's to have checked.
-pub fn read_ranges(s: &[u8], n: usize) -> [Range; 16]
+// The first `n` ranges of a structure that is known to have them, and zeros in the places after them.
+fn listed_ranges(s: &[u8], n: usize) -> [Range; 16]
     requires { ⌜ (n ≤ 16) × (startSize n ≤ length (now s)) ⌝ }
     ensures { λ r. ⌜ r ≡ placed (recordsAt rangeAt 12 (now (s .entry)) 8 n) ⌝ }
 {
@@ -54,17 +54,35 @@ pub fn read_ranges(s: &[u8], n: usize) -> [Range; 16]
     a
 }
 
+// No range: zeros in all places.
+fn none() -> [Range; 16]
+    ensures { λ r. ⌜ r ≡ replicate 16 noRange ⌝ }
+{
+    [Range {
+        start: 0,
+        length: 0,
+    }; 16]
+}
+
+// The first `count` ranges, with zeros in the places after them; none where `count` is over 16 or they are not wholly there.
+pub fn read_ranges(s: &[u8], count: usize) -> [Range; 16]
+    ensures { λ r. ⌜ r ≡ rangesRead (now (s .entry)) count ⌝ }
+{
+    if count > 16 {
+        return none();
+    }
+    if s.len() < 8 + 12 * count {
+        return none();
+    }
+    listed_ranges(s, count)
+}
+
 // What the reader answers with a header that is a refusal: no range.
 fn refused(header: Header) -> StartData
     ensures { λ r. ⌜ r ≡ record { header = header; ranges = replicate 16 noRange } ⌝ }
 {
-    StartData {
-        header,
-        ranges: [Range {
-            start: 0,
-            length: 0,
-        }; 16],
-    }
+    let ranges = none();
+    StartData { header, ranges }
 }
 
 // The structure: its header and its listed ranges. Refused as the header is, then with 9 at place 4, the count's, where more than 16 ranges are
@@ -84,7 +102,7 @@ pub fn read_start(s: &[u8]) -> StartData
         let stop = 8 + 12 * ((s.len() - 8) / 12);
         return refused(Header::Refused(8, stop));
     }
-    let ranges = read_ranges(s, n);
+    let ranges = listed_ranges(s, n);
     StartData { header, ranges }
 }
 

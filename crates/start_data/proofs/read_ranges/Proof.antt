@@ -1,65 +1,45 @@
--- `start_data::read_ranges` is right because each turn copies the array with one range more in it (`recordsAt-again`).
--- The loop's invariant: storing the ranges that are left from place `i` on gives the promised array. The measure is the number of ranges left.
-use Prim.Native.Nat.{_≤_, _-_}
-use mathlib.Core.Path.{_≡_}
+-- `start_data::read_ranges` is right because the two refusals of its list are asked before the loop. Assumes nothing.
+use mathlib.Core.Path.{_≡_, sym, _∙_}
+use Prim.Native.Nat.{_≤_}
+use native.Mathlib.Omega.{arith}
 use borrow.Author.Needs.{needs}
-use lib.ListN.{length, length-set}
-use Rattle.little.specs.Little.{put, recordsAt}
-use Rattle.little.proofs.Records.{recordsAt-start, recordsAt-again, recordsAt-done}
-use Rattle.rules.specs.StartData.{rangeAt, startSize, placed}
+use Rattle.start_data.proofs.Answers.{rangesRead-many, rangesRead-short, rangesRead-there}
 use Rattle.start_data.proofs.read_ranges.Statement.{statement}
 use Rattle.start_data.proofs.read_ranges.Tie as tie
 
-abbrev Inv-loop : tie.InvT-loop
-Inv-loop s n a₀ i₀ a i =
-    (length a ≡ 16) × (i ≤ n) × (put a i (recordsAt rangeAt 12 s (startSize i) (n - i)) ≡ placed (recordsAt rangeAt 12 s 8 n))
+none-requires : tie.Need-none-requires
+none-requires c κs = search needs
 
-abbrev μ-loop : tie.MeasureT-loop
-μ-loop s n a₀ i₀ a i = n - i
+returns : tie.Need-returns
+returns c = c .none .ensures ∙ sym (rangesRead-many _ _ (c .before .if1 .taken))
 
-loop-holds : tie.Need-loop-holds Inv-loop μ-loop
-loop-holds c = (search needs, search needs, recordsAt-start _ _ _ _ _ _)
+mul-if2 : tie.Need-mul-if2
+mul-if2 c = search needs
 
-mul-read-range : tie.Need-mul-read-range Inv-loop μ-loop
-mul-read-range c = search needs
+add-if2 : tie.Need-add-if2
+add-if2 c = search needs
 
-add-read-range : tie.Need-add-read-range Inv-loop μ-loop
-add-read-range c = search needs
+none-requires-2 : tie.Need-none-requires-2
+none-requires-2 c κs = search needs
 
-read-range-requires : tie.Need-read-range-requires Inv-loop μ-loop
-read-range-requires c κs = search needs
+returns-2 : tie.Need-returns-2
+returns-2 c = c .none2 .ensures ∙ sym (rangesRead-short _ _ (c .before .if2 .taken))
 
-mul-a : tie.Need-mul-a Inv-loop μ-loop
-mul-a c = search needs
+listed-ranges-requires : tie.Need-listed-ranges-requires
+listed-ranges-requires c κs = search needs
 
-array-set-from-a : tie.Need-array-set-from-a Inv-loop μ-loop
-array-set-from-a c = search needs
-
-add-i : tie.Need-add-i Inv-loop μ-loop
-add-i c = search needs
-
-loop-less : tie.Need-loop-less Inv-loop μ-loop
-loop-less c = search needs
-
-loop-again : tie.Need-loop-again Inv-loop μ-loop
-loop-again c = (simp length-set (c .before .before .loop .inv .0), search needs, search recordsAt-again)
-
-returns : tie.Need-returns Inv-loop μ-loop
-returns c = search recordsAt-done
+returns-3 : tie.Need-returns-3
+returns-3 c = c .listed-ranges .ensures ∙ sym (rangesRead-there _ _ (omega arith) (c .before .if2 .left))
 
 pub read-ranges-spec : {M : Type 1} → statement M
 read-ranges-spec =
     tie.close
     (tie.spec
-    Inv-loop
-    μ-loop
-    loop-holds
-    mul-read-range
-    add-read-range
-    read-range-requires
-    mul-a
-    array-set-from-a
-    add-i
-    loop-less
-    loop-again
-    returns)
+    none-requires
+    returns
+    mul-if2
+    add-if2
+    none-requires-2
+    returns-2
+    listed-ranges-requires
+    returns-3)

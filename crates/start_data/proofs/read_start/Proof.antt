@@ -49,8 +49,8 @@ refused-requires-3 c κs = search needs
 returns-3 : tie.Need-returns-3
 returns-3 c = search read-start-short
 
-read-ranges-requires : tie.Need-read-ranges-requires
-read-ranges-requires c κs = search needs
+listed-ranges-requires : tie.Need-listed-ranges-requires
+listed-ranges-requires c κs = search needs
 
 returns-4 : tie.Need-returns-4
 returns-4 c = search read-start-whole
@@ -74,5 +74,5 @@ read-start-spec =
     add-stop
     refused-requires-3
     returns-3
-    read-ranges-requires
+    listed-ranges-requires
     returns-4)

@@ -10,6 +10,7 @@ use Rattle.rules.specs.StartData.{headerOf, startSize}
 use Rattle.rules.specs.declared.Header.the-variants.{Is}
 use Rattle.record.specs.Record.{whereIs}
 use Rattle.start_data.specs.Answer.{headerNumber}
+use Rattle.start_data.proofs.Answers.{rangesRead-there}
 use Rattle.record.specs.declared.Place.the-variants.{At, Refused}
 use Rattle.record.proofs.RecordLaws.{whereIs-at}
 use Rattle.tracker.proofs.Answers.{leaves, leaves-unchanged}
@@ -103,7 +104,7 @@ cast-read-ranges : tie.Need-cast-read-ranges
 cast-read-ranges c = search needs
 
 read-ranges-requires : tie.Need-read-ranges-requires
-read-ranges-requires c κs = few (c .before .before .before .before)
+read-ranges-requires c κs = search needs
 
 cast-t33 : tie.Need-cast-t33
 cast-t33 c = omega (arith, few (c .before .before .before .before .before) .0)
@@ -121,8 +122,9 @@ returns-6 : tie.Need-returns-6
 returns-6 c =
     let k = c .before .before .before .before .before .before .before .before .before .before .before .before .before .before .before in
     let a = k .before .before .before .before .before .before .args in
+    let read-few = few (c .before .before .before .before .before) in
     leaves _ 0 _ _ _ _ (start-done (a .t1) (now (a .marks)) (a .id) (now (a .«data»)) _ (found k) (c .before .before .before .before .before .before .before .before .before .before .before .before .before .if1 .left) (c .before .before .before .before .before .before .before .before .before .before .before .enum-told2 .given .1) _ _ (listed (c .before .before .before .before .before .before .before)) (sym (c .before .before .before .before .before .if2 .left) ∙ c .before .before .before .before .before .before .list-number .ensures))
-    (rw (c .read-ranges .ensures)) (c .before .before .before .clear-share .ensures)
+    (rw (c .read-ranges .ensures, rangesRead-there _ _ (read-few .0) (read-few .1))) (c .before .before .before .clear-share .ensures)
 
 pub start-spec : {M : Type 1} → statement M
 start-spec =
