@@ -1,0 +1,5 @@
+mod FieldLaws
+mod NumberLaws
+mod WordLaws
+mod GatherLaws
+mod LineLaws

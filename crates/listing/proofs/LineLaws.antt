@@ -1,0 +1,102 @@
+-- The promise of a line case by case, a law for each answer of the code. The crate's own. Assumes nothing.
+use Prim.Native.Nat.{ℕ, _+_, _≤_, _<_}
+use mathlib.Core.Path.{_≡_, refl, sym, ap, _∙_}
+use mathlib.Core.Bool.{Bool, true, false, cond, true≢false}
+use mathlib.Core.List.{List, [], _∷_, map}
+use native.Mathlib.Nat.{zero-add}
+use native.Mathlib.Omega.{arith}
+use borrow.Author.Tests.{le-leb, lt-leb}
+use lib.Dec.{leb}
+use lib.ListN.{length, getD, take, drop, replicate, length-replicate, length-map}
+use Rattle.little.specs.Little.{put}
+use Rattle.little.proofs.Put.{put-at}
+use Rattle.rules.specs.Lists.{every}
+use Rattle.rules.proofs.ListLaws.{every-not, false-intro}
+use Rattle.listing.specs.Listing.{firstField, laterFields, value, wordOf, mostAt, takesCount, fitting, plainLine, places, callLine, lineRules, lineOf}
+use Rattle.listing.specs.Inner.{noNumbers, gathered, Taken}
+use Rattle.listing.specs.declared.Call.the-variants.{Bad}
+use Rattle.listing.specs.declared.Line.{Line}
+use Rattle.listing.specs.declared.Numbers.{Numbers}
+use Rattle.listing.specs.declared.Word.{Word}
+use Rattle.listing.proofs.FieldLaws.{firstField-take, laterFields-skip}
+use Rattle.listing.proofs.WordLaws.{takes-few}
+use Rattle.listing.proofs.GatherLaws.{Gathered, allFit, tooMany, unfit, gathered-cases, fitting-at}
+
+-- the rules of a line that are broken
+line-breaks : (s : List ℕ) (k : ℕ) → getD (lineRules s (wordOf (firstField s)) (laterFields s)) k true ≡ false → plainLine Bad ≡ lineOf s
+unfolding lineOf
+line-breaks s k e = rw (every-not (lineRules s (wordOf (firstField s)) (laterFields s)) k e)
+
+pub line-long : (s : List ℕ) → 1023 < length s → plainLine Bad ≡ lineOf s
+line-long s h = line-breaks s 0 (lt-leb (length s) 1023 h)
+
+-- what the code knows once it has read the word and the numbers
+module _ (s : List ℕ) (end : ℕ) (w : Word) (r : Numbers) (e : end ≡ 0 + length (firstField (drop 0 s))) (f : w ≡ wordOf (take end s))
+    (g : r ≡ gathered w 0 (replicate 34 0) (laterFields (drop end s))) where
+  end-is : end ≡ length (firstField s)
+  end-is = omega arith
+
+  word-is : w ≡ wordOf (firstField s)
+  word-is = f ∙ rw (end-is, firstField-take s)
+
+  numbers-are : r ≡ gathered w 0 (replicate 34 0) (laterFields s)
+  numbers-are = g ∙ rw (end-is, ← laterFields-skip s)
+
+  known : Gathered w 0 (replicate 34 0) (laterFields s) r
+  known = rw numbers-are (gathered-cases w 0 (replicate 34 0) (laterFields s) (omega arith))
+
+  -- the word's tests, of the word that was read
+  untaken : takesCount w (length (laterFields s)) ≡ false → plainLine Bad ≡ lineOf s
+  untaken n = line-breaks s 1 (rw word-is at n)
+
+  pub line-unread : r .ok ≡ false → plainLine Bad ≡ lineOf s
+  line-unread no-numbers = go known
+    where
+      go : Gathered w 0 (replicate 34 0) (laterFields s) r → plainLine Bad ≡ lineOf s
+      go (allFit few fit q) = absurd (true≢false (sym (ap (λ (x : Numbers). x .ok) q) ∙ no-numbers))
+      go (tooMany many q) = untaken (false-intro (takesCount w (length (laterFields s))) (λ t. omega (arith, takes-few w (length (laterFields s)) t)))
+      go (unfit bad q) = line-breaks s 2 (rw word-is at bad)
+
+  module _ (ok : r .ok ≡ true) where
+    -- the numbers are there
+    record There : Type 0 where
+      pub count : r .count ≡ length (laterFields s)
+      pub values : r .values ≡ places (map value (laterFields s))
+      pub few : length (laterFields s) ≤ 34
+      pub fit : fitting w 0 (laterFields s) ≡ true
+
+    there : There
+    there = go known
+      where
+        go : Gathered w 0 (replicate 34 0) (laterFields s) r → There
+        go (allFit few fit q) =
+            record {
+              count = ap (λ (x : Numbers). x .count) q ∙ zero-add (length (laterFields s));
+              values = ap (λ (x : Numbers). x .values) q;
+              few = omega arith;
+              fit = fit;
+            }
+        go (tooMany many q) = absurd (true≢false (sym ok ∙ ap (λ (x : Numbers). x .ok) q))
+        go (unfit bad q) = absurd (true≢false (sym ok ∙ ap (λ (x : Numbers). x .ok) q))
+
+    pub line-untaken : takesCount w (r .count) ≡ false → plainLine Bad ≡ lineOf s
+    line-untaken n = untaken (rw (there .count) at n)
+
+    module _ (taken : takesCount w (r .count) ≡ true) where
+      pub line-taken : Taken w (r .count) (r .values)
+      line-taken = record { enough = taken; fits = small }
+        where
+          small : (k : ℕ) → k < r .count → getD (r .values) k 0 ≤ mostAt w k
+          small k h =
+              let n : length (map value (laterFields s)) ≡ length (laterFields s) = length-map (laterFields s) value in
+              let c = there .count in
+              let q = put-at (replicate 34 0) 0 (map value (laterFields s)) k 0 (omega (arith, there .few, length-replicate {A = ℕ} 34 0)) (omega arith) in
+              let z = rw zero-add at q in
+              let m = rw zero-add at (fitting-at w 0 (laterFields s) k (there .fit) (omega arith)) in
+              rw (there .values, z) m
+
+      pub line-read : length s ≤ 1023 → callLine w (r .count) (r .values) ≡ lineOf s
+      unfolding lineOf
+      line-read h =
+          let t = rw (there .count) at taken in
+          rw (there .count, there .values, ← word-is, le-leb (length s) 1023 h, t, there .fit)

@@ -1,0 +1,466 @@
+//! The device and its calls (document 01, "Refusal numbers" to "The report").
+//!
+//! The marks are kept here as a set of pending units for each controller, not as words of bits; so the rule about
+//! "512 lent words" has no counterpart here, and refusal 1 is about the record alone. (`records` lends words.)
+
+use std::collections::{BTreeMap, BTreeSet};
+
+use crate::report::{report_bytes, room, Descriptor, Report, LEAST_BUFFER};
+use crate::rules::*;
+use crate::structure::{read_header, read_ranges};
+
+/// A unit of a controller's ranges: the row of its range in the list, and its address. Sets of them are ordered as
+/// runs are: "in the order of the list, then by address".
+#[derive(Clone, Copy, Debug, PartialEq, Eq, PartialOrd, Ord)]
+pub struct Unit {
+    pub row: usize,
+    pub address: u128,
+}
+
+/// A run: its first unit and how many units it has.
+#[derive(Clone, Copy, Debug, PartialEq, Eq)]
+struct Run {
+    first: Unit,
+    length: u128,
+}
+
+/// The device record, and the pending units of each controller by its identifier. The default is the closed device,
+/// which has no identifiers, is unsound, and so "answers 1 to every call".
+#[derive(Clone, Debug, Default, PartialEq, Eq)]
+pub struct Device {
+    pub record: Record,
+    pub pending: BTreeMap<u64, BTreeSet<Unit>>,
+}
+
+impl Device {
+    /// Fresh: 16. "done, all marks are 0, nobody is tracked or suspended".
+    pub fn fresh(settings: &Settings) -> Result<Device, Refusal> {
+        if settings_broken(settings) {
+            return Err(SETTINGS);
+        }
+        let mut device = Device::default();
+        // "fresh, start and stop fill those [unused places] they leave unused with zeros".
+        device.record.settings = Settings { identifiers: [0; MOST_CONTROLLERS], ..settings.clone() };
+        let used = settings.used_identifiers();
+        for (place, identifier) in device.record.settings.identifiers.iter_mut().zip(&used) {
+            *place = *identifier;
+        }
+        for identifier in used {
+            device.pending.insert(identifier, BTreeSet::new());
+        }
+        Ok(device)
+    }
+
+    /// Start: 1, 2, 4, 3, 8 (header), 6, 7, 8 (listed ranges), 9, 10, 11, 12.
+    /// "An accepted start clears the controller's 64 words and records granularity and ranges."
+    pub fn start(&mut self, id: u64, buffer: &[u8]) -> Result<(), Refusal> {
+        let controller = self.controller(id)?;
+        if controller.suspended {
+            return Err(SUSPENDED);
+        }
+        if controller.tracking != Tracking::Off {
+            return Err(ALREADY_TRACKED);
+        }
+        let header = match read_header(buffer) {
+            Some(header) => header,
+            None => return Err(BUFFER_TOO_SHORT),
+        };
+        if header.version != 0 {
+            return Err(VERSION);
+        }
+        if granularity_broken(&self.record.settings, header.granularity) {
+            return Err(GRANULARITY);
+        }
+        // "there, a count over 16 is met as 8 if the buffer doesn't hold them all, else as 9".
+        let ranges = match read_ranges(buffer, header.count) {
+            Some(ranges) => ranges,
+            None => return Err(BUFFER_TOO_SHORT),
+        };
+        if range_rule_broken(header.granularity, &ranges) {
+            return Err(RANGE_RULE);
+        }
+        if power_of_two_broken(&self.record.settings, &ranges) {
+            return Err(POWER_OF_TWO);
+        }
+        if too_many_units(&ranges) {
+            return Err(TOO_MANY_UNITS);
+        }
+        if limit_passed(&self.record, ranges.len()) {
+            return Err(LIMIT_PASSED);
+        }
+        let mut places = [Range::default(); MOST_RANGES];
+        for (place, range) in places.iter_mut().zip(&ranges) {
+            *place = *range;
+        }
+        let controller = self.controller_mut(id)?;
+        controller.tracking = Tracking::On { granularity: header.granularity, count: header.count };
+        controller.ranges = places;
+        self.pending.insert(id, BTreeSet::new());
+        Ok(())
+    }
+
+    /// Stop: 1, 2, 4, 5. "An accepted stop clears them again and forgets the ranges."
+    pub fn stop(&mut self, id: u64) -> Result<(), Refusal> {
+        let controller = self.controller(id)?;
+        if controller.suspended {
+            return Err(SUSPENDED);
+        }
+        if controller.tracking == Tracking::Off {
+            return Err(NOT_TRACKED);
+        }
+        let controller = self.controller_mut(id)?;
+        controller.tracking = Tracking::Off;
+        controller.ranges = [Range::default(); MOST_RANGES];
+        self.pending.insert(id, BTreeSet::new());
+        Ok(())
+    }
+
+    /// Write: 1, 2, 4, 14. "Touched units of tracked ranges become pending. The answer counts the units that were not
+    /// pending before. For a controller that isn't tracked a call not refused is done with count 0."
+    pub fn write(&mut self, id: u64, address: u64, bytes: u64) -> Result<u64, Refusal> {
+        let controller = self.controller(id)?;
+        if controller.suspended {
+            return Err(SUSPENDED);
+        }
+        if write_ends_past_memory(address, bytes) {
+            return Err(PAST_THE_END);
+        }
+        let granularity = match controller.tracking {
+            Tracking::Off => return Ok(0),
+            Tracking::On { granularity, .. } => granularity,
+        };
+        let ranges = controller.used_ranges();
+        let unit = unit_bytes(granularity);
+        let pending = self.pending.entry(id).or_default();
+        let mut count = 0;
+        for (row, range) in ranges.iter().enumerate() {
+            for number in 0..range.length {
+                let start = u128::from(range.start) + u128::from(number) * unit;
+                if touches(address, bytes, start, unit) && pending.insert(Unit { row, address: start }) {
+                    count += 1;
+                }
+            }
+        }
+        Ok(count)
+    }
+
+    /// Receive: 1, 2, 5, 8. "The first so many are reported and made clear; later ones stay. More To Report is set
+    /// exactly if a run stays." "Bytes after the last descriptor are unchanged. The granularity is the one with which
+    /// that controller was started."
+    pub fn receive(&mut self, id: u64, buffer: &mut [u8]) -> Result<(), Refusal> {
+        let controller = self.controller(id)?;
+        let granularity = match controller.tracking {
+            Tracking::Off => return Err(NOT_TRACKED),
+            Tracking::On { granularity, .. } => granularity,
+        };
+        if buffer.len() < LEAST_BUFFER {
+            return Err(BUFFER_TOO_SHORT);
+        }
+        let suspended = controller.suspended;
+        let unit = unit_bytes(granularity);
+        let pending = self.pending.entry(id).or_default();
+        let mut reported = runs(pending, unit);
+        let more = reported.len() > room(buffer.len());
+        reported.truncate(room(buffer.len()));
+        let mut descriptors = Vec::new();
+        for run in &reported {
+            descriptors.push(Descriptor { address: run.first.address, length: run.length });
+            for number in 0..run.length {
+                pending.remove(&Unit { row: run.first.row, address: run.first.address + number * unit });
+            }
+        }
+        let bytes = report_bytes(&Report { suspended, more, identifier: id, granularity, descriptors });
+        for (place, byte) in buffer.iter_mut().zip(&bytes) {
+            *place = *byte;
+        }
+        Ok(())
+    }
+
+    /// Suspend: 1, 2, 15. "Suspend type 1 suspends, also where already suspended (house). Type 0 is a notice and
+    /// changes nothing (house)."
+    pub fn suspend(&mut self, id: u64, kind: u64) -> Result<(), Refusal> {
+        let controller = self.controller_mut(id)?;
+        match kind {
+            0 => Ok(()),
+            1 => {
+                controller.suspended = true;
+                Ok(())
+            }
+            _ => Err(SUSPEND_TYPE),
+        }
+    }
+
+    /// Resume: 1, 2, 13.
+    pub fn resume(&mut self, id: u64) -> Result<(), Refusal> {
+        let controller = self.controller_mut(id)?;
+        if !controller.suspended {
+            return Err(NOT_SUSPENDED);
+        }
+        controller.suspended = false;
+        Ok(())
+    }
+
+    /// With what each call begins: 1, "device record is unsound"; then 2, "identifier not in the settings, or the
+    /// manager's own". Answers the place of the identifier.
+    fn place(&self, id: u64) -> Result<usize, Refusal> {
+        if !sound(&self.record) {
+            return Err(UNSOUND);
+        }
+        if id == self.record.settings.manager {
+            return Err(UNKNOWN);
+        }
+        for (place, identifier) in self.record.settings.used_identifiers().iter().enumerate() {
+            if *identifier == id {
+                return Ok(place);
+            }
+        }
+        Err(UNKNOWN)
+    }
+
+    fn controller(&self, id: u64) -> Result<&Controller, Refusal> {
+        let place = self.place(id)?;
+        self.record.controllers.get(place).ok_or(UNKNOWN)
+    }
+
+    fn controller_mut(&mut self, id: u64) -> Result<&mut Controller, Refusal> {
+        let place = self.place(id)?;
+        self.record.controllers.get_mut(place).ok_or(UNKNOWN)
+    }
+}
+
+/// "A run is a longest row of consecutive pending units within one range. Runs are taken in the order of the list,
+/// then by address, and never joined across two ranges."
+///
+/// So a run begins at each pending unit whose neighbour below, in the same range, is not pending, and goes on as long
+/// as the next unit of that range is pending.
+fn runs(pending: &BTreeSet<Unit>, unit: u128) -> Vec<Run> {
+    let mut runs = Vec::new();
+    for first in pending {
+        let joined_below = match first.address.checked_sub(unit) {
+            Some(below) => pending.contains(&Unit { row: first.row, address: below }),
+            None => false,
+        };
+        if joined_below {
+            continue;
+        }
+        let mut length: u128 = 1;
+        while pending.contains(&Unit { row: first.row, address: first.address + length * unit }) {
+            length += 1;
+        }
+        runs.push(Run { first: *first, length });
+    }
+    runs
+}
+
+#[cfg(test)]
+mod tests {
+    use super::*;
+    use crate::structure::structure_bytes;
+
+    /// Manager 1, granularities 0 to 8, rule off, limit 16, controllers 5 and 6.
+    fn device() -> Device {
+        Device::fresh(&Settings {
+            manager: 1,
+            least: 0,
+            greatest: 8,
+            rule: 0,
+            limit: 16,
+            number: 2,
+            identifiers: [5, 6, 0, 0, 0, 0, 0, 0],
+        })
+        .unwrap()
+    }
+
+    fn one_range() -> Vec<u8> {
+        structure_bytes(0, &[Range { start: 65536, length: 4 }])
+    }
+
+    /// A refused start, which changes nothing.
+    fn refused_start(device: &Device, buffer: &[u8]) -> Refusal {
+        let mut after = device.clone();
+        let answer = after.start(5, buffer);
+        assert_eq!(&after, device);
+        answer.unwrap_err()
+    }
+
+    #[test]
+    fn closed_device_answers_1_to_every_call() {
+        let mut device = Device::default();
+        assert_eq!(device.start(0, &one_range()), Err(1));
+        assert_eq!(device.stop(0), Err(1));
+        assert_eq!(device.write(0, 0, 0), Err(1));
+        assert_eq!(device.receive(0, &mut [0; 64]), Err(1));
+        assert_eq!(device.suspend(0, 9), Err(1));
+        assert_eq!(device.resume(0), Err(1));
+        assert_eq!(device, Device::default());
+    }
+
+    #[test]
+    fn unsound_record_answers_1_before_all_else() {
+        let mut device = device();
+        device.start(5, &one_range()).unwrap();
+        device.record.controllers[0].ranges[0].length = 0;
+        let before = device.clone();
+        for id in [1, 5, 6, 7].iter() {
+            assert_eq!(device.start(*id, &[]), Err(1));
+            assert_eq!(device.stop(*id), Err(1));
+            assert_eq!(device.write(*id, u64::MAX, u64::MAX), Err(1));
+            assert_eq!(device.receive(*id, &mut []), Err(1));
+            assert_eq!(device.suspend(*id, 2), Err(1));
+            assert_eq!(device.resume(*id), Err(1));
+        }
+        assert_eq!(device, before);
+    }
+
+    #[test]
+    fn unused_places_are_zeros() {
+        let mut device = Device::fresh(&Settings {
+            manager: 1,
+            least: 0,
+            greatest: 8,
+            rule: 0,
+            limit: 16,
+            number: 1,
+            identifiers: [5, 6, 7, 8, 9, 10, 11, 12],
+        })
+        .unwrap();
+        assert_eq!(device.record.settings.identifiers, [5, 0, 0, 0, 0, 0, 0, 0]);
+        assert_eq!(device.record.controllers[0], Controller::default());
+        let ranges = [Range { start: 65536, length: 4 }, Range { start: 0, length: 2 }];
+        device.start(5, &structure_bytes(0, &ranges)).unwrap();
+        let controller = &device.record.controllers[0];
+        assert_eq!(controller.tracking, Tracking::On { granularity: 0, count: 2 });
+        assert_eq!(controller.ranges[0], ranges[0]);
+        assert_eq!(controller.ranges[1], ranges[1]);
+        for range in &controller.ranges[2..] {
+            assert_eq!(*range, Range { start: 0, length: 0 });
+        }
+        device.stop(5).unwrap();
+        assert_eq!(device.record.controllers[0], Controller::default());
+    }
+
+    #[test]
+    fn start_clears_what_was_pending() {
+        // No listing comes here with a unit pending; a start clears all the same, and only its controller's units.
+        let mut device = device();
+        let stale = Unit { row: 0, address: 65536 };
+        device.pending.insert(5, [stale].iter().cloned().collect());
+        device.pending.insert(6, [stale].iter().cloned().collect());
+        device.start(5, &one_range()).unwrap();
+        assert_eq!(device.pending.get(&5), Some(&BTreeSet::new()));
+        assert_eq!(device.pending.get(&6), Some(&[stale].iter().cloned().collect()));
+    }
+
+    #[test]
+    fn start_with_a_short_buffer() {
+        let device = device();
+        for bytes in 0..8 {
+            assert_eq!(refused_start(&device, &one_range()[..bytes]), 8);
+        }
+        for bytes in 8..20 {
+            assert_eq!(refused_start(&device, &one_range()[..bytes]), 8);
+        }
+        // Version 1: behind 8 for the header, before 7 and before 8 for the ranges.
+        let mut buffer = one_range();
+        buffer[0] = 1;
+        buffer[3] = 9;
+        assert_eq!(refused_start(&device, &buffer), 6);
+        assert_eq!(refused_start(&device, &buffer[..8]), 6);
+        assert_eq!(refused_start(&device, &buffer[..7]), 8);
+        // Granularity 9: before 8 for the ranges.
+        buffer[0] = 0;
+        assert_eq!(refused_start(&device, &buffer), 7);
+        assert_eq!(refused_start(&device, &buffer[..8]), 7);
+        // 8 for the ranges stands before 9.
+        let mut buffer = structure_bytes(0, &[Range { start: 65537, length: 0 }]);
+        assert_eq!(refused_start(&device, &buffer[..19]), 8);
+        assert_eq!(refused_start(&device, &buffer), 9);
+        // Bytes after the last listed range and reserved bytes are ignored.
+        buffer = one_range();
+        buffer[1] = 255;
+        buffer[2] = 255;
+        buffer.push(255);
+        assert_eq!(device.clone().start(5, &buffer), Ok(()));
+    }
+
+    #[test]
+    fn start_with_a_count_over_16() {
+        let device = device();
+        let mut ranges = Vec::new();
+        for row in 0..17 {
+            ranges.push(Range { start: row * 4096, length: 1 });
+        }
+        let buffer = structure_bytes(0, &ranges);
+        assert_eq!(buffer.len(), 8 + 17 * 12);
+        assert_eq!(refused_start(&device, &buffer), 9);
+        assert_eq!(refused_start(&device, &buffer[..buffer.len() - 1]), 8);
+        let mut huge = buffer.clone();
+        huge[7] = 255;
+        assert_eq!(refused_start(&device, &huge), 8);
+        let mut sixteen = buffer.clone();
+        sixteen[4] = 16;
+        assert_eq!(device.clone().start(5, &sixteen), Ok(()));
+        let mut none = buffer;
+        none[4] = 0;
+        assert_eq!(refused_start(&device, &none), 9);
+        assert_eq!(refused_start(&device, &none[..8]), 9);
+    }
+
+    #[test]
+    fn report_in_its_buffer() {
+        let mut device = device();
+        device.start(5, &one_range()).unwrap();
+        assert_eq!(device.write(5, 65536, 1), Ok(1));
+        assert_eq!(device.write(5, 73728, 1), Ok(1));
+        // Refused: the buffer is unchanged, and so is the device.
+        let before = device.clone();
+        let mut buffer = [170; 31];
+        assert_eq!(device.receive(5, &mut buffer), Err(8));
+        assert_eq!(buffer, [170; 31]);
+        assert_eq!(device, before);
+        // One descriptor in 47 bytes; those after it are unchanged.
+        let mut buffer = [170; 47];
+        assert_eq!(device.receive(5, &mut buffer), Ok(()));
+        let mut expected = [170; 47];
+        expected[..32].copy_from_slice(&[
+            0, 1, 5, 0, 1, 0, 0, 0, 0, 0, 0, 0, 0, 0, 0, 0, // more, identifier 5, one, granularity 0
+            0, 0, 1, 0, 0, 0, 0, 0, 1, 0, 0, 0, 0, 0, 0, 0, // 65536, 1
+        ]);
+        assert_eq!(buffer, expected);
+        // The other one, while suspended.
+        assert_eq!(device.suspend(5, 1), Ok(()));
+        let mut buffer = [170; 47];
+        assert_eq!(device.receive(5, &mut buffer), Ok(()));
+        let mut expected = [170; 47];
+        expected[..32].copy_from_slice(&[
+            0, 2, 5, 0, 1, 0, 0, 0, 0, 0, 0, 0, 0, 0, 0, 0, // suspended
+            0, 32, 1, 0, 0, 0, 0, 0, 1, 0, 0, 0, 0, 0, 0, 0, // 73728 = 0x12000, 1
+        ]);
+        assert_eq!(buffer, expected);
+        // Nothing left: a header alone.
+        let mut buffer = [170; 32];
+        assert_eq!(device.receive(5, &mut buffer), Ok(()));
+        let mut expected = [170; 32];
+        expected[..16].copy_from_slice(&[0, 2, 5, 0, 0, 0, 0, 0, 0, 0, 0, 0, 0, 0, 0, 0]);
+        assert_eq!(buffer, expected);
+    }
+
+    #[test]
+    fn runs_by_hand() {
+        let unit = |row, address| Unit { row, address };
+        let mut pending = BTreeSet::new();
+        // Range 0 lies above range 1; the two touch at 8192.
+        for one in [unit(1, 0), unit(1, 4096), unit(0, 8192), unit(0, 12288), unit(0, 20480)].iter() {
+            pending.insert(*one);
+        }
+        assert_eq!(
+            runs(&pending, 4096),
+            [
+                Run { first: unit(0, 8192), length: 2 },
+                Run { first: unit(0, 20480), length: 1 },
+                Run { first: unit(1, 0), length: 2 },
+            ]
+        );
+        assert_eq!(runs(&BTreeSet::new(), 4096), []);
+    }
+}

@@ -1,0 +1,158 @@
+//! Cases with device records of any kind, sound or not. No session listing leads to an unsound record or to marks that
+//! are not 512 words, so refusal 1 is tested here. tests/RECORDS.md has the form of a case and of its answer.
+
+mod case;
+mod marks;
+#[cfg(test)]
+mod tests;
+
+use std::io::{self, ErrorKind, Read, Write};
+
+use crate::device::Device;
+use crate::report::read_report;
+use crate::rules::{Record, Refusal, UNSOUND};
+
+use self::case::{read_case, record_bytes, Call, Case, CASE_BYTES};
+use self::marks::{clear_words, mark_pending, pending_units, MARK_WORDS};
+
+/// What a call answers, and what it leaves behind.
+#[derive(Clone, Debug, PartialEq, Eq)]
+struct Outcome {
+    refusal: Refusal,
+    /// A write's count.
+    count: u64,
+    /// A report's suspended, more, granularity and number of runs.
+    report: [u64; 4],
+    record: Record,
+    words: Vec<u64>,
+    data: Vec<u8>,
+}
+
+/// Answers each case of `input` with a line. Input that isn't in the form is an error, as no answer would be right.
+pub fn play<R: Read, W: Write>(input: &mut R, output: &mut W) -> io::Result<()> {
+    loop {
+        let mut bytes = Vec::new();
+        input.by_ref().take(CASE_BYTES as u64).read_to_end(&mut bytes)?;
+        if bytes.is_empty() {
+            return output.flush();
+        }
+        let case = if bytes.len() == CASE_BYTES { read_case(&bytes) } else { None };
+        match case {
+            Some(case) => output.write_all(answer(&outcome(&case)).as_bytes())?,
+            None => {
+                output.flush()?;
+                return Err(io::Error::new(ErrorKind::InvalidData, "a case is not in the form"));
+            }
+        }
+    }
+}
+
+/// "Every refused call returns its number, with zeros for everything else ..., and changes neither device, marks nor any
+/// buffer."; a refused fresh "returns a closed device, all zeros".
+fn outcome(case: &Case) -> Outcome {
+    match done(case) {
+        Ok(outcome) => outcome,
+        Err(refusal) => {
+            let closed = case.call == Call::Fresh;
+            let record = if closed { Record::default() } else { case.record.clone() };
+            Outcome { refusal, record, ..untouched(case) }
+        }
+    }
+}
+
+fn untouched(case: &Case) -> Outcome {
+    Outcome {
+        refusal: 0,
+        count: 0,
+        report: [0; 4],
+        record: case.record.clone(),
+        words: case.words.clone(),
+        data: case.data.clone(),
+    }
+}
+
+fn done(case: &Case) -> Result<Outcome, Refusal> {
+    let mut after = untouched(case);
+    if case.call == Call::Fresh {
+        // "Fresh: 16, then 1 for the marks' length; done, all marks are 0".
+        let device = Device::fresh(&case.record.settings)?;
+        lent_512(&case.words)?;
+        after.record = device.record;
+        after.words = vec![0; MARK_WORDS];
+        return Ok(after);
+    }
+    lent_512(&case.words)?;
+    let mut device = Device { record: case.record.clone(), pending: pending_units(&case.record, &case.words) };
+    match case.call {
+        Call::Fresh => {}
+        Call::Start => {
+            device.start(case.id, &case.data)?;
+            clear_words(&device.record, case.id, &mut after.words);
+        }
+        Call::Stop => {
+            device.stop(case.id)?;
+            clear_words(&device.record, case.id, &mut after.words);
+        }
+        Call::Write { address, bytes } => after.count = device.write(case.id, address, bytes)?,
+        Call::Receive => {
+            device.receive(case.id, &mut after.data)?;
+            after.report = report_numbers(&after.data);
+        }
+        Call::Suspend { kind } => device.suspend(case.id, kind)?,
+        Call::Resume => device.resume(case.id)?,
+    }
+    mark_pending(&device, &mut after.words);
+    after.record = device.record;
+    Ok(after)
+}
+
+/// Refusal 1, its second half: "marks are not 512 words".
+fn lent_512(words: &[u64]) -> Result<(), Refusal> {
+    if words.len() == MARK_WORDS {
+        Ok(())
+    } else {
+        Err(UNSOUND)
+    }
+}
+
+/// Suspended, more, granularity and number of runs, read from a done report's bytes.
+fn report_numbers(buffer: &[u8]) -> [u64; 4] {
+    match read_report(buffer) {
+        Some(report) => {
+            [u64::from(report.suspended), u64::from(report.more), report.granularity, report.descriptors.len() as u64]
+        }
+        // Cannot be; and were it so, a comparison with another program would show it.
+        None => [u64::MAX; 4],
+    }
+}
+
+/// The answer's line: refusal, count, the report's four numbers, and the hashes of record, marks and lent bytes.
+fn answer(outcome: &Outcome) -> String {
+    let mut line = format!("{} {}", outcome.refusal, outcome.count);
+    for number in &outcome.report {
+        line.push_str(&format!(" {}", number));
+    }
+    for bytes in &[record_bytes(&outcome.record), word_bytes(&outcome.words), outcome.data.clone()] {
+        line.push_str(&format!(" {}", hash(bytes)));
+    }
+    line.push('\n');
+    line
+}
+
+/// The mark words, 8 bytes each.
+fn word_bytes(words: &[u64]) -> Vec<u8> {
+    let mut bytes = Vec::new();
+    for word in words {
+        bytes.extend_from_slice(&word.to_le_bytes());
+    }
+    bytes
+}
+
+/// FNV-1a, 64 bits.
+fn hash(bytes: &[u8]) -> u64 {
+    let mut hash: u64 = 14695981039346656037;
+    for byte in bytes {
+        hash = (hash ^ u64::from(*byte)).wrapping_mul(1099511628211);
+    }
+    hash
+}

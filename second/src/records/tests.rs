@@ -1,0 +1,394 @@
+//! Cases worked out by hand from document 01. Pages: 65536 is page 16, 69632 page 17, 73728 page 18, 81920 page 20.
+
+use super::*;
+use crate::rules::{Controller, Range, Settings, Tracking};
+use crate::structure::structure_bytes;
+
+/// Manager 1, granularities 0 to 8, rule off, limit 16, controllers 5, 6 and 7. Controller 5 tracks 4 units from page 16
+/// on and 2 units from page 0 on; 6 is not tracked; 7 is suspended and tracks 3 units of granularity 8. All marks are 0.
+fn base(call: Call, id: u64) -> Case {
+    let mut record = Record::default();
+    record.settings = Settings {
+        manager: 1,
+        least: 0,
+        greatest: 8,
+        rule: 0,
+        limit: 16,
+        number: 3,
+        identifiers: [5, 6, 7, 0, 0, 0, 0, 0],
+    };
+    record.controllers[0].tracking = Tracking::On { granularity: 0, count: 2 };
+    record.controllers[0].ranges[0] = Range { start: 65536, length: 4 };
+    record.controllers[0].ranges[1] = Range { start: 0, length: 2 };
+    record.controllers[2].tracking = Tracking::On { granularity: 8, count: 1 };
+    record.controllers[2].suspended = true;
+    record.controllers[2].ranges[0] = Range { start: 1048576, length: 3 };
+    Case { record, words: vec![0; 512], call, id, data: Vec::new() }
+}
+
+/// The base with each of the six calls that look at the record; each is done there.
+fn calls() -> Vec<Case> {
+    let mut start = base(Call::Start, 6);
+    start.data = structure_bytes(0, &[Range { start: 65536, length: 1 }]);
+    let mut receive = base(Call::Receive, 5);
+    receive.data = vec![170; 64];
+    vec![
+        start,
+        base(Call::Stop, 5),
+        base(Call::Write { address: 69632, bytes: 1 }, 5),
+        receive,
+        base(Call::Suspend { kind: 1 }, 5),
+        base(Call::Resume, 7),
+    ]
+}
+
+/// What each of the six calls answers once the base's record is changed so. A refused one must leave all as it was.
+fn refusals(change: &dyn Fn(&mut Record)) -> Vec<Refusal> {
+    let mut refusals = Vec::new();
+    for mut case in calls() {
+        change(&mut case.record);
+        let after = outcome(&case);
+        if after.refusal != 0 {
+            assert_eq!(after, Outcome { refusal: after.refusal, ..untouched(&case) });
+        }
+        refusals.push(after.refusal);
+    }
+    refusals
+}
+
+fn assert_unsound(change: &dyn Fn(&mut Record)) {
+    assert_eq!(refusals(change), [1; 6]);
+}
+
+fn assert_sound(change: &dyn Fn(&mut Record)) {
+    assert_eq!(refusals(change), [0; 6]);
+}
+
+/// Puts these ranges, and no others, into the first controller's places.
+fn track(record: &mut Record, granularity: u64, ranges: &[(u64, u64)]) {
+    record.controllers[0].tracking = Tracking::On { granularity, count: ranges.len() as u64 };
+    record.controllers[0].ranges = Default::default();
+    for (place, (start, length)) in record.controllers[0].ranges.iter_mut().zip(ranges) {
+        *place = Range { start: *start, length: *length };
+    }
+}
+
+// ---------------------------------------------------------------------------------------------------------------
+// When a record is sound
+// ---------------------------------------------------------------------------------------------------------------
+
+#[test]
+fn base_is_sound() {
+    assert_sound(&|_| ());
+}
+
+#[test]
+fn closed_device_answers_1() {
+    assert_unsound(&|record| *record = Record::default());
+}
+
+#[test]
+fn settings_at_and_past_their_limits() {
+    for number in &[0, 9, 255, 259, 4294967299, u64::MAX] {
+        assert_unsound(&|record| record.settings.number = *number);
+    }
+    assert_sound(&|record| {
+        record.settings.number = 8;
+        record.settings.identifiers = [5, 6, 7, 0, 65535, 2, 3, 4];
+    });
+    // 0 in two places, then the manager among them.
+    assert_unsound(&|record| record.settings.number = 5);
+    assert_unsound(&|record| record.settings.manager = 6);
+    assert_sound(&|record| record.settings.manager = 0);
+    assert_sound(&|record| record.settings.greatest = 20);
+    assert_unsound(&|record| record.settings.greatest = 21);
+    assert_unsound(&|record| record.settings.least = 9);
+    assert_sound(&|record| record.settings.limit = 128);
+    assert_unsound(&|record| record.settings.limit = 129);
+}
+
+#[test]
+fn counts_and_granularities_at_and_past_their_limits() {
+    for count in &[0, 17, 255] {
+        assert_unsound(&|record| record.controllers[0].tracking = Tracking::On { granularity: 0, count: *count });
+        assert_unsound(&|record| record.controllers[1].tracking = Tracking::On { granularity: 0, count: *count });
+    }
+    assert_unsound(&|record| record.controllers[2].tracking = Tracking::On { granularity: 9, count: 1 });
+    // Controller 5 was started with 0, controller 7 with 8.
+    assert_unsound(&|record| record.settings.least = 1);
+    assert_unsound(&|record| record.settings.greatest = 7);
+}
+
+#[test]
+fn ranges_at_and_past_their_limits() {
+    // They touch, in both orders; then they share page 19.
+    assert_sound(&|record| track(record, 0, &[(65536, 4), (81920, 2)]));
+    assert_sound(&|record| track(record, 0, &[(81920, 2), (65536, 4)]));
+    assert_unsound(&|record| track(record, 0, &[(65536, 4), (77824, 2)]));
+    assert_unsound(&|record| track(record, 0, &[(77824, 2), (65536, 4)]));
+    // The end at 2^64, and past it.
+    assert_sound(&|record| track(record, 0, &[(18446744073709547520, 1)]));
+    assert_unsound(&|record| track(record, 0, &[(18446744073709547520, 2)]));
+    assert_sound(&|record| track(record, 8, &[(18446744073708503040, 1)]));
+    assert_unsound(&|record| track(record, 8, &[(18446744073708503040, 2)]));
+    // No multiple of the unit; no unit at all.
+    assert_unsound(&|record| track(record, 0, &[(65537, 4)]));
+    assert_unsound(&|record| track(record, 8, &[(1052672, 4)]));
+    assert_unsound(&|record| track(record, 0, &[(65536, 0)]));
+    // The greatest total, and past it; a sum that would be 1 in 32 bits.
+    assert_sound(&|record| track(record, 0, &[(0, 4095), (16777216, 1)]));
+    assert_unsound(&|record| track(record, 0, &[(0, 4095), (16777216, 2)]));
+    assert_unsound(&|record| track(record, 0, &[(0, 4294967295), (17592186044416, 2)]));
+    // The power-of-two rule: controller 7 has 3 units, 5 has 4 and 2.
+    assert_unsound(&|record| record.settings.rule = 1);
+    assert_sound(&|record| {
+        record.settings.rule = 1;
+        record.controllers[2].ranges[0].length = 4;
+    });
+}
+
+#[test]
+fn counts_together_at_and_past_the_limit() {
+    // 2 and 1 are tracked, and the start asks for one more.
+    assert_sound(&|record| record.settings.limit = 4);
+    assert_eq!(refusals(&|record| record.settings.limit = 3), [12, 0, 0, 0, 0, 0]);
+    assert_unsound(&|record| record.settings.limit = 2);
+}
+
+/// Full of what no rule allows, in every place that isn't used.
+fn rubbish(record: &mut Record) {
+    for identifier in record.settings.identifiers.iter_mut().skip(3) {
+        *identifier = 1;
+    }
+    for (controller, used) in record.controllers.iter_mut().zip(&[2, 0, 1, 0, 0, 0, 0, 0]) {
+        for range in controller.ranges.iter_mut().skip(*used) {
+            *range = Range { start: 65537, length: 4294967295 };
+        }
+    }
+    for controller in record.controllers.iter_mut().skip(3) {
+        controller.tracking = Tracking::On { granularity: 255, count: 255 };
+        controller.suspended = true;
+    }
+}
+
+#[test]
+fn unused_places_are_not_looked_at() {
+    assert_sound(&rubbish);
+}
+
+#[test]
+fn marks_that_are_not_512_words() {
+    for mut case in calls() {
+        for words in &[0, 1, 511, 513, 600] {
+            case.words = vec![7; *words];
+            assert_eq!(outcome(&case), Outcome { refusal: 1, ..untouched(&case) });
+        }
+    }
+}
+
+// ---------------------------------------------------------------------------------------------------------------
+// What each call leaves behind, in a record full of rubbish
+// ---------------------------------------------------------------------------------------------------------------
+
+#[test]
+fn fresh_zeroes_all_it_leaves_unused() {
+    let mut case = base(Call::Fresh, 0);
+    rubbish(&mut case.record);
+    case.words = vec![u64::MAX; 512];
+    let after = outcome(&case);
+    assert_eq!((after.refusal, after.words), (0, vec![0; 512]));
+    assert_eq!(after.record.settings.identifiers, [5, 6, 7, 0, 0, 0, 0, 0]);
+    assert_eq!(after.record.settings.limit, 16);
+    for controller in &after.record.controllers {
+        assert_eq!(*controller, Controller::default());
+    }
+}
+
+#[test]
+fn refused_fresh_is_closed() {
+    // 1 for the marks' length, and 16 before it.
+    let mut case = base(Call::Fresh, 0);
+    case.words = vec![9; 511];
+    let closed = |refusal, case: &Case| Outcome { refusal, record: Record::default(), ..untouched(case) };
+    assert_eq!(outcome(&case), closed(1, &case));
+    case.record.settings.limit = 129;
+    assert_eq!(outcome(&case), closed(16, &case));
+    case.words = vec![9; 512];
+    assert_eq!(outcome(&case), closed(16, &case));
+}
+
+#[test]
+fn start_and_stop_zero_what_they_leave_unused() {
+    for (case, place) in calls().iter().take(2).zip(&[1, 0]) {
+        let mut case = case.clone();
+        rubbish(&mut case.record);
+        case.words = vec![u64::MAX; 512];
+        let mut expected = untouched(&case);
+        expected.record.controllers[*place] = Controller::default();
+        if *place == 1 {
+            expected.record.controllers[1].tracking = Tracking::On { granularity: 0, count: 1 };
+            expected.record.controllers[1].ranges[0] = Range { start: 65536, length: 1 };
+        }
+        for word in 0..64 {
+            expected.words[place * 64 + word] = 0;
+        }
+        assert_eq!(outcome(&case), expected);
+    }
+}
+
+#[test]
+fn writes_and_reports_keep_to_their_bits() {
+    // Bits 0 to 3 are pages 16 to 19, bits 4 and 5 pages 0 and 1; all other bits stay as they are.
+    let mut case = base(Call::Write { address: 73727, bytes: 2 }, 5);
+    rubbish(&mut case.record);
+    case.words = vec![0xffff_ffff_ffff_ffd0; 512];
+    let mut expected = untouched(&case);
+    expected.count = 2;
+    expected.words[0] = 0xffff_ffff_ffff_ffd6;
+    assert_eq!(outcome(&case), expected);
+
+    // Pages 17 and 18, and page 0: two runs, of which 32 bytes hold one.
+    case.call = Call::Receive;
+    case.words = expected.words;
+    case.data = vec![170; 47];
+    let mut expected = untouched(&case);
+    expected.report = [0, 1, 0, 1];
+    expected.words[0] = 0xffff_ffff_ffff_ffd0;
+    expected.data[..32].copy_from_slice(&[
+        0, 1, 5, 0, 1, 0, 0, 0, 0, 0, 0, 0, 0, 0, 0, 0, // more, identifier 5, one, granularity 0
+        0, 16, 1, 0, 0, 0, 0, 0, 2, 0, 0, 0, 0, 0, 0, 0, // 69632, 2
+    ]);
+    assert_eq!(outcome(&case), expected);
+}
+
+#[test]
+fn last_bit_of_a_controller() {
+    // Unit 4095 of the second controller is the highest bit of word 127.
+    let mut case = base(Call::Write { address: 16777215, bytes: 1 }, 6);
+    case.record.controllers[1].tracking = Tracking::On { granularity: 0, count: 1 };
+    case.record.controllers[1].ranges[0] = Range { start: 0, length: 4096 };
+    let mut expected = untouched(&case);
+    expected.count = 1;
+    expected.words[127] = 1 << 63;
+    assert_eq!(outcome(&case), expected);
+}
+
+// ---------------------------------------------------------------------------------------------------------------
+// The form
+// ---------------------------------------------------------------------------------------------------------------
+
+/// A whole case with each field's bytes at its offset in tests/RECORDS.md.
+fn case_bytes() -> Vec<u8> {
+    let mut bytes = vec![0; CASE_BYTES];
+    let fields: [(usize, &[u8]); 20] = [
+        (0, &[1, 2]),                        // manager
+        (2, &[3]),                           // least
+        (3, &[4]),                           // greatest
+        (4, &[1]),                           // rule
+        (5, &[5, 6]),                        // limit
+        (7, &[7, 0, 0, 0, 0, 0, 0, 8]),      // count
+        (15, &[9, 10]),                      // the first identifier
+        (29, &[11, 12]),                     // the last identifier
+        (31, &[1, 13, 14, 1]),               // the first controller
+        (35, &[15, 0, 0, 0, 0, 0, 0, 16]),   // its first start
+        (43, &[17, 0, 0, 18]),               // its first length
+        (227, &[1, 19, 20, 0]),              // the second controller
+        (1587, &[21, 0, 0, 0, 0, 0, 0, 22]), // the last controller's last start
+        (1595, &[23, 0, 0, 24]),             // the last length
+        (1599, &[1, 2]),                     // 513 words
+        (1601, &[25, 0, 0, 0, 0, 0, 0, 26]), // their mark
+        (1609, &[3, 27, 28]),                // a write of this identifier
+        (1612, &[29, 0, 0, 0, 0, 0, 0, 30]), // address
+        (1620, &[31, 0, 0, 0, 0, 0, 0, 32]), // bytes
+        (1628, &[33, 3, 0, 34, 35, 36, 99]), // type, 3 lent bytes, and one that isn't lent
+    ];
+    for (at, field) in &fields {
+        bytes[*at..*at + field.len()].copy_from_slice(field);
+    }
+    bytes
+}
+
+#[test]
+fn fields_at_their_offsets() {
+    let high = |low: u64, high: u64| low + high * 72057594037927936;
+    let case = read_case(&case_bytes()).unwrap();
+    let settings = Settings {
+        manager: 513,
+        least: 3,
+        greatest: 4,
+        rule: 1,
+        limit: 1541,
+        number: high(7, 8),
+        identifiers: [2569, 0, 0, 0, 0, 0, 0, 3083],
+    };
+    assert_eq!(case.record.settings, settings);
+    let first = &case.record.controllers[0];
+    assert_eq!((first.tracking, first.suspended), (Tracking::On { granularity: 13, count: 14 }, true));
+    assert_eq!(first.ranges[0], Range { start: high(15, 16), length: 301989905 });
+    let second = &case.record.controllers[1];
+    assert_eq!((second.tracking, second.suspended), (Tracking::On { granularity: 19, count: 20 }, false));
+    assert_eq!(case.record.controllers[7].ranges[15], Range { start: high(21, 22), length: 402653207 });
+    assert_eq!(case.words, vec![high(25, 26); 513]);
+    assert_eq!(case.call, Call::Write { address: high(29, 30), bytes: high(31, 32) });
+    assert_eq!((case.id, case.data), (7195, vec![34, 35, 36]));
+}
+
+#[test]
+fn record_is_written_as_it_was_read() {
+    let bytes = case_bytes();
+    assert_eq!(record_bytes(&read_case(&bytes).unwrap().record), bytes[..1599].to_vec());
+    assert_eq!(record_bytes(&Record::default()), vec![0; 1599]);
+}
+
+#[test]
+fn each_call_by_its_number() {
+    let mut bytes = case_bytes();
+    let write = read_case(&bytes).unwrap().call;
+    for (number, call) in
+        [Call::Fresh, Call::Start, Call::Stop, write, Call::Receive, Call::Suspend { kind: 33 }, Call::Resume]
+            .iter()
+            .enumerate()
+    {
+        bytes[1609] = number as u8;
+        assert_eq!(read_case(&bytes).unwrap().call, *call);
+    }
+}
+
+#[test]
+fn bytes_that_are_no_case() {
+    // Rule 2, tracking 2, off with a granularity, suspended 2, 601 words, call 7, 1,025 lent bytes.
+    let damages: [&[(usize, u8)]; 7] =
+        [&[(4, 2)], &[(31, 2)], &[(31, 0)], &[(34, 2)], &[(1599, 89)], &[(1609, 7)], &[(1629, 1), (1630, 4)]];
+    for damage in &damages {
+        let mut bytes = case_bytes();
+        for (at, byte) in damage.iter() {
+            bytes[*at] = *byte;
+        }
+        assert_eq!(read_case(&bytes), None, "{:?}", damage);
+    }
+    assert_eq!(read_case(&[]), None);
+    let mut short = case_bytes();
+    short.pop();
+    assert!(play(&mut &short[..], &mut Vec::new()).is_err());
+}
+
+#[test]
+fn hashes_by_hand() {
+    // The values that the authors of FNV give for no byte, "a" and "foobar".
+    assert_eq!(hash(b""), 0xcbf29ce484222325);
+    assert_eq!(hash(b"a"), 0xaf63dc4c8601ec8c);
+    assert_eq!(hash(b"foobar"), 0x85944171f73967e8);
+    assert_eq!(word_bytes(&[1, 256]), [1, 0, 0, 0, 0, 0, 0, 0, 0, 1, 0, 0, 0, 0, 0, 0]);
+}
+
+#[test]
+fn a_line_for_each_case() {
+    // Two cases of zeros: a fresh whose settings have no identifiers. It answers 16 and is closed; no words, no bytes.
+    let mut output = Vec::new();
+    play(&mut &vec![0; 2 * CASE_BYTES][..], &mut output).unwrap();
+    let line = format!("16 0 0 0 0 0 {} {} {}\n", hash(&[0; 1599]), hash(b""), hash(b""));
+    assert_eq!(String::from_utf8(output).unwrap(), line.repeat(2));
+    let mut output = Vec::new();
+    play(&mut &[][..], &mut output).unwrap();
+    assert_eq!(output, b"");
+}

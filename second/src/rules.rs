@@ -1,0 +1,645 @@
+//! The rules of document 01 that speak of plain numbers: settings, granularities, ranges, touching, and when a
+//! device record is sound. Nothing here knows of a session.
+//!
+//! Arithmetic on addresses is done in 128 bits and stops at the greatest number there (saturates) instead of
+//! wrapping. No number that passes the rules comes near it; one that stops there is far past 2^64 and so is
+//! refused, which is the right answer.
+
+/// Document 01, "Refusal numbers": "Every refused call returns its number".
+pub type Refusal = u8;
+
+pub const UNSOUND: Refusal = 1;
+pub const UNKNOWN: Refusal = 2;
+pub const ALREADY_TRACKED: Refusal = 3;
+pub const SUSPENDED: Refusal = 4;
+pub const NOT_TRACKED: Refusal = 5;
+pub const VERSION: Refusal = 6;
+pub const GRANULARITY: Refusal = 7;
+pub const BUFFER_TOO_SHORT: Refusal = 8;
+pub const RANGE_RULE: Refusal = 9;
+pub const POWER_OF_TWO: Refusal = 10;
+pub const TOO_MANY_UNITS: Refusal = 11;
+pub const LIMIT_PASSED: Refusal = 12;
+pub const NOT_SUSPENDED: Refusal = 13;
+pub const PAST_THE_END: Refusal = 14;
+pub const SUSPEND_TYPE: Refusal = 15;
+pub const SETTINGS: Refusal = 16;
+
+/// "tracks, for up to 8 migratable controllers".
+pub const MOST_CONTROLLERS: usize = 8;
+/// "At most 16 ranges for each of 8 controllers".
+pub const MOST_RANGES: usize = 16;
+/// "at most 4,096 units in all of one controller's ranges (house)".
+pub const MOST_UNITS: u128 = 4096;
+/// "least ≤ greatest ≤ 20 (house)".
+pub const GREATEST_GRANULARITY: u64 = 20;
+/// "The descriptor limit (CMMRTD), 0 to 128."
+pub const GREATEST_LIMIT: u64 = 128;
+/// "16 bits each".
+pub const GREATEST_IDENTIFIER: u64 = 65535;
+/// 2^64, the first address past the end of memory.
+pub const END_OF_MEMORY: u128 = 18_446_744_073_709_551_616;
+
+/// The settings, as plain numbers that may be nonsense. Of the identifiers the first `number` are used.
+#[derive(Clone, Debug, Default, PartialEq, Eq)]
+pub struct Settings {
+    pub manager: u64,
+    pub least: u64,
+    pub greatest: u64,
+    /// The power-of-two rule: 0 off, 1 on.
+    pub rule: u64,
+    pub limit: u64,
+    pub number: u64,
+    pub identifiers: [u64; MOST_CONTROLLERS],
+}
+
+/// "Each range has a 64-bit start address and a length in units."
+#[derive(Clone, Copy, Debug, Default, PartialEq, Eq)]
+pub struct Range {
+    pub start: u64,
+    pub length: u64,
+}
+
+/// "A controller is either not tracked, or tracked with its granularity and its number of ranges."
+#[derive(Clone, Copy, Debug, Default, PartialEq, Eq)]
+pub enum Tracking {
+    #[default]
+    Off,
+    On {
+        granularity: u64,
+        count: u64,
+    },
+}
+
+/// "Separately it is running or suspended." Of the ranges the first `count` are used, and none where it is off.
+#[derive(Clone, Debug, Default, PartialEq, Eq)]
+pub struct Controller {
+    pub tracking: Tracking,
+    pub suspended: bool,
+    pub ranges: [Range; MOST_RANGES],
+}
+
+/// A device record: the settings, and a controller for each place of an identifier. The default is the closed
+/// device, "all zeros".
+#[derive(Clone, Debug, Default, PartialEq, Eq)]
+pub struct Record {
+    pub settings: Settings,
+    pub controllers: [Controller; MOST_CONTROLLERS],
+}
+
+impl Settings {
+    /// The identifiers in use. DESIGN 6.5: "identifiers past their number ... are unused places".
+    pub fn used_identifiers(&self) -> Vec<u64> {
+        let mut used = Vec::new();
+        for (identifier, _) in self.identifiers.iter().zip(0..self.number) {
+            used.push(*identifier);
+        }
+        used
+    }
+}
+
+impl Controller {
+    /// The ranges in use. DESIGN 6.5: "ranges past a controller's count are unused places; so are all ranges of a
+    /// controller that is off".
+    pub fn used_ranges(&self) -> Vec<Range> {
+        let mut used = Vec::new();
+        if let Tracking::On { count, .. } = self.tracking {
+            for (range, _) in self.ranges.iter().zip(0..count) {
+                used.push(*range);
+            }
+        }
+        used
+    }
+}
+
+/// "A granularity n means a unit of 2^n times 4 KiB, that is 2^(12+n) bytes."
+pub fn unit_bytes(granularity: u64) -> u128 {
+    let mut bytes: u128 = 4096;
+    // 2^127 is the greatest power of two that fits, and 115 doublings away; more stop at the greatest number.
+    for _ in 0..granularity.min(200) {
+        bytes = bytes.saturating_mul(2);
+    }
+    bytes
+}
+
+/// "start plus length in bytes", for a range of units of `unit` bytes: the first address after it.
+fn range_end(unit: u128, range: Range) -> u128 {
+    let length_in_bytes = u128::from(range.length).saturating_mul(unit);
+    u128::from(range.start).saturating_add(length_in_bytes)
+}
+
+/// Refusal 16: "settings break the rules above", that is the list in "Settings and sizes".
+pub fn settings_broken(settings: &Settings) -> bool {
+    // "1 to 8 controller identifiers"
+    if settings.number < 1 || settings.number > MOST_CONTROLLERS as u64 {
+        return true;
+    }
+    let used = settings.used_identifiers();
+    for (place, identifier) in used.iter().enumerate() {
+        // "16 bits each"
+        if *identifier > GREATEST_IDENTIFIER {
+            return true;
+        }
+        // "all different"
+        if used.iter().skip(place + 1).any(|later| later == identifier) {
+            return true;
+        }
+        // "the manager's own identifier, not among them"
+        if *identifier == settings.manager {
+            return true;
+        }
+    }
+    if settings.manager > GREATEST_IDENTIFIER {
+        return true;
+    }
+    // "Least and greatest granularity, least ≤ greatest ≤ 20 (house)."
+    if settings.least > settings.greatest || settings.greatest > GREATEST_GRANULARITY {
+        return true;
+    }
+    // "The power-of-two rule, on or off (the MRTLL bit)."
+    if settings.rule != 0 && settings.rule != 1 {
+        return true;
+    }
+    // "The descriptor limit (CMMRTD), 0 to 128."
+    settings.limit > GREATEST_LIMIT
+}
+
+/// Refusal 7: "granularity below the least or above the greatest".
+pub fn granularity_broken(settings: &Settings, granularity: u64) -> bool {
+    granularity < settings.least || granularity > settings.greatest
+}
+
+/// Refusal 9: "Range rules (refusal 9): the count is 1 to 16; each length is at least 1; each start is a multiple of
+/// the unit; start plus length in bytes is at most 2^64; no two ranges share a unit (house)."
+pub fn range_rule_broken(granularity: u64, ranges: &[Range]) -> bool {
+    // "the count is 1 to 16"
+    if ranges.is_empty() || ranges.len() > MOST_RANGES {
+        return true;
+    }
+    let unit = unit_bytes(granularity);
+    for (row, range) in ranges.iter().enumerate() {
+        // "each length is at least 1"
+        if range.length == 0 {
+            return true;
+        }
+        // "each start is a multiple of the unit"
+        if u128::from(range.start) % unit != 0 {
+            return true;
+        }
+        // "start plus length in bytes is at most 2^64"
+        if range_end(unit, *range) > END_OF_MEMORY {
+            return true;
+        }
+        // "no two ranges share a unit (house)"
+        for later in ranges.iter().skip(row + 1) {
+            if share_a_unit(unit, *range, *later) {
+                return true;
+            }
+        }
+    }
+    false
+}
+
+/// "no two ranges share a unit": each begins before the other ends.
+fn share_a_unit(unit: u128, one: Range, other: Range) -> bool {
+    u128::from(one.start) < range_end(unit, other) && u128::from(other.start) < range_end(unit, one)
+}
+
+/// Refusal 10: "power-of-two rule is on and some length isn't a power of two".
+pub fn power_of_two_broken(settings: &Settings, ranges: &[Range]) -> bool {
+    settings.rule == 1 && ranges.iter().any(|range| !is_power_of_two(range.length))
+}
+
+/// Whether halving again and again, while that leaves no rest, ends at 1.
+fn is_power_of_two(number: u64) -> bool {
+    let mut rest = number;
+    while rest > 1 && rest % 2 == 0 {
+        rest /= 2;
+    }
+    rest == 1
+}
+
+/// Refusal 11: "more than 4,096 units" "in all of one controller's ranges".
+pub fn too_many_units(ranges: &[Range]) -> bool {
+    let mut total: u128 = 0;
+    for range in ranges {
+        total = total.saturating_add(u128::from(range.length));
+    }
+    total > MOST_UNITS
+}
+
+/// The counts of all controllers now tracked, together.
+pub fn counts_together(record: &Record) -> u128 {
+    let mut together: u128 = 0;
+    for (controller, _) in record.controllers.iter().zip(0..record.settings.number) {
+        if let Tracking::On { count, .. } = controller.tracking {
+            together = together.saturating_add(u128::from(count));
+        }
+    }
+    together
+}
+
+/// Refusal 12: "given exactly if the requested count plus the counts of all controllers now tracked is above the
+/// limit".
+pub fn limit_passed(record: &Record, requested: usize) -> bool {
+    counts_together(record).saturating_add(requested as u128) > u128::from(record.settings.limit)
+}
+
+/// Refusal 1, its first half: "A record is sound exactly if its settings would pass 16, each tracked controller's
+/// granularity and ranges would pass 7, 9, 10 and 11, and the counts together are within the limit. Unused places
+/// aren't looked at".
+pub fn sound(record: &Record) -> bool {
+    let settings = &record.settings;
+    if settings_broken(settings) {
+        return false;
+    }
+    for (controller, _) in record.controllers.iter().zip(0..settings.number) {
+        if let Tracking::On { granularity, count } = controller.tracking {
+            // Of rule 9 the part on the count: a count past the 16 places has no ranges to look at.
+            if count > MOST_RANGES as u64 {
+                return false;
+            }
+            let ranges = controller.used_ranges();
+            if granularity_broken(settings, granularity)
+                || range_rule_broken(granularity, &ranges)
+                || power_of_two_broken(settings, &ranges)
+                || too_many_units(&ranges)
+            {
+                return false;
+            }
+        }
+    }
+    counts_together(record) <= u128::from(settings.limit)
+}
+
+/// Refusal 14: "a written range ends past 2^64".
+pub fn write_ends_past_memory(address: u64, bytes: u64) -> bool {
+    u128::from(address) + u128::from(bytes) > END_OF_MEMORY
+}
+
+/// "A written range is an address and a length in bytes. It touches each unit with which it shares a byte. Length 0
+/// touches none."
+pub fn touches(address: u64, bytes: u64, unit_start: u128, unit_bytes: u128) -> bool {
+    if bytes == 0 {
+        return false;
+    }
+    let first_written = u128::from(address);
+    let last_written = first_written + u128::from(bytes) - 1;
+    let first_of_unit = unit_start;
+    let last_of_unit = unit_start + unit_bytes - 1;
+    first_written <= last_of_unit && first_of_unit <= last_written
+}
+
+#[cfg(test)]
+mod tests {
+    use super::*;
+
+    /// Manager 1, granularities 0 to 8, rule off, limit 16, controllers 5 and 6, nobody tracked.
+    fn record() -> Record {
+        let mut record = Record::default();
+        record.settings = Settings {
+            manager: 1,
+            least: 0,
+            greatest: 8,
+            rule: 0,
+            limit: 16,
+            number: 2,
+            identifiers: [5, 6, 0, 0, 0, 0, 0, 0],
+        };
+        record
+    }
+
+    fn on(granularity: u64, count: u64) -> Tracking {
+        Tracking::On { granularity, count }
+    }
+
+    fn range(start: u64, length: u64) -> Range {
+        Range { start, length }
+    }
+
+    /// The record above, with controller 5 tracked at `granularity` with these ranges.
+    fn tracked(granularity: u64, ranges: &[Range]) -> Record {
+        let mut record = record();
+        record.controllers[0].tracking = on(granularity, ranges.len() as u64);
+        for (place, range) in record.controllers[0].ranges.iter_mut().zip(ranges) {
+            *place = *range;
+        }
+        record
+    }
+
+    #[test]
+    fn units_of_each_granularity() {
+        assert_eq!(unit_bytes(0), 4096);
+        assert_eq!(unit_bytes(1), 8192);
+        assert_eq!(unit_bytes(8), 1048576);
+        assert_eq!(unit_bytes(20), 4294967296);
+        assert_eq!(unit_bytes(115), 1 << 127);
+        assert_eq!(unit_bytes(255), u128::MAX);
+        assert_eq!(unit_bytes(u64::MAX), u128::MAX);
+    }
+
+    #[test]
+    fn powers_of_two() {
+        for power in [1, 2, 4, 8, 1024, 4096, 1 << 31, 1 << 63].iter() {
+            assert!(is_power_of_two(*power), "{}", power);
+        }
+        for other in [0, 3, 5, 6, 7, 12, 4095, 4097, 4294967295, u64::MAX].iter() {
+            assert!(!is_power_of_two(*other), "{}", other);
+        }
+    }
+
+    #[test]
+    fn touching() {
+        // The unit from 69632 to 73727.
+        let unit = |address, bytes| touches(address, bytes, 69632, 4096);
+        assert!(unit(69632, 1));
+        assert!(unit(73727, 1));
+        assert!(unit(73727, 2));
+        assert!(unit(0, 18446744073709551615));
+        assert!(unit(69631, 2));
+        assert!(!unit(69631, 1));
+        assert!(!unit(73728, 1));
+        assert!(!unit(69632, 0));
+        assert!(!unit(70000, 0));
+        // The last page.
+        assert!(touches(18446744073709551615, 1, 18446744073709547520, 4096));
+        assert!(!touches(18446744073709547519, 1, 18446744073709547520, 4096));
+    }
+
+    #[test]
+    fn closed_device_is_unsound() {
+        assert!(!sound(&Record::default()));
+    }
+
+    #[test]
+    fn idle_device_is_sound() {
+        assert!(sound(&record()));
+    }
+
+    #[test]
+    fn number_of_identifiers() {
+        for number in [0, 9, 10, 255, u64::MAX].iter() {
+            let mut record = record();
+            record.settings.identifiers = [5, 6, 7, 8, 9, 10, 11, 12];
+            record.settings.number = *number;
+            assert!(!sound(&record), "{}", number);
+        }
+        for number in 1..=8 {
+            let mut record = record();
+            record.settings.identifiers = [5, 6, 7, 8, 9, 10, 11, 12];
+            record.settings.number = number;
+            assert!(sound(&record), "{}", number);
+        }
+    }
+
+    #[test]
+    fn identifiers_all_different() {
+        let mut record = record();
+        record.settings.identifiers = [5, 6, 5, 0, 0, 0, 0, 0];
+        assert!(sound(&record), "the third place is unused");
+        record.settings.number = 3;
+        assert!(!sound(&record));
+        record.settings.identifiers[2] = 6;
+        assert!(!sound(&record));
+        record.settings.identifiers[2] = 0;
+        assert!(sound(&record));
+        record.settings.number = 4;
+        assert!(!sound(&record), "0 twice");
+    }
+
+    #[test]
+    fn manager_not_among_them() {
+        let mut record = record();
+        record.settings.manager = 5;
+        assert!(!sound(&record));
+        record.settings.manager = 6;
+        assert!(!sound(&record));
+        record.settings.manager = 0;
+        assert!(sound(&record), "0 stands in unused places only");
+        record.settings.number = 3;
+        assert!(!sound(&record));
+    }
+
+    #[test]
+    fn identifiers_of_16_bits() {
+        let mut record = record();
+        record.settings.identifiers[1] = 65535;
+        assert!(sound(&record));
+        record.settings.identifiers[1] = 65536;
+        assert!(!sound(&record));
+        record.settings.identifiers[1] = 6;
+        record.settings.identifiers[2] = 65536;
+        assert!(sound(&record), "the third place is unused");
+        record.settings.manager = 65535;
+        assert!(sound(&record));
+        record.settings.manager = 65536;
+        assert!(!sound(&record));
+    }
+
+    #[test]
+    fn granularities_of_the_settings() {
+        let with = |least, greatest| {
+            let mut record = record();
+            record.settings.least = least;
+            record.settings.greatest = greatest;
+            sound(&record)
+        };
+        assert!(with(0, 0));
+        assert!(with(0, 20));
+        assert!(with(20, 20));
+        assert!(!with(1, 0));
+        assert!(!with(20, 19));
+        assert!(!with(0, 21));
+        assert!(!with(21, 21));
+        assert!(!with(0, 255));
+        assert!(!with(255, 0));
+        assert!(!with(0, u64::MAX));
+    }
+
+    #[test]
+    fn rule_and_limit() {
+        let mut record = record();
+        record.settings.rule = 1;
+        assert!(sound(&record));
+        record.settings.rule = 2;
+        assert!(!sound(&record));
+        record.settings.rule = 0;
+        record.settings.limit = 0;
+        assert!(sound(&record));
+        record.settings.limit = 128;
+        assert!(sound(&record));
+        record.settings.limit = 129;
+        assert!(!sound(&record));
+        record.settings.limit = u64::MAX;
+        assert!(!sound(&record));
+    }
+
+    #[test]
+    fn tracked_controllers_granularity() {
+        assert!(sound(&tracked(0, &[range(65536, 4)])));
+        assert!(sound(&tracked(8, &[range(1048576, 4)])));
+        assert!(!sound(&tracked(9, &[range(0, 4)])));
+        assert!(!sound(&tracked(255, &[range(0, 4)])));
+        assert!(!sound(&tracked(u64::MAX, &[range(0, 4)])));
+        let mut record = tracked(3, &[range(0, 4)]);
+        record.settings.least = 3;
+        assert!(sound(&record));
+        record.settings.least = 4;
+        assert!(!sound(&record));
+    }
+
+    #[test]
+    fn tracked_controllers_count() {
+        assert!(!sound(&tracked(0, &[])), "a tracked controller has at least one range");
+        let mut sixteen = Vec::new();
+        for row in 0..16 {
+            sixteen.push(range(row * 4096, 1));
+        }
+        assert!(sound(&tracked(0, &sixteen)));
+        for count in [17, 18, 255, 65536, u64::MAX].iter() {
+            let mut record = tracked(0, &sixteen);
+            record.settings.limit = 128;
+            assert!(sound(&record));
+            record.controllers[0].tracking = on(0, *count);
+            assert!(!sound(&record), "{}", count);
+        }
+    }
+
+    #[test]
+    fn tracked_controllers_ranges() {
+        // lengths
+        assert!(!sound(&tracked(0, &[range(65536, 0)])));
+        assert!(!sound(&tracked(0, &[range(65536, 4), range(0, 0)])));
+        // multiples of the unit
+        assert!(!sound(&tracked(0, &[range(65537, 4)])));
+        assert!(!sound(&tracked(0, &[range(4095, 1)])));
+        assert!(!sound(&tracked(8, &[range(1052672, 4)])));
+        // the end of memory
+        assert!(sound(&tracked(0, &[range(18446744073709547520, 1)])));
+        assert!(!sound(&tracked(0, &[range(18446744073709547520, 2)])));
+        assert!(!sound(&tracked(0, &[range(0, u64::MAX)])));
+        assert!(!sound(&tracked(8, &[range(18446744073708503040, u64::MAX)])));
+        // sharing
+        assert!(sound(&tracked(0, &[range(65536, 4), range(81920, 4)])));
+        assert!(sound(&tracked(0, &[range(81920, 4), range(65536, 4)])));
+        assert!(!sound(&tracked(0, &[range(65536, 5), range(81920, 4)])));
+        assert!(!sound(&tracked(0, &[range(81920, 4), range(65536, 5)])));
+        assert!(!sound(&tracked(0, &[range(65536, 4), range(0, 1), range(65536, 4)])));
+    }
+
+    #[test]
+    fn tracked_controllers_lengths() {
+        // 10
+        let mut record = tracked(0, &[range(65536, 4), range(0, 3)]);
+        assert!(sound(&record));
+        record.settings.rule = 1;
+        assert!(!sound(&record));
+        record.controllers[0].ranges[1].length = 2;
+        assert!(sound(&record));
+        // 11
+        assert!(sound(&tracked(0, &[range(0, 4096)])));
+        assert!(!sound(&tracked(0, &[range(0, 4097)])));
+        assert!(sound(&tracked(0, &[range(0, 4095), range(16777216, 1)])));
+        assert!(!sound(&tracked(0, &[range(0, 4095), range(16777216, 2)])));
+    }
+
+    #[test]
+    fn counts_within_the_limit() {
+        let mut record = tracked(0, &[range(0, 1), range(4096, 1), range(8192, 1)]);
+        record.controllers[1].tracking = on(8, 2);
+        record.controllers[1].ranges[0] = range(0, 1);
+        record.controllers[1].ranges[1] = range(1048576, 1);
+        record.settings.limit = 5;
+        assert!(sound(&record), "two controllers may track the same memory");
+        record.settings.limit = 4;
+        assert!(!sound(&record));
+        record.controllers[1].tracking = Tracking::Off;
+        assert!(sound(&record));
+        record.settings.limit = 2;
+        assert!(!sound(&record));
+    }
+
+    #[test]
+    fn unused_places_are_not_looked_at() {
+        let mut record = tracked(0, &[range(65536, 4)]);
+        record.settings.limit = 1;
+        record.settings.identifiers = [5, 6, 5, 6, 1, 1, u64::MAX, 70000];
+        for row in 1..16 {
+            record.controllers[0].ranges[row] = range(u64::MAX, u64::MAX);
+        }
+        for row in 0..16 {
+            record.controllers[1].ranges[row] = range(1, 0);
+        }
+        for place in 2..8 {
+            record.controllers[place].tracking = on(u64::MAX, u64::MAX);
+            record.controllers[place].suspended = true;
+            record.controllers[place].ranges[0] = range(3, 0);
+        }
+        assert!(sound(&record));
+        // The suspended flag has nothing to do with soundness.
+        record.controllers[0].suspended = true;
+        record.controllers[1].suspended = true;
+        assert!(sound(&record));
+        // Each of these places counts once it is used.
+        let mut more = record.clone();
+        more.controllers[0].tracking = on(0, 2);
+        more.settings.limit = 128;
+        assert!(!sound(&more));
+        let mut more = record.clone();
+        more.controllers[1].tracking = on(0, 1);
+        more.settings.limit = 128;
+        assert!(!sound(&more));
+        let mut more = record.clone();
+        more.settings.identifiers[2] = 7;
+        more.settings.number = 3;
+        more.settings.limit = 128;
+        assert!(!sound(&more));
+    }
+
+    #[test]
+    fn full_device_is_sound() {
+        let mut record = record();
+        record.settings.number = 8;
+        record.settings.identifiers = [65535, 0, 2, 3, 4, 5, 6, 7];
+        record.settings.greatest = 20;
+        record.settings.limit = 128;
+        record.settings.rule = 1;
+        for controller in record.controllers.iter_mut() {
+            controller.tracking = on(20, 16);
+            for (row, range) in controller.ranges.iter_mut().enumerate() {
+                // 256 units of 2^32 bytes are 2^40 bytes.
+                *range = Range { start: row as u64 * 1099511627776, length: 256 };
+            }
+        }
+        assert!(sound(&record));
+        record.settings.limit = 127;
+        assert!(!sound(&record));
+        record.settings.limit = 128;
+        record.controllers[7].ranges[15].length = 512;
+        assert!(!sound(&record), "4,352 units");
+    }
+
+    #[test]
+    fn nonsense_everywhere() {
+        let mut record = Record::default();
+        record.settings = Settings {
+            manager: u64::MAX,
+            least: u64::MAX,
+            greatest: u64::MAX,
+            rule: u64::MAX,
+            limit: u64::MAX,
+            number: u64::MAX,
+            identifiers: [u64::MAX; 8],
+        };
+        for controller in record.controllers.iter_mut() {
+            controller.tracking = on(u64::MAX, u64::MAX);
+            controller.ranges = [range(u64::MAX, u64::MAX); 16];
+        }
+        assert!(!sound(&record));
+        // The rules one by one have an answer for any numbers too.
+        assert!(range_rule_broken(u64::MAX, &[range(0, 1)]));
+        assert!(range_rule_broken(u64::MAX, &[range(u64::MAX, u64::MAX)]));
+        assert!(too_many_units(&[range(0, u64::MAX); 16]));
+        assert!(limit_passed(&record, usize::MAX));
+    }
+}

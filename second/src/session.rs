@@ -1,0 +1,90 @@
+//! A session: one device, and an answer to each line (document 01, "Session listing").
+
+use crate::device::Device;
+use crate::lines::Cut;
+use crate::listing::{parse, Line};
+use crate::report::read_report;
+use crate::rules::Refusal;
+use crate::structure::structure_bytes;
+
+/// What lies in a `recv` line's buffer before the call; no answer may depend on it.
+const STALE: u8 = 0xA5;
+
+/// "Before a done `dev`, calls answer 1": the session begins with the closed device.
+#[derive(Clone, Debug, Default, PartialEq, Eq)]
+pub struct Session {
+    device: Device,
+}
+
+impl Session {
+    /// The whole answer to a line, with its line feeds. "Any other line answers `bad`."
+    pub fn answer(&mut self, cut: &Cut) -> String {
+        let line = match cut {
+            Cut::TooLong => None,
+            Cut::Line(bytes) => parse(bytes),
+        };
+        match line {
+            None => "bad\n".to_string(),
+            Some(line) => match self.play(&line) {
+                Ok(answer) => answer,
+                Err(refusal) => format!("{}\n", refusal),
+            },
+        }
+    }
+
+    /// "Each answers one line: the number, and after a done write its count. A report adds four named numbers and a
+    /// line a descriptor."
+    fn play(&mut self, line: &Line) -> Result<String, Refusal> {
+        match line {
+            // "a refused `dev` keeps the device there was"
+            Line::Dev(settings) => {
+                self.device = Device::fresh(settings)?;
+            }
+            Line::Start { id, granularity, ranges } => {
+                self.device.start(*id, &structure_bytes(*granularity, ranges))?;
+            }
+            Line::Stop { id } => self.device.stop(*id)?,
+            Line::Write { id, address, bytes } => {
+                let count = self.device.write(*id, *address, *bytes)?;
+                return Ok(format!("0 {}\n", count));
+            }
+            Line::Recv { id, buffer } => {
+                // At most 4096 bytes: a line with more is bad.
+                let mut bytes = vec![STALE; *buffer as usize];
+                self.device.receive(*id, &mut bytes)?;
+                return Ok(report_lines(&bytes));
+            }
+            Line::Susp { id, kind } => self.device.suspend(*id, *kind)?,
+            Line::Resume { id } => self.device.resume(*id)?,
+        }
+        Ok("0\n".to_string())
+    }
+}
+
+/// A done report's lines, read from its bytes.
+fn report_lines(buffer: &[u8]) -> String {
+    let report = match read_report(buffer) {
+        Some(report) => report,
+        // Cannot be; and were it so, a comparison with another program would show it.
+        None => return "unreadable report\n".to_string(),
+    };
+    let mut lines = format!(
+        "0 susp {} more {} gran {} runs {}\n",
+        bit(report.suspended),
+        bit(report.more),
+        report.granularity,
+        report.descriptors.len()
+    );
+    for descriptor in &report.descriptors {
+        lines.push_str(&format!("{} {}\n", descriptor.address, descriptor.length));
+    }
+    lines
+}
+
+fn bit(value: bool) -> u8 {
+    if value {
+        1
+    } else {
+        0
+    }
+}

@@ -1,0 +1,185 @@
+"""Edges of the sizes in document 01, with answers by small formulas that stand beside each listing."""
+
+from case import Case, said
+
+END = 2 ** 64
+LAST_PAGE = END - 4096
+
+
+def cases():
+    yield from each_granularity()
+    yield from last_unit_of_memory()
+    yield from lengths()
+    yield from each_buffer()
+    yield many_runs()
+    yield every_controller_full()
+    yield from limits()
+    yield marks_at_word_edges()
+
+
+def case(name, rows):
+    """A case from rows of a line and its answer lines."""
+    return Case(name, said(*(row[0] for row in rows)), said(*(answer for row in rows for answer in row[1:])))
+
+
+def report(granularity, runs, more=0, suspended=0):
+    """The answer lines of a report: runs are (address, length in units)."""
+    head = f"0 susp {suspended} more {more} gran {granularity} runs {len(runs)}"
+    return [head, *(f"{address} {length}" for address, length in runs)]
+
+
+def each_granularity():
+    """At each of the 21 granularities: the unit's first and last byte, and a write over an edge of two units."""
+    for n in range(21):
+        unit = 2 ** (12 + n)
+        start = 16 * unit
+        yield case(f"edges of a unit at granularity {n}", [
+            ("dev 1 0 20 0 16 5 6", "0"),
+            (f"start 5 {n} {start} 4", "0"),
+            (f"write 5 {start - 1} 1", "0 0"),
+            (f"write 5 {start} 1", "0 1"),
+            (f"write 5 {start + unit - 1} 1", "0 0"),
+            (f"write 5 {start + unit - 1} 2", "0 1"),
+            (f"write 5 {start + 4 * unit - 1} 1", "0 1"),
+            (f"write 5 {start + 4 * unit} 1", "0 0"),
+            ("recv 5 64", *report(n, [(start, 2), (start + 3 * unit, 1)])),
+            (f"write 5 {start - 1} {4 * unit + 2}", "0 4"),
+            ("recv 5 64", *report(n, [(start, 4)])),
+            (f"start 6 {n} {start + unit // 2} 1", "9"),
+            (f"start 6 {n} {start + 1} 1", "9"),
+        ])
+
+
+def last_unit_of_memory():
+    """The last unit ends at 2^64 exactly, at each granularity."""
+    for n in (0, 1, 8, 19, 20):
+        unit = 2 ** (12 + n)
+        yield case(f"last unit of memory at granularity {n}", [
+            ("dev 1 0 20 0 16 5 6", "0"),
+            (f"start 5 {n} {END - unit} 1 0 1", "0"),
+            (f"start 6 {n} {END - unit} 2", "9"),
+            (f"write 5 {END - unit - 1} 1", "0 0"),
+            (f"write 5 {END - unit - 1} 2", "0 1"),
+            (f"write 5 {END - 1} 1", "0 0"),
+            (f"write 5 {END - 1} 2", "14"),
+            (f"write 5 {END - unit} {unit}", "0 0"),
+            (f"write 5 {END - unit} {unit + 1}", "14"),
+            ("recv 5 64", *report(n, [(END - unit, 1)])),
+            (f"write 5 {END - 1} 1", "0 1"),
+            ("write 5 0 1", "0 1"),
+            ("recv 5 64", *report(n, [(END - unit, 1), (0, 1)])),
+        ])
+    yield case("4,096 units that end at 2^64", [
+        ("dev 1 0 20 0 16 5", "0"),
+        (f"start 5 0 {END - 4096 * 4096} 4096", "0"),
+        (f"write 5 {LAST_PAGE - 1} 1", "0 1"),
+        (f"write 5 {END - 1} 1", "0 1"),
+        (f"write 5 {END - 4096 * 4096} 1", "0 1"),
+        ("recv 5 64", *report(0, [(END - 4096 * 4096, 1), (LAST_PAGE - 4096, 2)])),
+    ])
+
+
+def lengths():
+    """0, 1, 4,096 and 4,097 units at granularities 0, 8 and 20."""
+    for n in (0, 8, 20):
+        unit = 2 ** (12 + n)
+        yield case(f"lengths in units at granularity {n}", [
+            ("dev 1 0 20 0 16 5", "0"),
+            (f"start 5 {n} {unit} 0", "9"),
+            (f"start 5 {n} {unit} 4097", "11"),
+            (f"start 5 {n} {unit} 4096 0 1", "11"),
+            (f"start 5 {n} {unit} 1", "0"),
+            (f"write 5 0 {END - 1}", "0 1"),
+            ("recv 5 32", *report(n, [(unit, 1)])),
+            ("stop 5", "0"),
+            (f"start 5 {n} {unit} 4096", "0"),
+            (f"write 5 {2 * unit} {unit}", "0 1"),
+            (f"write 5 {4096 * unit} 1", "0 1"),
+            (f"write 5 {4097 * unit} 1", "0 0"),
+            ("recv 5 64", *report(n, [(2 * unit, 1), (4096 * unit, 1)])),
+            (f"write 5 0 {END - 1}", "0 4096"),
+            ("recv 5 32", *report(n, [(unit, 4096)])),
+            ("stop 5", "0"),
+            (f"start 5 {n} 0 1 {unit} 4095", "0"),
+            (f"write 5 0 {END - 1}", "0 4096"),
+            ("recv 5 64", *report(n, [(0, 1), (unit, 4095)])),
+        ])
+
+
+def each_buffer():
+    """Buffers of 0 to 64 bytes with five runs pending, and with none: below 32 refusal 8, then (b - 16) / 16 runs."""
+    runs = [(65536 + 8192 * i, 1) for i in range(5)]
+    for b in range(65):
+        room = (b - 16) // 16
+        rows = [("dev 1 0 8 0 16 5 6", "0"), ("start 5 0 65536 16", "0"), ("start 6 0 65536 16", "0")]
+        rows += [(f"write 5 {address} 1", "0 1") for address, _ in runs]
+        if b < 32:
+            rows += [(f"recv 5 {b}", "8"), (f"recv 6 {b}", "8"), ("recv 5 4096", *report(0, runs))]
+        else:
+            rows += [(f"recv 5 {b}", *report(0, runs[:room], more=1)), (f"recv 6 {b}", *report(0, []))]
+            rows += [("recv 5 4096", *report(0, runs[room:]))]
+        yield case(f"buffer of {b} bytes", rows)
+
+
+def many_runs():
+    """2,048 runs, every other unit of 4,096: 255 fit 4,096 bytes, 254 fit 4,095 bytes."""
+    runs = [(8192 * i, 1) for i in range(2048)]
+    rows = [("dev 1 0 8 0 16 5", "0"), ("start 5 0 0 4096", "0")]
+    rows += [(f"write 5 {address} 1", "0 1") for address, _ in runs]
+    for b in (4095, 4096, 4096, 4096, 4096, 4096, 4096, 4096, 4096, 4096):
+        room = (b - 16) // 16
+        rows.append((f"recv 5 {b}", *report(0, runs[:room], more=1 if len(runs) > room else 0)))
+        runs = runs[room:]
+    return case("2,048 runs in reports of at most 4,096 bytes", rows)
+
+
+def every_controller_full():
+    """All 8 controllers with 16 ranges of 256 units at limit 128; granularities 0 to 7, lists from the top downwards."""
+    identifiers = [5, 6, 7, 8, 9, 10, 65534, 65535]
+    rows = [("dev 1 0 8 1 128 " + " ".join(map(str, identifiers)), "0")]
+    lists = {}
+    for n, identifier in enumerate(identifiers):
+        size = 256 * 2 ** (12 + n)
+        lists[identifier] = [(size * (40 - 2 * row), 256) for row in range(16)]
+        pairs = " ".join(f"{address} {length}" for address, length in lists[identifier])
+        rows.append((f"start {identifier} {n} {pairs}", "0"))
+    for identifier in identifiers:
+        rows.append((f"write {identifier} 0 {END - 1}", "0 4096"))
+    for n, identifier in enumerate(identifiers):
+        rows.append((f"recv {identifier} 271", *report(n, lists[identifier][:15], more=1)))
+    for n, identifier in enumerate(identifiers):
+        rows.append((f"susp {identifier} 1", "0"))
+        rows.append((f"recv {identifier} 272", *report(n, lists[identifier][15:], suspended=1)))
+        rows.append((f"recv {identifier} 272", *report(n, [], suspended=1)))
+    return case("all 8 controllers with 16 ranges", rows)
+
+
+def limits():
+    """The eighth controller's 16 ranges pass a limit of 127 and not one of 128."""
+    pairs = " ".join(f"{8192 * row} 1" for row in range(16))
+    fewer = " ".join(f"{8192 * row} 1" for row in range(15))
+    for limit, answer in ((128, "0"), (127, "12")):
+        rows = [(f"dev 1 0 8 0 {limit} 5 6 7 8 9 10 11 12", "0")]
+        rows += [(f"start {identifier} 0 {pairs}", "0") for identifier in range(5, 12)]
+        rows += [(f"start 12 0 {pairs}", answer)]
+        rows += [(f"start 12 0 {fewer}", "3" if answer == "0" else "0")]
+        rows += [("stop 8", "0"), (f"start 8 0 {pairs}", "0")]
+        yield case(f"limit {limit} and 8 controllers", rows)
+    rows = [("dev 1 0 8 0 0 5", "0"), ("start 5 0 0 1", "12"), (f"start 5 0 {pairs}", "12"), ("start 5 0", "9")]
+    yield case("limit 0", rows)
+
+
+def marks_at_word_edges():
+    """Runs that end, begin and cross at every 64th unit, in ranges that don't begin there."""
+    rows = [("dev 1 0 8 0 16 5 6", "0"), ("start 5 0 0 63 1048576 130 4194304 3900", "0"), ("start 6 0 0 64", "0")]
+    rows += [("write 5 0 4294967296", "0 4093")]
+    rows += [("recv 6 64", *report(0, []))]
+    rows += [("recv 5 64", *report(0, [(0, 63), (1048576, 130), (4194304, 3900)]))]
+    for unit in (62, 63, 64, 65, 127, 128, 129):
+        rows.append((f"write 5 {1048576 + 4096 * unit} 1", "0 1"))
+    rows += [("recv 5 64", *report(0, [(1048576 + 4096 * 62, 4), (1048576 + 4096 * 127, 3)]))]
+    for unit in (0, 2, 3, 3899):
+        rows.append((f"write 5 {4194304 + 4096 * unit} 1", "0 1"))
+    rows += [("recv 5 32", *report(0, [(4194304, 1)], more=1))]
+    rows += [("recv 5 4096", *report(0, [(4194304 + 8192, 2), (4194304 + 4096 * 3899, 1)]))]
+    return case("marks at the edges of words", rows)

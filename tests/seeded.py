@@ -1,0 +1,251 @@
+"""Sessions from a seed, aimed where errors live: edges of ranges and units, small buffers, limits that are hit.
+
+The maker keeps a guess of how the session stands, good enough to aim and not good enough to answer: the answers come from
+the two programs alone. Session K of seed N is always the same.
+"""
+
+import random
+
+from case import Case
+from damaged import damage
+
+END = 2 ** 64
+
+
+def cases(seed, count):
+    return [Case(f"seed {seed}, session {number}", session(seed, number)) for number in range(count)]
+
+
+def session(seed, number):
+    dice = random.Random(f"{seed}/{number}")
+    maker = Maker(dice)
+    lines = [maker.dev()]
+    length = dice.choice([6, 12, 20, 30, 45])
+    while len(lines) < length:
+        for line in maker.next_lines():
+            lines.append(damage(dice, line) if dice.random() < maker.damaged else line)
+    return lines
+
+
+class Maker:
+    def __init__(self, dice):
+        self.dice = dice
+        self.tracked = {}       # guess: identifier -> (granularity, ranges)
+        self.suspended = set()  # guess
+        self.written = set()    # guess: identifiers with pending units
+        self.damaged = dice.choice([0, 0, 0.02, 0.02, 0.3])
+        self.big = dice.random() < 0.15      # ranges of about 4,096 units in all
+        self.small_buffers = dice.random() < 0.6
+
+    # ---- the device
+
+    def dev(self):
+        """Settings that are done, so that a session never depends on the one before."""
+        dice = self.dice
+        names = dice.sample([0, 1, 2, 3, 5, 6, 7, 255, 256, 257, 4096, 32768, 65534, 65535], 9)
+        self.manager, self.identifiers = names[0], names[1:1 + dice.choice([1, 2, 2, 3, 3, 5, 8])]
+        self.least, self.greatest = dice.choice([(0, 0), (0, 8), (0, 8), (0, 20), (0, 20), (8, 8), (20, 20), (3, 12)])
+        self.rule = dice.choice([0, 0, 0, 1])
+        self.limit = dice.choice([dice.choice([0, 1, 2, 3, 8]), 16, 16, 33, 64, 127, 128, 128, 128, 128])
+        self.tracked, self.suspended, self.written = {}, set(), set()
+        return self.words("dev", self.manager, self.least, self.greatest, self.rule, self.limit, *self.identifiers)
+
+    def refused_dev(self):
+        """One of the settings' rules broken; the device there was goes on."""
+        manager, least, greatest, limit, names = self.manager, self.least, self.greatest, self.limit, self.identifiers
+        broken = self.dice.randrange(6)
+        if broken == 0:
+            names = []
+        if broken == 1:
+            names = names[:7] + [names[0]]
+        if broken == 2:
+            names = names[:7] + [manager]
+        if broken == 3:
+            least = greatest + 1
+        if broken == 4:
+            greatest = self.dice.choice([21, 22, 255])
+        if broken == 5:
+            limit = self.dice.choice([129, 255, 256, 65535])
+        return self.words("dev", manager, least, greatest, self.rule, limit, *names)
+
+    # ---- lines
+
+    def next_lines(self):
+        kinds = [(self.write, 20), (self.burst, 14), (self.recv, 3), (self.drain, 1), (self.start, 4), (self.stop, 3),
+                 (self.susp, 4), (self.resume, 3), (self.refused_dev, 1), (self.dev, 1)]
+        if not self.tracked:
+            kinds = [(self.start, 70), (self.write, 3), (self.recv, 2), (self.susp, 2), (self.resume, 2), (self.dev, 3)]
+        elif len(self.tracked) < len(self.identifiers):
+            kinds.append((self.start, 12))
+        if self.written:
+            kinds += [(self.recv, 24), (self.drain, 6)]
+        if self.suspended:
+            kinds.append((self.resume, 12))
+        made = self.dice.choices([kind for kind, _ in kinds], [weight for _, weight in kinds])[0]()
+        return made if isinstance(made, list) else [made]
+
+    def words(self, *words):
+        return " ".join(map(str, words)).encode()
+
+    def identifier(self, wanted=()):
+        """One that is wanted, or any of the settings, rarely the manager's or a neighbour's."""
+        luck = self.dice.random()
+        if luck < 0.02:
+            return self.manager
+        if luck < 0.04:
+            return (self.dice.choice(self.identifiers) + self.dice.choice([-1, 1])) % 65536
+        wanted = [one for one in self.identifiers if one in wanted]
+        return self.dice.choice(wanted if wanted and luck < 0.93 else self.identifiers)
+
+    def stop(self):
+        identifier = self.identifier(set(self.tracked) - self.suspended)
+        if identifier not in self.suspended:
+            self.tracked.pop(identifier, None)
+        return self.words("stop", identifier)
+
+    def susp(self):
+        identifier, kind = self.identifier(self.tracked), self.dice.choice([1, 1, 1, 1, 0, 0, 2, 255])
+        if kind == 1:
+            self.suspended.add(identifier)
+        return self.words("susp", identifier, kind)
+
+    def resume(self):
+        identifier = self.identifier(self.suspended)
+        self.suspended.discard(identifier)
+        return self.words("resume", identifier)
+
+    def recv(self):
+        small = [16, 31, 32, 32, 33, 47, 47, 48, 48, 63, 64, 79, 80, self.dice.randrange(65)]
+        large = [128, 271, 272, 1024, 4095, 4096, 4096, self.dice.randrange(4097)]
+        buffer = self.dice.choice(small if self.small_buffers or self.dice.random() < 0.5 else large)
+        identifier = self.identifier(self.written & set(self.tracked) or self.tracked)
+        if buffer >= 64 or self.dice.random() < 0.3:
+            self.written.discard(identifier)
+        return self.words("recv", identifier, buffer)
+
+    # ---- start
+
+    def start(self):
+        identifier = self.identifier([one for one in self.identifiers if one not in self.tracked])
+        granularity = self.granularity()
+        ranges = self.ranges(2 ** (12 + min(granularity, 20)))
+        spoiled = self.dice.random() < 0.15
+        if spoiled:
+            granularity, ranges = self.spoil(granularity, ranges)
+        if not spoiled and self.likely(identifier, granularity, ranges):
+            self.tracked[identifier] = (granularity, ranges)
+        return self.words("start", identifier, granularity, *(number for one in ranges for number in one))
+
+    def likely(self, identifier, granularity, ranges):
+        """Whether the start will be done, as far as the maker can tell."""
+        unit = 2 ** (12 + min(granularity, 20))
+        counts = len(ranges) + sum(len(others) for _, others in self.tracked.values())
+        return (identifier in self.identifiers and identifier not in self.tracked and identifier not in self.suspended
+                and self.least <= granularity <= self.greatest and counts <= self.limit
+                and sum(length for _, length in ranges) <= 4096
+                and all(address + unit * length <= END for address, length in ranges))
+
+    def granularity(self):
+        if self.dice.random() < 0.03:
+            return self.dice.choice([0, max(0, self.least - 1), self.greatest + 1, 21, 255])
+        return self.dice.choice([self.least, self.greatest, self.dice.randint(self.least, self.greatest)])
+
+    def ranges(self, unit):
+        """Rows with small gaps or none, often not in the order of their addresses."""
+        lengths = [self.length() for _ in range(self.dice.choice([1, 1, 2, 2, 3, 4, 6, 16]))]
+        if self.dice.random() < 0.8:
+            lengths = lengths[:max(1, self.limit // 2)]
+        if self.big:
+            lengths[-1] = max(1, 4096 - sum(lengths[:-1]) + self.dice.choice([-1, 0, 0, 0, 1]))
+        rows, at = [], 0
+        for length in lengths:
+            at += self.dice.choice([0, 0, 0, 1, 1, 2, 63, 64, 1000])
+            rows.append((at, length))
+            at += length
+        base = self.base(unit, at)
+        if self.dice.random() < 0.5:
+            self.dice.shuffle(rows)
+        return [(min(base + unit * row, END - unit), length) for row, length in rows]
+
+    def length(self):
+        if self.rule and self.dice.random() < 0.95:
+            return 2 ** self.dice.choice([0, 0, 1, 1, 2, 3, 5, 6, 7])
+        return self.dice.choice([1, 1, 1, 2, 2, 3, 4, 5, 6, 8, 12, 16, 31, 32, 33, 62, 63, 64, 65, 66, 127, 128, 129, 200])
+
+    def base(self, unit, units):
+        """Where the rows lie: at 0, about 2^32 and 2^63, anywhere, or so that they end at 2^64 or just past it."""
+        end = END // unit
+        places = [0, 1, 16, 2 ** 32 // unit, max(0, 2 ** 63 // unit - units // 2), end - units, end - units, end - units + 1,
+                  self.dice.randrange(end)]
+        return unit * max(0, min(self.dice.choice(places), end - 1))
+
+    def spoil(self, granularity, ranges):
+        """A start that breaks a rule, or whose line is damaged."""
+        dice, ranges = self.dice, list(ranges)
+        at = dice.randrange(len(ranges))
+        address, length = ranges[at]
+        unit = 2 ** (12 + min(granularity, 20))
+        kind = dice.randrange(7)
+        if kind == 0:
+            ranges = []
+        if kind == 1:
+            ranges[at] = (address, 0)
+        if kind == 2:
+            ranges[at] = ((address + dice.choice([1, 512, unit // 2, unit - 1])) % END, length)
+        if kind == 3:
+            ranges.append((min(END - 1, address + unit * dice.randrange(length)), dice.choice([1, 2, length])))
+        if kind == 4:
+            ranges.append((END - unit, dice.choice([1, 2, 2 ** 32 - 1])))
+        if kind == 5:
+            ranges[at] = (address, dice.choice([3, 4096, 4097, 65536, 2 ** 31, 2 ** 32 - 1]))
+        if kind == 6:
+            granularity = dice.choice([0, self.greatest + 1, 255])
+        return granularity, ranges
+
+    # ---- write
+
+    def write(self):
+        identifier = self.identifier(set(self.tracked) - self.suspended)
+        granularity, ranges = self.tracked.get(identifier, (self.least, [(65536, 4)]))
+        unit = 2 ** (12 + granularity)
+        start, length = self.dice.choice(ranges)
+        number = self.unit_of(length)
+        address = start + unit * number + self.dice.choice([0, 0, 0, 1, -1, unit - 1, unit // 2, self.dice.randrange(unit)])
+        address = max(0, min(address, END - 1))
+        self.written.add(identifier)
+        return self.words("write", identifier, address, self.bytes(unit, length - number, address))
+
+    def burst(self):
+        """Writes of a byte, each into another unit of one controller: many runs."""
+        identifier = self.identifier(set(self.tracked) - self.suspended)
+        granularity, ranges = self.tracked.get(identifier, (self.least, [(65536, 4)]))
+        unit, step = 2 ** (12 + granularity), self.dice.choice([1, 2, 2, 3, 16])
+        addresses = [start + unit * number for start, length in ranges for number in range(0, length, step)]
+        self.written.add(identifier)
+        chosen = self.dice.sample(addresses, min(len(addresses), self.dice.choice([2, 3, 5, 8, 12])))
+        return [self.words("write", identifier, address, self.dice.choice([1, 1, 1, 512, unit])) for address in chosen]
+
+    def drain(self):
+        """A suspended controller's reports, until More To Report may be clear."""
+        identifier = self.identifier(self.written & set(self.tracked) or self.tracked)
+        buffer = self.dice.choice([32, 32, 47, 48, 64, 100])
+        self.suspended.add(identifier)
+        self.written.discard(identifier)
+        reports = [self.words("recv", identifier, buffer)] * self.dice.choice([1, 1, 2, 3])
+        return [self.words("susp", identifier, 1), *reports]
+
+    def unit_of(self, length):
+        """A unit of a range: its ends, one beside them, the edges of words, or any."""
+        any_unit = self.dice.randrange(length)
+        return self.dice.choice([0, length - 1, length, -1, min(length, 63), min(length, 64), any_unit, any_unit, any_unit])
+
+    def bytes(self, unit, left, address):
+        """A length in bytes: mostly within a unit or two, or up to the range's end, rarely up to 2^64 or past it."""
+        luck = self.dice.random()
+        if luck < 0.03:
+            return min(END - 1, max(0, END - address + self.dice.choice([-1, 0, 1])))
+        if luck < 0.05:
+            return self.dice.choice([END - 1, 2 ** 63, self.dice.randrange(END)])
+        if luck < 0.15:
+            return max(0, unit * left + self.dice.choice([-1, 0, 1, unit]))
+        return self.dice.choice([0, 1, 1, 1, 1, 2, 2, 512, 4096, unit - 1, unit, unit + 1, 2 * unit, 3 * unit + 2])
