@@ -19,7 +19,7 @@ use Rattle.rules.specs.declared.Tracking.{Tracking}
 use Rattle.rules.specs.declared.Tracking.the-variants.{Off, On}
 use Rattle.rules.proofs.RefusalLaws.{verdict-has, verdict-map}
 use Rattle.record.specs.Record.{controllerAt}
-use Rattle.tracker.specs.Calls.{shareAt, freshChange, startDone, stopDone, flagDone, noteIn, writeDone, receiveIn, receiveDone}
+use Rattle.calls.specs.Calls.{shareAt, freshChange, startDone, stopDone, flagDone, noteIn, writeDone, receiveIn, receiveDone}
 use Rattle.demands.specs.Demands.{Answers}
 
 -- what a table's call answers: the first test's number, and refused what is had of every refusal

@@ -14,7 +14,7 @@ use Rattle.rules.specs.Device.{closedDevice, sound}
 use Rattle.rules.specs.Machine.{refused, Call, lent}
 use Rattle.rules.specs.declared.Settings.{Settings}
 use Rattle.record.specs.Record.{soundWith}
-use Rattle.tracker.specs.Calls.{freshChange, startChange, stopChange, writeNote, receiveReceipt, suspendChange, resumeChange}
+use Rattle.calls.specs.Calls.{freshChange, startChange, stopChange, writeNote, receiveReceipt, suspendChange, resumeChange}
 use Rattle.demands.specs.View.{Outcome, runAs, run}
 use Rattle.demands.specs.Sessions.{Left, outcome, leftAfter, endOf}
 use Rattle.demands.proofs.AnswerLaws.{fresh-answers}

@@ -16,7 +16,7 @@ use Rattle.bits.proofs.Flat.{flat-length}
 use Rattle.bits.proofs.Span.{fill-length, fill-at-in}
 use Rattle.bits.proofs.Share.{getShare-length, getShare-at, putShare-length, getShare-putShare, getShare-putShare-below, getShare-putShare-above, getShare-fill-below, getShare-fill-above}
 use Rattle.bits.proofs.Pack.{pack-length, flat-pack}
-use Rattle.tracker.specs.Calls.{shareAt, marksAt, withMarks, withClear}
+use Rattle.calls.specs.Calls.{shareAt, marksAt, withMarks, withClear}
 
 -- of two places one is first
 below-or-above : (C : Type 0) (j i : ℕ) → j ≢ i → (j < i → C) → (i < j → C) → C

@@ -38,8 +38,8 @@ use Rattle.rules.proofs.Isolation.{withSlot-slotAt}
 use Rattle.record.specs.Record.{soundWith, noController, controllerAt, withController, isOn, seenIn}
 use Rattle.record.proofs.RangeLaws.{listTests-numbers, listTests-facts}
 use Rattle.record.proofs.RecordLaws.{soundDevice-facts, soundDevice-held}
-use Rattle.tracker.specs.Calls.{shareAt, marksAt, withMarks, withClear, Change, changed, started, startDone, startChange, stopped, stopDone, stopChange, flagged, flagDone, suspendChange, resumeChange, Note, noted, noteIn, writeDone, writeNote, Receipt, received, receiveIn, receiveDone, receiveReceipt}
-use Rattle.tracker.specs.declared.Changed.{Changed}
+use Rattle.calls.specs.Calls.{shareAt, marksAt, withMarks, withClear, Change, changed, started, startDone, startChange, stopped, stopDone, stopChange, flagged, flagDone, suspendChange, resumeChange, Note, noted, noteIn, writeDone, writeNote, Receipt, received, receiveIn, receiveDone, receiveReceipt}
+use Rattle.calls.specs.declared.Changed.{Changed}
 use Rattle.demands.specs.View.{marksOf, slotOf, view, Outcome, answered, changes, flags, notes, receipts, runAs, run}
 use Rattle.demands.proofs.MarkLaws.{clear-length, clear-own, clear-other, put-length as marks-length, put-own, put-other}
 use Rattle.demands.proofs.ViewLaws.{Listed, Fits, slot-at, seen-same, placeOf-used, view-with}

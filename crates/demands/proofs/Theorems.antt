@@ -25,8 +25,8 @@ use Rattle.rules.proofs.Theorems as rules
 use Rattle.rules.specs.declared.Tracking.the-variants.{On}
 use Rattle.record.specs.Record.{soundWith, controllerAt, seenIn}
 use Rattle.bits.proofs.Share.{getShare-at}
-use Rattle.tracker.specs.Calls.{shareAt, withMarks, reportIn, freshChange, Change, changed, startDone, startChange, stopDone, stopChange, flagDone, suspendChange, resumeChange, Note, noted, writeDone, writeNote, Receipt, received, receiveDone, receiveReceipt}
-use Rattle.tracker.specs.declared.Changed.{Changed}
+use Rattle.calls.specs.Calls.{shareAt, withMarks, reportIn, freshChange, Change, changed, startDone, startChange, stopDone, stopChange, flagDone, suspendChange, resumeChange, Note, noted, writeDone, writeNote, Receipt, received, receiveDone, receiveReceipt}
+use Rattle.calls.specs.declared.Changed.{Changed}
 use Rattle.demands.specs.View.{view}
 use Rattle.demands.specs.Sessions.{begun, endOf, historyIn, bytesIn}
 use Rattle.demands.specs.Demands.{Demand1, Soundness, controllerOf, unitsOf, marksIn, Tracked, Demand2, Agree, Demand3}

@@ -23,7 +23,7 @@ use Rattle.rules.specs.declared.Device.{Device}
 use Rattle.rules.proofs.ListLaws.{All, All-take}
 use Rattle.rules.proofs.StateLaws.{placeOf-is}
 use Rattle.record.specs.Record.{soundWith, noController, withController, isOn, countsOf, seenIn}
-use Rattle.tracker.specs.Calls.{shareAt}
+use Rattle.calls.specs.Calls.{shareAt}
 use Rattle.demands.specs.View.{marksOf, slotOf, slotsFrom, view}
 
 -- ---- what holds of each record and its marks in a session

@@ -22,7 +22,7 @@ use Rattle.rules.specs.declared.Controller.{Controller}
 use Rattle.rules.specs.declared.Device.{Device}
 use Rattle.rules.specs.declared.Tracking.the-variants.{On}
 use Rattle.record.specs.Record.{controllerAt, seenIn}
-use Rattle.tracker.specs.Calls.{shareAt, marksAt, withMarks, freshChange, startChange, stopChange, suspendChange, resumeChange, noted, writeNote, reportIn, receiveReceipt}
+use Rattle.calls.specs.Calls.{shareAt, marksAt, withMarks, freshChange, startChange, stopChange, suspendChange, resumeChange, noted, writeNote, reportIn, receiveReceipt}
 use Rattle.demands.specs.View.{view}
 use Rattle.demands.specs.Sessions.{Left, outcome, endOf, historyIn, bytesIn}
 

@@ -7,7 +7,7 @@ use Rattle.rules.specs.Machine.{Call, Event}
 use Rattle.rules.specs.History.{Did, historyOf}
 use Rattle.rules.specs.declared.Settings.{Settings}
 use Rattle.rules.specs.declared.Device.{Device}
-use Rattle.tracker.specs.Calls.{freshChange}
+use Rattle.calls.specs.Calls.{freshChange}
 use Rattle.demands.specs.View.{Outcome, run}
 
 -- what a call leaves to the next

@@ -1,5 +1,9 @@
 // The types that the tracking core shares, in the forms that document 01 names. What the rules say of them stands in specs/.
 
+ghost use mathlib.Core.Path.{_≡_};
+ghost use lib.ListN.{replicate};
+ghost use Rattle.rules.specs.StartData.{noRange};
+
 // A length in units.
 pub struct Units(pub u64);
 
@@ -52,4 +56,14 @@ pub enum Header {
 pub struct StartData {
     pub header: Header,
     pub ranges: [Range; 16],
+}
+
+// No range: zeros in all places.
+pub fn no_ranges() -> [Range; 16]
+    ensures { λ r. ⌜ r ≡ replicate 16 noRange ⌝ }
+{
+    [Range {
+        start: 0,
+        length: 0,
+    }; 16]
 }

@@ -54,25 +54,15 @@ fn listed_ranges(s: &[u8], n: usize) -> [Range; 16]
     a
 }
 
-// No range: zeros in all places.
-fn none() -> [Range; 16]
-    ensures { λ r. ⌜ r ≡ replicate 16 noRange ⌝ }
-{
-    [Range {
-        start: 0,
-        length: 0,
-    }; 16]
-}
-
 // The first `count` ranges, with zeros in the places after them; none where `count` is over 16 or they are not wholly there.
 pub fn read_ranges(s: &[u8], count: usize) -> [Range; 16]
     ensures { λ r. ⌜ r ≡ rangesRead (now (s .entry)) count ⌝ }
 {
     if count > 16 {
-        return none();
+        return rules::no_ranges();
     }
     if s.len() < 8 + 12 * count {
-        return none();
+        return rules::no_ranges();
     }
     listed_ranges(s, count)
 }
@@ -81,7 +71,7 @@ pub fn read_ranges(s: &[u8], count: usize) -> [Range; 16]
 fn refused(header: Header) -> StartData
     ensures { λ r. ⌜ r ≡ record { header = header; ranges = replicate 16 noRange } ⌝ }
 {
-    let ranges = none();
+    let ranges = rules::no_ranges();
     StartData { header, ranges }
 }
 

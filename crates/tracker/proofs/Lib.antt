@@ -1,7 +1,1 @@
-pub mod FreshLaws
-pub mod Answers
-pub mod CallLaws
-pub mod WriteLaws
-pub mod ReceiveLaws
-pub mod StartedLaws
 pub mod Promise

@@ -2,13 +2,13 @@
 -- contract as the checker reads it off the source: of its arguments `a`, its result and what it was lent, at exit. Assumes nothing.
 use mathlib.Core.Path.{_≡_, sym, _∙_}
 use denote.Ref.{now}
-use Rattle.tracker.proofs.fresh.Reads as fresh
-use Rattle.tracker.proofs.start.Reads as start
-use Rattle.tracker.proofs.stop.Reads as stop
-use Rattle.tracker.proofs.write.Reads as write
-use Rattle.tracker.proofs.receive.Reads as receive
-use Rattle.tracker.proofs.suspend.Reads as suspend
-use Rattle.tracker.proofs.resume.Reads as resume
+use Rattle.fresh.proofs.fresh.Reads as fresh
+use Rattle.track_send.proofs.start.Reads as start
+use Rattle.track_send.proofs.stop.Reads as stop
+use Rattle.writes.proofs.write.Reads as write
+use Rattle.track_receive.proofs.receive.Reads as receive
+use Rattle.migration_send.proofs.suspend.Reads as suspend
+use Rattle.migration_send.proofs.resume.Reads as resume
 
 -- the answer, and every word of the marks
 pub fresh-determinate : (κs : _) (a : _) (r r′ : _) (e e′ : _) → fresh.Post κs a r e → fresh.Post κs a r′ e′ → (r ≡ r′) × (now (e .1 .0) ≡ now (e′ .1 .0))

@@ -7,11 +7,11 @@ use Rattle.start_data.proofs.Answers.{rangesRead-many, rangesRead-short
 use Rattle.start_data.proofs.read_ranges.Statement.{statement}
 use Rattle.start_data.proofs.read_ranges.Tie as tie
 
-none-requires : tie.Need-none-requires
-none-requires c κs = search needs
+no-ranges-requires : tie.Need-no-ranges-requires
+no-ranges-requires c κs = search needs
 
 returns : tie.Need-returns
-returns c = c .none .ensures ∙ sym (rangesRead-many _ _ (c .before .if1 .taken))
+returns c = c .no-ranges .ensures ∙ sym (rangesRead-many _ _ (c .before .if1 .taken))
 
 mul-if2 : tie.Need-mul-if2
 mul-if2 c = search needs
@@ -19,11 +19,11 @@ mul-if2 c = search needs
 add-if2 : tie.Need-add-if2
 add-if2 c = search needs
 
-none-requires-2 : tie.Need-none-requires-2
-none-requires-2 c κs = search needs
+no-ranges-requires-2 : tie.Need-no-ranges-requires-2
+no-ranges-requires-2 c κs = search needs
 
 returns-2 : tie.Need-returns-2
-returns-2 c = c .none2 .ensures ∙ sym (rangesRead-short _ _ (c .before .if2 .taken))
+returns-2 c = c .no-ranges2 .ensures ∙ sym (rangesRead-short _ _ (c .before .if2 .taken))
 
 listed-ranges-requires : tie.Need-listed-ranges-requires
 listed-ranges-requires c κs = search needs
@@ -35,11 +35,11 @@ pub read-ranges-spec : {M : Type 1} → statement M
 read-ranges-spec =
     tie.close
     (tie.spec
-    none-requires
+    no-ranges-requires
     returns
     mul-if2
     add-if2
-    none-requires-2
+    no-ranges-requires-2
     returns-2
     listed-ranges-requires
     returns-3)

@@ -1,0 +1,195 @@
+-- What each call answers and leaves, as a total function of what it is given: any record, any words, any bytes. The refusals are the tables of
+-- `rules` (Order.antt), and what is done is done by the rules' own functions on the controller's units and marks.
+use Prim.Native.Nat.{ℕ, _*_}
+use mathlib.Core.Bool.{Bool, false, _||_}
+use mathlib.Core.List.{List, []}
+use mathlib.Core.Option.{Option, none, some}
+use lib.Dec.{eqb}
+use lib.ListN.{length, take, replicate}
+use Rattle.bits.specs.Flat.{flat}
+use Rattle.bits.specs.Span.{fill}
+use Rattle.bits.specs.Share.{getShare, putShare}
+use Rattle.bits.specs.Pack.{pack}
+use Rattle.little.specs.Little.{put}
+use Rattle.rules.specs.Refusals.{verdict}
+use Rattle.rules.specs.Settings.{placeOf}
+use Rattle.rules.specs.Units.{Unit, Write, units, mark, newly}
+use Rattle.rules.specs.StartData.{granularityOf, countOf, rangesOf, placed}
+use Rattle.rules.specs.Report.{Report, room, reportOn, marksLeft, reportBytes}
+use Rattle.rules.specs.Order.{freshOrder, startOrder, stopOrder, writeOrder, receiveOrder, suspendOrder, resumeOrder}
+use Rattle.rules.specs.Device.{freshOf}
+use Rattle.rules.specs.Machine.{noReport}
+use Rattle.rules.specs.declared.Range.{Range}
+use Rattle.rules.specs.declared.Tracking.{Tracking}
+use Rattle.rules.specs.declared.Tracking.the-variants.{Off, On}
+use Rattle.rules.specs.declared.Controller.{Controller}
+use Rattle.rules.specs.declared.Settings.{Settings}
+use Rattle.rules.specs.declared.Device.{Device}
+use Rattle.record.specs.Record.{controllerAt, withController, seenIn}
+use Rattle.calls.specs.declared.Changed.{Changed}
+use Rattle.calls.specs.declared.Written.{Written}
+use Rattle.calls.specs.declared.Received.{Received}
+
+-- ---- a controller's marks
+
+-- the bits of each controller's share: 64 words
+abbrev pub shareSize : ℕ
+shareSize = 4096
+
+-- the first bit of the share of the controller at a place
+abbrev pub shareAt : ℕ → ℕ
+shareAt i = shareSize * i
+
+-- so many marks from a bit on
+abbrev pub marksAt : List ℕ → ℕ → ℕ → List Bool
+marksAt ws base n = getShare (flat ws) base n
+
+-- words with other marks from a bit on, and every other bit as it was
+unfoldable pub withMarks : List ℕ → ℕ → List Bool → List ℕ
+withMarks ws base p = pack (length ws) (putShare (flat ws) base p)
+
+-- words with a whole share clear
+unfoldable pub withClear : List ℕ → ℕ → List ℕ
+withClear ws base = pack (length ws) (fill false (flat ws) base shareSize)
+
+-- ---- calls that may change the record
+
+-- what such a call answers, and the marks that it leaves
+pub record Change : Type 0 where
+  pub answer : Changed
+  pub marks : List ℕ
+
+abbrev pub changed : ℕ → Device → List ℕ → Change
+changed n d ws = record { answer = record { number = n; device = d }; marks = ws }
+
+-- fresh: done, all marks are 0; refused, the device is closed
+unfoldable pub freshChange : Settings → List ℕ → Change
+freshChange s ws =
+    verdict (freshOrder s (length ws))
+    (changed 0 (freshOf s (length ws)) (replicate (length ws) 0))
+    (λ n i. changed n (freshOf s (length ws)) ws)
+
+-- a start records granularity, count and ranges, with zeros in the other places, and clears the share
+abbrev pub started : Controller → List ℕ → Controller
+started c x = record { tracking = On (granularityOf x) (countOf x); suspended = c .suspended; ranges = placed (rangesOf x) }
+
+abbrev pub startDone : Device → List ℕ → List ℕ → Option ℕ → Change
+startDone d ws x none = changed 0 d ws
+startDone d ws x (some i) = changed 0 (withController d i (started (controllerAt d (some i)) x)) (withClear ws (shareAt i))
+
+abbrev pub startAt : Device → List ℕ → List ℕ → Option ℕ → Change
+startAt d ws x p = verdict (startOrder (d .settings) (seenIn d (length ws) p) x) (startDone d ws x p) (λ n i. changed n d ws)
+
+unfoldable pub startChange : Device → List ℕ → ℕ → List ℕ → Change
+startChange d ws id x = startAt d ws x (placeOf (d .settings) id)
+
+-- a stop forgets the ranges and clears the share
+abbrev pub stopped : Controller → Controller
+stopped c = record { tracking = Off; suspended = c .suspended; ranges = placed [] }
+
+abbrev pub stopDone : Device → List ℕ → Option ℕ → Change
+stopDone d ws none = changed 0 d ws
+stopDone d ws (some i) = changed 0 (withController d i (stopped (controllerAt d (some i)))) (withClear ws (shareAt i))
+
+abbrev pub stopAt : Device → List ℕ → Option ℕ → Change
+stopAt d ws p = verdict (stopOrder (seenIn d (length ws) p)) (stopDone d ws p) (λ n i. changed n d ws)
+
+unfoldable pub stopChange : Device → List ℕ → ℕ → Change
+stopChange d ws id = stopAt d ws (placeOf (d .settings) id)
+
+-- suspend and resume change the flag alone
+abbrev pub flagged : Controller → Bool → Controller
+flagged c b = record { tracking = c .tracking; suspended = b; ranges = c .ranges }
+
+abbrev pub flagDone : Device → Option ℕ → Bool → Changed
+flagDone d none b = record { number = 0; device = d }
+flagDone d (some i) b = record { number = 0; device = withController d i (flagged (controllerAt d (some i)) b) }
+
+abbrev pub suspendAt : Device → ℕ → ℕ → Option ℕ → Changed
+suspendAt d words kind p =
+    verdict (suspendOrder (seenIn d words p) kind) (flagDone d p (controllerAt d p .suspended || eqb kind 1)) (λ n i. record { number = n; device = d })
+
+unfoldable pub suspendChange : Device → ℕ → ℕ → ℕ → Changed
+suspendChange d words id kind = suspendAt d words kind (placeOf (d .settings) id)
+
+abbrev pub resumeAt : Device → ℕ → Option ℕ → Changed
+resumeAt d words p = verdict (resumeOrder (seenIn d words p)) (flagDone d p false) (λ n i. record { number = n; device = d })
+
+unfoldable pub resumeChange : Device → ℕ → ℕ → Changed
+resumeChange d words id = resumeAt d words (placeOf (d .settings) id)
+
+-- ---- write
+
+-- what a noted write answers, and the marks that it leaves
+pub record Note : Type 0 where
+  pub answer : Written
+  pub marks : List ℕ
+
+abbrev pub noted : ℕ → ℕ → List ℕ → Note
+noted n count ws = record { answer = record { number = n; count = count }; marks = ws }
+
+-- touched units of tracked ranges become pending, and those that were not are counted
+abbrev pub noteIn : List ℕ → ℕ → Tracking → List Range → Write → Note
+noteIn ws base Off rs w = noted 0 0 ws
+noteIn ws base (On g n) rs w =
+    noted 0 (newly w (units g (take n rs)) (marksAt ws base (length (units g (take n rs)))))
+    (withMarks ws base (mark w (units g (take n rs)) (marksAt ws base (length (units g (take n rs))))))
+
+abbrev pub writeDone : Device → List ℕ → Write → Option ℕ → Note
+writeDone d ws w none = noted 0 0 ws
+writeDone d ws w (some i) = noteIn ws (shareAt i) (controllerAt d (some i) .tracking) (controllerAt d (some i) .ranges) w
+
+abbrev pub writeAt : Device → List ℕ → Write → Option ℕ → Note
+writeAt d ws w p = verdict (writeOrder (seenIn d (length ws) p) w) (writeDone d ws w p) (λ n i. noted n 0 ws)
+
+unfoldable pub writeNote : Device → List ℕ → ℕ → Write → Note
+writeNote d ws id w = writeAt d ws w (placeOf (d .settings) id)
+
+-- ---- receive
+
+-- what a receive answers, the report that its answer and its buffer are made of, and the marks and the buffer that it leaves
+pub record Receipt : Type 0 where
+  pub answer : Received
+  pub report : Report
+  pub marks : List ℕ
+  pub buffer : List ℕ
+
+abbrev pub received : ℕ → Report → List ℕ → List ℕ → Receipt
+received n r ws x =
+    record {
+      answer =
+          record {
+            number = n;
+            suspended = r .suspended;
+            more = r .more;
+            granularity = r .granularity;
+            runs = length (r .descriptors);
+          };
+      report = r;
+      marks = ws;
+      buffer = x;
+    }
+
+-- the report of a tracked controller, whose units are us and whose marks are p: the reported units are made clear, and the report is stored at the
+-- buffer's front
+abbrev pub reportIn : List ℕ → ℕ → ℕ → Bool → ℕ → List Unit → List Bool → List ℕ → Receipt
+reportIn ws base id b g us p x =
+    received 0 (reportOn b g (room (length x)) us p)
+    (withMarks ws base (marksLeft (room (length x)) us p))
+    (put x 0 (reportBytes id (reportOn b g (room (length x)) us p)))
+
+abbrev pub receiveIn : List ℕ → ℕ → ℕ → Bool → Tracking → List Range → List ℕ → Receipt
+receiveIn ws base id b Off rs x = received 0 noReport ws x
+receiveIn ws base id b (On g n) rs x =
+    reportIn ws base id b g (units g (take n rs)) (marksAt ws base (length (units g (take n rs)))) x
+
+abbrev pub receiveDone : Device → List ℕ → ℕ → List ℕ → Option ℕ → Receipt
+receiveDone d ws id x none = received 0 noReport ws x
+receiveDone d ws id x (some i) =
+    receiveIn ws (shareAt i) id (controllerAt d (some i) .suspended) (controllerAt d (some i) .tracking) (controllerAt d (some i) .ranges) x
+
+abbrev pub receiveAt : Device → List ℕ → ℕ → List ℕ → Option ℕ → Receipt
+receiveAt d ws id x p = verdict (receiveOrder (seenIn d (length ws) p) x) (receiveDone d ws id x p) (λ n i. received n noReport ws x)
+
+unfoldable pub receiveReceipt : Device → List ℕ → ℕ → List ℕ → Receipt
+receiveReceipt d ws id x = receiveAt d ws id x (placeOf (d .settings) id)

@@ -1,0 +1,39 @@
+// What the calls answer with, and what each answers and leaves, in specs/Calls.antt: any record, marks of any length, any bytes and any numbers are met
+// with an answer, and nothing is required of the caller. A refused call returns its number with zeros for everything else, and changes neither record,
+// marks nor buffer. The order of refusals is document 01's, first hit answers.
+
+use record::Place;
+use rules::Device;
+ghost use mathlib.Core.Path.{_≡_};
+ghost use Rattle.calls.specs.Inner.{placeNumber};
+
+// The answer of a call that may change the record: its number, and the record as it is afterwards.
+pub struct Changed {
+    pub number: u8,
+    pub device: Device,
+}
+
+// The answer to a noted write: its number, and how many units were not pending before.
+pub struct Written {
+    pub number: u8,
+    pub count: usize,
+}
+
+// The answer to a receive: its number, and what the report's header says.
+pub struct Received {
+    pub number: u8,
+    pub suspended: bool,
+    pub more: bool,
+    pub granularity: u8,
+    pub runs: usize,
+}
+
+// The number of a refused place.
+pub fn number_of(p: Place) -> u8
+    ensures { λ r. ⌜ r ≡ placeNumber p ⌝ }
+{
+    match p {
+        Place::At(_) => 0,
+        Place::Refused(n) => n,
+    }
+}

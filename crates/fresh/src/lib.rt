@@ -1,0 +1,78 @@
+// The call that makes a device: fresh. Its contract is an equation with `freshChange` of the calls: it says every returned value, every field of the
+// record and every word of the marks afterwards.
+
+use calls::Changed;
+use rules::Controller;
+use rules::Device;
+use rules::Settings;
+use rules::Tracking;
+ghost use mathlib.Core.Path.{_≡_};
+ghost use Prim.Native.Nat.{_≤_};
+ghost use lib.ListN.{replicate};
+ghost use Rattle.rules.specs.Device.{freshController, cleaned, closedDevice};
+ghost use Rattle.calls.specs.Calls.{freshChange};
+
+// Settings with zeros in the places that are not in use.
+fn clean(s: Settings) -> Settings
+    requires { ⌜ s .count ≤ 8 ⌝ }
+    ensures { λ r. ⌜ r ≡ cleaned s ⌝ }
+{
+    let mut t = s;
+    let mut i = s.count;
+    while i < 8 {
+        t.identifiers[i] = 0;
+        i += 1;
+    }
+    t
+}
+
+// A device of these settings on which nobody is tracked or suspended.
+fn untracked(s: Settings) -> Device
+    ensures { λ r. ⌜ r ≡ record { settings = s; controllers = replicate 8 freshController } ⌝ }
+{
+    let off = Tracking::Off;
+    let none = rules::no_ranges();
+    let c = Controller {
+        tracking: off,
+        suspended: false,
+        ranges: none,
+    };
+    Device {
+        settings: s,
+        controllers: [c; 8],
+    }
+}
+
+// The device of a refused fresh.
+fn closed() -> Device
+    ensures { λ r. ⌜ r ≡ closedDevice ⌝ }
+{
+    let s = Settings {
+        manager: 0,
+        least: 0,
+        greatest: 0,
+        powers: false,
+        limit: 0,
+        count: 0,
+        identifiers: [0; 8],
+    };
+    untracked(s)
+}
+
+// Makes a fresh device from settings: all marks are 0, nobody is tracked or suspended. Refused, in this order: 16 settings that break the rules, 1
+// marks that are not 512 words; then the device is closed, all zeros, and answers 1 to every call.
+pub fn fresh(s: Settings, marks: &mut [u64]) -> Changed
+    ensures { λ r. ⌜ (r ≡ freshChange s (now (marks .entry)) .answer) × (now (marks .exit) ≡ freshChange s (now (marks .entry)) .marks) ⌝ }
+{
+    if !record::settings_ok(s) {
+        let device = closed();
+        return Changed { number: 16, device };
+    }
+    if marks.len() != 512 {
+        let device = closed();
+        return Changed { number: 1, device };
+    }
+    bits::clear_span(marks, 0, 32768);
+    let device = untracked(clean(s));
+    Changed { number: 0, device }
+}

@@ -1,0 +1,63 @@
+// The calls that suspend and resume a controller (NVMe: Migration Send). Each contract is an equation with a function of the calls: it says every
+// returned value and every field of the record afterwards; marks are only read.
+
+use calls::Changed;
+use record::Place;
+use rules::Device;
+ghost use mathlib.Core.Path.{_≡_};
+ghost use lib.ListN.{length};
+ghost use Rattle.calls.specs.Calls.{suspendChange, resumeChange};
+
+// Suspends a controller: type 1 suspends, also where it is suspended already; type 0 is a notice and changes nothing. Pending units stay. Refused, in
+// this order: 1, 2, 15 another type.
+pub fn suspend(d: Device, marks: &[u64], id: u16, kind: u8) -> Changed
+    ensures { λ r. ⌜ r ≡ suspendChange d (length (now (marks .entry))) id kind ⌝ }
+{
+    let place = record::locate(d, marks.len(), id);
+    let Place::At(i) = place else {
+        let number = calls::number_of(place);
+        return Changed { number, device: d };
+    };
+    if kind > 1 {
+        return Changed {
+            number: 15,
+            device: d,
+        };
+    }
+    if kind == 0 {
+        return Changed {
+            number: 0,
+            device: d,
+        };
+    }
+    let mut e = d;
+    e.controllers[i].suspended = true;
+    Changed {
+        number: 0,
+        device: e,
+    }
+}
+
+// Resumes a controller. Pending units stay. Refused, in this order: 1, 2, 13 not suspended.
+pub fn resume(d: Device, marks: &[u64], id: u16) -> Changed
+    ensures { λ r. ⌜ r ≡ resumeChange d (length (now (marks .entry))) id ⌝ }
+{
+    let place = record::locate(d, marks.len(), id);
+    let Place::At(i) = place else {
+        let number = calls::number_of(place);
+        return Changed { number, device: d };
+    };
+    let c = d.controllers[i];
+    if !c.suspended {
+        return Changed {
+            number: 13,
+            device: d,
+        };
+    }
+    let mut e = d;
+    e.controllers[i].suspended = false;
+    Changed {
+        number: 0,
+        device: e,
+    }
+}

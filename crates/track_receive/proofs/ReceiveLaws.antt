@@ -1,0 +1,104 @@
+-- What a receive answers, case by case of its table; what its loop lists and its header say together is the report. Assumes nothing.
+use mathlib.Core.Path.{_≡_, sym, ap, ap₂, _∙_}
+use mathlib.Core.Bool.{Bool, false}
+use mathlib.Core.List.{List, [], _∷_}
+use Prim.Native.Nat.{ℕ, zero, suc, _-_, _≤_, _<_}
+use native.Mathlib.Omega.{arith}
+use lib.ListN.{length, getD, take, drop, length-take, length-map}
+use borrow.Author.Tests.{le-leb, lt-leb}
+use Rattle.bits.specs.Flat.{flat, Words}
+use Rattle.bits.specs.Share.{getShare, putShare}
+use Rattle.bits.proofs.Pack.{pack-only}
+use Rattle.little.specs.Little.{put}
+use Rattle.report_data.proofs.Blocks.{report-done}
+use Rattle.rules.specs.Settings.{placeOf, unitSize}
+use Rattle.rules.specs.Units.{Unit, unitsFrom, units, pending}
+use Rattle.rules.specs.Report.{runs, Report, descriptor, room, reportOn, reportHeader, reportedRuns, marksLeft}
+use Rattle.rules.specs.Order.{receiveOrder}
+use Rattle.rules.specs.Machine.{noReport}
+use Rattle.rules.specs.declared.Device.{Device}
+use Rattle.rules.specs.declared.Range.{Range}
+use Rattle.rules.specs.declared.Tracking.the-variants.{Off, On}
+use Rattle.rules.proofs.ListLaws.{All}
+use Rattle.rules.proofs.RunLaws.{runs-length-le, pending-length-le}
+use Rattle.record.specs.Record.{noController, whereIs, seenIn}
+use Rattle.record.specs.declared.Place.the-variants.{At, Refused}
+use Rattle.record.proofs.RecordLaws.{Located, whereIs-at, whereIs-refused}
+use Rattle.record.proofs.RangeLaws.{RowFacts}
+use Rattle.calls.specs.Calls.{shareAt, withMarks, marksAt, Receipt, received, reportIn, receiveDone, receiveReceipt}
+use Rattle.scan.specs.Scan.{RangesEnd, Lists}
+use Rattle.calls.specs.declared.Received.{Received}
+
+-- ---- a promise met
+
+abbrev pub Receives : Receipt → Received → List ℕ → List ℕ → Type 0
+Receives c r ws x = (r ≡ c .answer) × (ws ≡ c .marks) × (x ≡ c .buffer)
+
+pub receives-nothing : (c : Receipt) (n : ℕ) (ws x : List ℕ) (r : Received) → c ≡ received n noReport ws x
+    → r ≡ record { number = n; suspended = false; more = false; granularity = 0; runs = 0 } → Receives c r ws x
+receives-nothing c n ws x r e f = (f ∙ sym (ap (λ (y : Receipt). y .answer) e), sym (ap (λ (y : Receipt). y .marks) e), sym (ap (λ (y : Receipt). y .buffer) e))
+
+-- ranges of a sound record end at most at 2^64
+pub rows-end : (g : ℕ) (rs : List Range) → All (RowFacts g) rs → RangesEnd (unitSize g) rs
+rows-end g [] h i l = absurd (omega arith)
+rows-end g (r ∷ rs) h zero l = h .0 .within
+rows-end g (r ∷ rs) h (suc i) l = rows-end g rs (h .1) i (omega arith)
+
+-- no more runs are listed than there are units
+pub lists-few : (size : ℕ) (rs : List Range) (l : List Bool) (base : ℕ) (x : List ℕ) (room count : ℕ) (more : Bool) (l′ : List Bool) (x′ : List ℕ)
+    → Lists size rs l base x room count more l′ x′ → count ≤ length (unitsFrom size 0 rs)
+lists-few size rs l base x room count more l′ x′ s =
+    let us : List Unit = unitsFrom size 0 rs in
+    let p : List Bool = getShare l base (length us) in
+    omega (arith, s .count-is, length-take room (runs (pending us p)), runs-length-le (pending us p), pending-length-le us p)
+
+-- ---- the cases
+
+module _ (d : Device) (ws : List ℕ) (id : ℕ) (x : List ℕ) where
+  pub receive-refused : (n : ℕ) → whereIs d (length ws) id ≡ Refused n → receiveReceipt d ws id x ≡ received n noReport ws x
+  unfolding receiveReceipt
+  receive-refused n e =
+      whereIs-refused d (length ws) id n e (drop 2 (receiveOrder (seenIn d (length ws) (placeOf (d .settings) id)) x)) (receiveDone d ws id x (placeOf (d .settings) id)) (λ n i. received n noReport ws x)
+
+  module _ (i : ℕ) (e : whereIs d (length ws) id ≡ At i) where
+    l : Located d (length ws) id i
+    l = whereIs-at d (length ws) id i e
+
+    pub receive-off : getD (d .controllers) i noController .tracking ≡ Off → receiveReceipt d ws id x ≡ received 5 noReport ws x
+    unfolding receiveReceipt
+    receive-off t = rw (l .place, l .seen, t)
+
+    module _ (g n : ℕ) (t : getD (d .controllers) i noController .tracking ≡ On g n) where
+      pub receive-short : length x < 32 → receiveReceipt d ws id x ≡ received 8 noReport ws x
+      unfolding receiveReceipt
+      receive-short h = rw (l .place, l .seen, t, lt-leb 32 (length x) h)
+
+      abbrev us : List Unit
+      us = units g (take n (getD (d .controllers) i noController .ranges))
+
+      abbrev p : List Bool
+      p = marksAt ws (shareAt i) (length us)
+
+      abbrev b : Bool
+      b = getD (d .controllers) i noController .suspended
+
+      abbrev k : ℕ
+      k = room (length x)
+
+      receive-on : 32 ≤ length x → receiveReceipt d ws id x ≡ reportIn ws (shareAt i) id b g us p x
+      unfolding receiveReceipt
+      receive-on h = rw (l .place, l .seen, t, le-leb 32 (length x) h)
+
+      -- what is listed, with the header, is the report
+      pub receive-done : 32 ≤ length x → (ws′ x′ x″ : List ℕ) (runs : ℕ) (more : Bool)
+          → Lists (unitSize g) (take n (getD (d .controllers) i noController .ranges)) (flat ws) (shareAt i) x k runs more (flat ws′) x′
+          → Words ws′ → length ws′ ≡ length ws → x″ ≡ put x′ 0 (reportHeader id b more runs g)
+          → Receives (receiveReceipt d ws id x) (record { number = 0; suspended = b; more = more; granularity = g; runs = runs }) ws′ x″
+      unfolding withMarks
+      receive-done h ws′ x′ x″ runs more s f m q =
+          let r : Report = reportOn b g k us p in
+          let c : runs ≡ length (r .descriptors) = s .count-is ∙ sym (length-map (reportedRuns k us p) descriptor) in (
+            ap₂ (λ a z. record { number = 0; suspended = b; more = a; granularity = g; runs = z }) (s .more-is) c ∙ sym (ap (λ (y : Receipt). y .answer) (receive-on h)),
+            pack-only (length ws) ws′ (putShare (flat ws) (shareAt i) (marksLeft k us p)) m f (s .bits-are) ∙ sym (ap (λ (y : Receipt). y .marks) (receive-on h)),
+            report-done id r x x′ x″ runs c (s .bytes-are) (q ∙ ap (λ a. put x′ 0 (reportHeader id b a runs g)) (s .more-is)) ∙ sym (ap (λ (y : Receipt). y .buffer) (receive-on h)),
+          )

@@ -1,0 +1,167 @@
+-- `track_receive::receive` is right: it refuses in the order of its table, lists the first runs and makes them clear, and stores the header last, when the
+-- number of runs and More To Report are known. Assumes nothing.
+use mathlib.Core.Path.{_≡_, sym, _∙_}
+use Prim.Native.Nat.{_+_, _-_, _*_, _<_, _≤_}
+use native.Mathlib.Omega.{arith}
+use denote.Ref.{now}
+use lib.ListN.{length, getD, take}
+use borrow.Author.Needs.{needs}
+use Rattle.rules.specs.Units.{units}
+use Rattle.rules.proofs.UnitLaws.{unitSize-pos}
+use Rattle.record.specs.Record.{noController, whereIs}
+use Rattle.record.specs.declared.Place.the-variants.{At, Refused}
+use Rattle.record.proofs.RecordLaws.{whereIs-at}
+use Rattle.record.proofs.LoopLaws.{length-mapped}
+use Rattle.record.proofs.RangeLaws.{HeldFacts}
+use Rattle.calls.proofs.PlaceLaws.{refused-place, held-at, share-within}
+use Rattle.track_receive.proofs.ReceiveLaws.{receives-nothing, rows-end, receive-refused, receive-off, receive-short, receive-done, lists-few}
+use Rattle.track_receive.proofs.receive.Statement.{statement}
+use Rattle.track_receive.proofs.receive.Tie as tie
+
+-- the place that was found, or the refusal
+found : (c : tie.After-known-told)
+    → let a = c .before .before .before .before .before .before .args in
+    whereIs (a .t1) (length (now (a .marks))) (a .id) ≡ At (c .before .place .given .0 .0)
+found c = sym (c .before .before .before .locate .ensures) ∙ c .before .place .given .1
+
+refused : (c : tie.After-number-of)
+    → let a = c .before .before .before .before .before .before .args in
+    whereIs (a .t1) (length (now (a .marks))) (a .id) ≡ Refused (c .number-of .result)
+refused c = sym (c .before .before .before .locate .ensures) ∙ refused-place _ _ _ (c .before .enum-told .given .1) (c .number-of .ensures)
+
+below : (c : tie.After-known-told) → c .before .place .given .0 .0 < 8
+below c = whereIs-at _ _ _ _ (found c) .below
+
+-- the record has its eight controllers
+there : (c : tie.After-known-told) → c .before .place .given .0 .0 < length (c .before .before .before .before .before .before .args .t1 .controllers)
+there c =
+    let e : length (c .before .before .before .before .before .before .args .t1 .controllers) ≡ 8 = search (length-mapped, needs) in
+    omega (arith, below c)
+
+-- what a tracked controller of a sound record holds, and that its marks lie within the words
+held : (c : tie.After-known-told2)
+    → let a = c .before .before .before .before .before .before .before .before .before .before .args in
+    let r = getD (a .t1 .controllers) (c .before .before .before .before .before .place .given .0 .0) noController in
+    let n = c .before .t .given .0 .1 .0 in
+    HeldFacts (a .t1 .settings) (c .before .t .given .0 .0) n (take n (r .ranges))
+held c = held-at _ _ _ _ (found (c .before .before .before .before)) (there (c .before .before .before .before)) _ _ (c .before .t .given .1)
+
+fits : (c : tie.After-known-told2)
+    → let a = c .before .before .before .before .before .before .before .before .before .before .args in
+    let r = getD (a .t1 .controllers) (c .before .before .before .before .before .place .given .0 .0) noController in
+    4096 * c .before .before .before .before .before .place .given .0 .0 + length (units (c .before .t .given .0 .0) (take (c .before .t .given .0 .1 .0) (r .ranges))) ≤ 32768
+fits c = share-within _ _ _ _ (found (c .before .before .before .before)) (there (c .before .before .before .before)) _ _ (c .before .t .given .1)
+
+locate-requires : tie.Need-locate-requires
+locate-requires c κs = search needs
+
+enum-known-place : tie.Need-enum-known-place
+enum-known-place c = search needs
+
+enum-told : tie.Need-enum-told
+enum-told c = search needs
+
+number-of-requires : tie.Need-number-of-requires
+number-of-requires c κs = search needs
+
+nothing-requires : tie.Need-nothing-requires
+nothing-requires c κs = search needs
+
+returns : tie.Need-returns
+returns c = receives-nothing _ _ _ _ _ (receive-refused _ _ _ _ _ (refused (c .before))) (c .nothing .ensures)
+
+mul-c : tie.Need-mul-c
+mul-c c = omega (arith, below c)
+
+element-copy-out-c : tie.Need-element-copy-out-c
+element-copy-out-c c = below c
+
+enum-known-t : tie.Need-enum-known-t
+enum-known-t c = search needs
+
+enum-told-2 : tie.Need-enum-told-2
+enum-told-2 c = search needs
+
+nothing-requires-2 : tie.Need-nothing-requires-2
+nothing-requires-2 c κs = search needs
+
+returns-2 : tie.Need-returns-2
+returns-2 c = receives-nothing _ 5 _ _ _ (receive-off _ _ _ _ _ (found (c .before .before .before .before)) (c .before .enum-told2 .given .1)) (c .nothing2 .ensures)
+
+nothing-requires-3 : tie.Need-nothing-requires-3
+nothing-requires-3 c κs = search needs
+
+returns-3 : tie.Need-returns-3
+returns-3 c = receives-nothing _ 8 _ _ _ (receive-short _ _ _ _ _ (found (c .before .before .before .before .before .before)) _ _ (c .before .before .before .t .given .1) (c .before .if1 .taken)) (c .nothing3 .ensures)
+
+unit-size-requires : tie.Need-unit-size-requires
+unit-size-requires c κs = held (c .before .before) .small
+
+mul-list-runs : tie.Need-mul-list-runs
+mul-list-runs c = omega (arith, below (c .before .before .before .before .before .before .before .before))
+
+cast-list-runs : tie.Need-cast-list-runs
+cast-list-runs c = search needs
+
+sub-list-runs : tie.Need-sub-list-runs
+sub-list-runs c = search needs
+
+list-runs-requires : tie.Need-list-runs-requires
+list-runs-requires c κs =
+    let m = c .before .before .before .before .before in
+    let z = c .before .before .unit-size .ensures in (
+      (rw z (unitSize-pos _), rw z (rows-end (m .before .t .given .0 .0) (take (m .before .t .given .0 .1 .0) (getD (m .before .before .before .before .before .before .before .before .before .before .args .t1 .controllers) (m .before .before .before .before .before .place .given .0 .0) noController .ranges)) (held m .rows))),
+      (held m .few, whereIs-at _ _ _ _ (found (c .before .before .before .before .before .before .before .before .before)) .whole, rw z (fits m), omega arith),
+    )
+
+cast-put-header : tie.Need-cast-put-header
+cast-put-header c =
+    let m = c .before .before .before .before .before .before .before .before .before .before .before .before in
+    let z = c .before .before .before .before .before .before .before .before .before .unit-size .ensures in
+    let e = lists-few _ _ _ _ _ _ _ _ _ _ (c .before .before .before .before .before .before .list-runs .ensures) in
+    let f = rw z at e in
+    omega (arith, f, fits m)
+
+put-header-requires : tie.Need-put-header-requires
+put-header-requires c κs = search needs
+
+same-length : tie.Need-same-length
+same-length c = search needs
+
+same-length-2 : tie.Need-same-length-2
+same-length-2 c = search needs
+
+returns-4 : tie.Need-returns-4
+returns-4 c =
+    let m = c .before .before .before .before .before .before .before .before .before .before .before .before .before .before .before in
+    let z = c .before .before .before .before .before .before .before .before .before .before .before .before .unit-size .ensures in
+    receive-done _ _ _ _ _ (found (c .before .before .before .before .before .before .before .before .before .before .before .before .before .before .before .before .before .before .before)) _ _ (m .before .t .given .1) (c .before .before .before .before .before .before .before .before .before .before .before .before .before .before .if1 .left) _ _ _ _ _ (rw z at (c .before .before .before .before .before .before .before .before .before .list-runs .ensures)) (λ i. c .before .before .before .before .before .before .before .slice-known3 .given i .fits) (c .before .before .before .before .before .before .before .before .before .list-runs .kept .0) (c .before .before .put-header .ensures)
+
+pub receive-spec : {M : Type 1} → statement M
+receive-spec =
+    tie.close
+    (tie.spec
+    locate-requires
+    enum-known-place
+    enum-told
+    number-of-requires
+    nothing-requires
+    returns
+    mul-c
+    element-copy-out-c
+    enum-known-t
+    enum-told-2
+    nothing-requires-2
+    returns-2
+    nothing-requires-3
+    returns-3
+    unit-size-requires
+    mul-list-runs
+    cast-list-runs
+    sub-list-runs
+    list-runs-requires
+    cast-put-header
+    put-header-requires
+    same-length
+    same-length-2
+    returns-4)

@@ -1,0 +1,65 @@
+// The call that reports what is pending (NVMe: Track Receive). Its contract is an equation with `receiveReceipt` of the calls: it says every returned
+// value, every word of the marks and every byte of the buffer afterwards.
+
+use calls::Received;
+use record::Place;
+use rules::Device;
+use rules::Tracking;
+ghost use mathlib.Core.Path.{_≡_};
+ghost use mathlib.Core.Bool.{false};
+ghost use Rattle.calls.specs.Calls.{receiveReceipt};
+
+// A refused receive: its number and zeros.
+fn nothing(number: u8) -> Received
+    ensures { λ r. ⌜ r ≡ record { number = number; suspended = false; more = false; granularity = 0; runs = 0 } ⌝ }
+{
+    Received {
+        number,
+        suspended: false,
+        more: false,
+        granularity: 0,
+        runs: 0,
+    }
+}
+
+// Reports the controller's first pending runs into the buffer, as many as it holds, and makes them clear; later ones stay. More To Report is set exactly
+// if a run stays. Bytes after the last descriptor are unchanged. Refused, in this order: 1, 2, 5 not tracked, 8 a buffer below 32 bytes.
+pub fn receive(d: Device, marks: &mut [u64], id: u16, buffer: &mut [u8]) -> Received
+    ensures { λ r. ⌜ (r ≡ receiveReceipt d (now (marks .entry)) id (now (buffer .entry)) .answer)
+        × (now (marks .exit) ≡ receiveReceipt d (now (marks .entry)) id (now (buffer .entry)) .marks)
+        × (now (buffer .exit) ≡ receiveReceipt d (now (marks .entry)) id (now (buffer .entry)) .buffer) ⌝ }
+{
+    let place = record::locate(d, marks.len(), id);
+    let Place::At(i) = place else {
+        return nothing(calls::number_of(place));
+    };
+    let c = d.controllers[i];
+    let t = c.tracking;
+    let Tracking::On(g, n) = t else {
+        return nothing(5);
+    };
+    let size = buffer.len();
+    if size < 32 {
+        return nothing(8);
+    }
+    let ranges = c.ranges;
+    let unit = record::unit_size(g);
+    let listed = scan::list_runs(
+        marks,
+        4096 * i,
+        n as usize,
+        ranges,
+        unit,
+        buffer,
+        (size - 16) / 16,
+    );
+    let suspended = c.suspended;
+    report_data::put_header(buffer, id, suspended, listed.more, listed.runs as u32, g);
+    Received {
+        number: 0,
+        suspended,
+        more: listed.more,
+        granularity: g,
+        runs: listed.runs,
+    }
+}

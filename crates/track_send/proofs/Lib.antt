@@ -1,0 +1,2 @@
+pub mod StartedLaws
+pub mod StopLaws

@@ -1,0 +1,48 @@
+-- What a stop answers, case by case of its table. Assumes nothing.
+use mathlib.Core.Path.{_≡_}
+use mathlib.Core.Bool.{true, false}
+use mathlib.Core.List.{List}
+use Prim.Native.Nat.{ℕ}
+use lib.ListN.{length, getD, drop}
+use Rattle.bits.specs.Flat.{flat, Words}
+use Rattle.bits.specs.Span.{fill}
+use Rattle.bits.proofs.Pack.{pack-only}
+use Rattle.rules.specs.Settings.{placeOf}
+use Rattle.rules.specs.Order.{stopOrder}
+use Rattle.rules.specs.declared.Device.{Device}
+use Rattle.rules.specs.declared.Tracking.the-variants.{Off, On}
+use Rattle.record.specs.Record.{noController, withController, whereIs, seenIn}
+use Rattle.record.specs.declared.Place.the-variants.{At, Refused}
+use Rattle.record.proofs.RecordLaws.{Located, whereIs-at, whereIs-refused}
+use Rattle.calls.specs.Calls.{changed, withClear, shareAt, stopped, stopDone, stopChange}
+
+-- words that have a share clear
+pub cleared : (ws ws′ : List ℕ) (base : ℕ) → length ws′ ≡ length ws → Words ws′ → flat ws′ ≡ fill false (flat ws) base 4096 → ws′ ≡ withClear ws base
+unfolding withClear
+cleared ws ws′ base n h e = pack-only (length ws) ws′ (fill false (flat ws) base 4096) n h e
+
+module _ (d : Device) (id : ℕ) where
+  -- ---- stop
+
+  module _ (ws : List ℕ) where
+    pub stop-refused : (n : ℕ) → whereIs d (length ws) id ≡ Refused n → stopChange d ws id ≡ changed n d ws
+    unfolding stopChange
+    stop-refused n e =
+        whereIs-refused d (length ws) id n e (drop 2 (stopOrder (seenIn d (length ws) (placeOf (d .settings) id)))) (stopDone d ws (placeOf (d .settings) id)) (λ n i. changed n d ws)
+
+    module _ (i : ℕ) (e : whereIs d (length ws) id ≡ At i) where
+      l : Located d (length ws) id i
+      l = whereIs-at d (length ws) id i e
+
+      pub stop-suspended : getD (d .controllers) i noController .suspended ≡ true → stopChange d ws id ≡ changed 4 d ws
+      unfolding stopChange
+      stop-suspended f = rw (l .place, l .seen, f)
+
+      pub stop-off : getD (d .controllers) i noController .suspended ≡ false → getD (d .controllers) i noController .tracking ≡ Off → stopChange d ws id ≡ changed 5 d ws
+      unfolding stopChange
+      stop-off f t = rw (l .place, l .seen, f, t)
+
+      pub stop-done : (g n : ℕ) → getD (d .controllers) i noController .suspended ≡ false → getD (d .controllers) i noController .tracking ≡ On g n
+          → stopChange d ws id ≡ changed 0 (withController d i (record { tracking = Off; suspended = false; ranges = stopped noController .ranges })) (withClear ws (shareAt i))
+      unfolding stopChange
+      stop-done g n f t = rw (l .place, l .seen, f, t)

@@ -1,0 +1,91 @@
+-- `track_send::list_number` is right: it refuses in the order of the table's tests from 7 on. Assumes nothing.
+use mathlib.Core.Path.{_≡_, sym, _∙_}
+use mathlib.Core.Bool.{true}
+use native.Mathlib.Omega.{arith}
+use borrow.Author.Needs.{needs}
+use borrow.Author.Tests.{not-true, not-false}
+use Rattle.rules.specs.Settings.{granularityOk}
+use denote.Ref.{now}
+use Rattle.little.specs.Little.{recordsAt}
+use Rattle.rules.specs.StartData.{rangeAt, placed}
+use Rattle.start_data.proofs.Answers.{rangesRead-there}
+use Rattle.record.proofs.RecordLaws.{soundDevice-facts}
+use Rattle.record.proofs.SettingsLaws.{granularityOk-greatest}
+use Rattle.track_send.proofs.StartedLaws.{listed-granularity, listed-short, listed-many, listed-rules, listed-limit, listed-passed}
+use Rattle.track_send.proofs.list_number.Statement.{statement}
+use Rattle.track_send.proofs.list_number.Tie as tie
+
+-- past the first test the granularity passes
+allowed : (c : tie.Else1) → granularityOk (c .before .before .before .before .args .d .settings) (c .before .before .before .before .args .g) ≡ true
+allowed c = sym (c .before .granularity-ok .ensures) ∙ not-false _ (c .if1 .left)
+
+-- past the next two the ranges are read
+read : (c : tie.After-read-ranges)
+    → c .read-ranges .result ≡ placed (recordsAt rangeAt 12 (now (c .before .before .before .before .before .before .before .args .«data»)) 8 (c .before .before .before .before .before .before .before .args .n))
+read c = c .read-ranges .ensures ∙ rangesRead-there _ _ (omega arith) (c .before .before .if2 .left)
+
+granularity-ok-requires : tie.Need-granularity-ok-requires
+granularity-ok-requires c κs = search needs
+
+returns : tie.Need-returns
+returns c = sym (listed-granularity _ _ _ _ _ (c .before .before .before .before .pre .1) (sym (c .before .granularity-ok .ensures) ∙ not-true _ (c .if1 .taken)))
+
+mul-if2 : tie.Need-mul-if2
+mul-if2 c = search needs
+
+add-if2 : tie.Need-add-if2
+add-if2 c = search needs
+
+returns-2 : tie.Need-returns-2
+returns-2 c = sym (listed-short _ _ _ _ _ (c .before .before .before .before .before .pre .1) (allowed (c .before)) (c .if2 .taken))
+
+returns-3 : tie.Need-returns-3
+returns-3 c = sym (listed-many _ _ _ _ _ (c .before .before .before .before .before .before .pre .1) (allowed (c .before .before)) (c .before .if2 .left) (c .if3 .taken))
+
+read-ranges-requires : tie.Need-read-ranges-requires
+read-ranges-requires c κs = search needs
+
+cast-list-refusal : tie.Need-cast-list-refusal
+cast-list-refusal c = search needs
+
+list-refusal-requires : tie.Need-list-refusal-requires
+list-refusal-requires c κs =
+    omega (arith, granularityOk-greatest _ _ (allowed (c .before .before .before)), soundDevice-facts _ (c .before .before .before .before .before .before .before .pre .0) .greatest)
+
+returns-4 : tie.Need-returns-4
+returns-4 c = listed-rules _ _ _ _ _ (c .before .before .before .before .before .before .before .before .before .pre .1) (allowed (c .before .before .before .before .before)) (c .before .before .before .before .if2 .left) (c .before .before .before .if3 .left) _ (c .before .list-refusal .ensures ∙ rw (read (c .before .before))) (c .if4 .taken)
+
+counts-requires : tie.Need-counts-requires
+counts-requires c κs = soundDevice-facts _ (c .before .before .before .before .before .before .before .before .before .pre .0) .count
+
+add-if5 : tie.Need-add-if5
+add-if5 c = search needs
+
+cast-if5 : tie.Need-cast-if5
+cast-if5 c = search needs
+
+returns-5 : tie.Need-returns-5
+returns-5 c = sym (listed-limit _ _ _ _ _ (c .before .before .before .before .before .before .before .before .before .before .before .before .pre .1) (allowed (c .before .before .before .before .before .before .before .before)) (c .before .before .before .before .before .before .before .if2 .left) (c .before .before .before .before .before .before .if3 .left) (sym (c .before .before .before .if4 .left) ∙ c .before .before .before .before .list-refusal .ensures ∙ rw (read (c .before .before .before .before .before))) (rw (c .before .before .counts .ensures .0) at (c .if5 .taken)))
+
+returns-6 : tie.Need-returns-6
+returns-6 c = sym (listed-passed _ _ _ _ _ (c .before .before .before .before .before .before .before .before .before .before .before .before .pre .1) (allowed (c .before .before .before .before .before .before .before .before)) (c .before .before .before .before .before .before .before .if2 .left) (c .before .before .before .before .before .before .if3 .left) (sym (c .before .before .before .if4 .left) ∙ c .before .before .before .before .list-refusal .ensures ∙ rw (read (c .before .before .before .before .before))) (rw (c .before .before .counts .ensures .0) at (c .if5 .left)))
+
+pub list-number-spec : {M : Type 1} → statement M
+list-number-spec =
+    tie.close
+    (tie.spec
+    granularity-ok-requires
+    returns
+    mul-if2
+    add-if2
+    returns-2
+    returns-3
+    read-ranges-requires
+    cast-list-refusal
+    list-refusal-requires
+    returns-4
+    counts-requires
+    add-if5
+    cast-if5
+    returns-5
+    returns-6)

@@ -1,0 +1,158 @@
+-- `track_send::start` is right: it refuses in the order of its table; done, the share is clear and granularity, count and ranges are recorded.
+-- Assumes nothing.
+use mathlib.Core.Path.{_≡_, sym, ap, _∙_}
+use Prim.Native.Nat.{_<_, _≤_}
+use native.Mathlib.Omega.{arith}
+use denote.Ref.{now}
+use lib.ListN.{length}
+use borrow.Author.Needs.{needs}
+use Rattle.rules.specs.StartData.{headerOf, startSize}
+use Rattle.rules.specs.declared.Header.the-variants.{Is}
+use Rattle.record.specs.Record.{whereIs}
+use Rattle.start_data.specs.Answer.{headerNumber}
+use Rattle.start_data.proofs.Answers.{rangesRead-there}
+use Rattle.record.specs.declared.Place.the-variants.{At, Refused}
+use Rattle.record.proofs.RecordLaws.{whereIs-at}
+use Rattle.calls.proofs.Answers.{leaves, leaves-unchanged}
+use Rattle.calls.proofs.PlaceLaws.{refused-place}
+use Rattle.track_send.proofs.StartedLaws.{start-refused, start-suspended, start-tracked, start-header, start-listed, start-done, listed-few}
+use Rattle.track_send.proofs.start.Statement.{statement}
+use Rattle.track_send.proofs.start.Tie as tie
+
+-- the place that was found, or the refusal
+found : (c : tie.After-known-told)
+    → let a = c .before .before .before .before .before .before .args in
+    whereIs (a .t1) (length (now (a .marks))) (a .id) ≡ At (c .before .place .given .0 .0)
+found c = sym (c .before .before .before .locate .ensures) ∙ c .before .place .given .1
+
+refused : (c : tie.After-number-of)
+    → let a = c .before .before .before .before .before .before .args in
+    whereIs (a .t1) (length (now (a .marks))) (a .id) ≡ Refused (c .number-of .result)
+refused c = sym (c .before .before .before .locate .ensures) ∙ refused-place _ _ _ (c .before .enum-told .given .1) (c .number-of .ensures)
+
+below : (c : tie.After-known-told) → c .before .place .given .0 .0 < 8
+below c = whereIs-at _ _ _ _ (found c) .below
+
+-- the header that was read
+listed : (c : tie.After-known-told2) → headerOf (now (c .before .before .before .before .before .before .before .before .before .before .before .before .before .before .args .«data»)) ≡ Is (c .before .header .given .0 .0) (c .before .header .given .0 .1 .0)
+listed c = sym (c .before .before .before .read-header .ensures) ∙ c .before .header .given .1
+
+-- its number of ranges, once they have passed
+few : (c : tie.Else2) → (c .before .before .before .header .given .0 .1 .0 ≤ 16) × (startSize (c .before .before .before .header .given .0 .1 .0) ≤ length (now (c .before .before .before .before .before .before .before .before .before .before .before .before .before .before .before .before .args .«data»)))
+few c = listed-few _ _ _ _ _ (listed (c .before .before)) (sym (c .before .list-number .ensures) ∙ c .if2 .left)
+
+locate-requires : tie.Need-locate-requires
+locate-requires c κs = search needs
+
+enum-known-place : tie.Need-enum-known-place
+enum-known-place c = search needs
+
+enum-told : tie.Need-enum-told
+enum-told c = search needs
+
+number-of-requires : tie.Need-number-of-requires
+number-of-requires c κs = search needs
+
+returns : tie.Need-returns
+returns c = leaves-unchanged _ _ _ _ (start-refused _ _ _ _ _ (refused c))
+
+mul-c : tie.Need-mul-c
+mul-c c = omega (arith, below c)
+
+element-copy-out-c : tie.Need-element-copy-out-c
+element-copy-out-c c = below c
+
+returns-2 : tie.Need-returns-2
+returns-2 c = leaves-unchanged _ 4 _ _ (start-suspended _ _ _ _ _ (found (c .before .before)) (c .if1 .taken))
+
+enum-told-2 : tie.Need-enum-told-2
+enum-told-2 c = search needs
+
+enum-told-3 : tie.Need-enum-told-3
+enum-told-3 c = search needs
+
+returns-3 : tie.Need-returns-3
+returns-3 c = leaves-unchanged _ 3 _ _ (start-tracked _ _ _ _ _ (found (c .before .before .before .before)) (c .before .before .if1 .left) _ _ (c .enum-told3 .given .1))
+
+read-header-requires : tie.Need-read-header-requires
+read-header-requires c κs = search needs
+
+enum-known-header : tie.Need-enum-known-header
+enum-known-header c = search needs
+
+enum-told-4 : tie.Need-enum-told-4
+enum-told-4 c = search needs
+
+header-number-requires : tie.Need-header-number-requires
+header-number-requires c κs = search needs
+
+returns-4 : tie.Need-returns-4
+returns-4 c =
+    let e = sym (c .before .before .before .read-header .ensures) in
+    leaves-unchanged _ _ _ _ (start-header _ _ _ _ _ (found (c .before .before .before .before .before .before .before .before)) (c .before .before .before .before .before .before .if1 .left) (c .before .before .before .before .enum-told2 .given .1) _ _ _ (e ∙ c .before .enum-told4 .given .1) (c .header-number .ensures ∙ ap headerNumber (sym e)))
+
+list-number-requires : tie.Need-list-number-requires
+list-number-requires c κs = (whereIs-at _ _ _ _ (found (c .before .before .before .before .before .before .before .before)) .sound, listed c)
+
+returns-5 : tie.Need-returns-5
+returns-5 c = leaves-unchanged _ _ _ _ (start-listed _ _ _ _ _ (found (c .before .before .before .before .before .before .before .before .before .before)) (c .before .before .before .before .before .before .before .before .if1 .left) (c .before .before .before .before .before .before .enum-told2 .given .1) _ _ (listed (c .before .before)) _ (c .before .list-number .ensures) (c .if2 .taken))
+
+clear-share-requires : tie.Need-clear-share-requires
+clear-share-requires c κs = (below (c .before .before .before .before .before .before .before .before .before .before .before), whereIs-at _ _ _ _ (found (c .before .before .before .before .before .before .before .before .before .before .before)) .whole)
+
+cast-read-ranges : tie.Need-cast-read-ranges
+cast-read-ranges c = search needs
+
+read-ranges-requires : tie.Need-read-ranges-requires
+read-ranges-requires c κs = search needs
+
+cast-t33 : tie.Need-cast-t33
+cast-t33 c = omega (arith, few (c .before .before .before .before .before) .0)
+
+mul-t20 : tie.Need-mul-t20
+mul-t20 c = omega (arith, below (c .before .before .before .before .before .before .before .before .before .before .before .before .before .before .before))
+
+element-set-from-e : tie.Need-element-set-from-e
+element-set-from-e c = below (c .before .before .before .before .before .before .before .before .before .before .before .before .before .before .before)
+
+same-length : tie.Need-same-length
+same-length c = search needs
+
+returns-6 : tie.Need-returns-6
+returns-6 c =
+    let k = c .before .before .before .before .before .before .before .before .before .before .before .before .before .before .before in
+    let a = k .before .before .before .before .before .before .args in
+    let read-few = few (c .before .before .before .before .before) in
+    leaves _ 0 _ _ _ _ (start-done (a .t1) (now (a .marks)) (a .id) (now (a .«data»)) _ (found k) (c .before .before .before .before .before .before .before .before .before .before .before .before .before .if1 .left) (c .before .before .before .before .before .before .before .before .before .before .before .enum-told2 .given .1) _ _ (listed (c .before .before .before .before .before .before .before)) (sym (c .before .before .before .before .before .if2 .left) ∙ c .before .before .before .before .before .before .list-number .ensures))
+    (rw (c .read-ranges .ensures, rangesRead-there _ _ (read-few .0) (read-few .1))) (c .before .before .before .clear-share .ensures)
+
+pub start-spec : {M : Type 1} → statement M
+start-spec =
+    tie.close
+    (tie.spec
+    locate-requires
+    enum-known-place
+    enum-told
+    number-of-requires
+    returns
+    mul-c
+    element-copy-out-c
+    returns-2
+    enum-told-2
+    enum-told-3
+    returns-3
+    read-header-requires
+    enum-known-header
+    enum-told-4
+    header-number-requires
+    returns-4
+    list-number-requires
+    returns-5
+    clear-share-requires
+    cast-read-ranges
+    read-ranges-requires
+    cast-t33
+    mul-t20
+    element-set-from-e
+    same-length
+    returns-6)
