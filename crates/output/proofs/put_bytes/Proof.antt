@@ -1,10 +1,10 @@
--- `session::put_bytes` is safe and ends. The measure is the number of bytes left.
+-- `output::put_bytes` is safe and ends. The measure is the number of bytes left.
 use Prim.Native.Nat.{_≤_, _-_}
 use mathlib.Core.Path.{_≡_}
 use borrow.Author.Needs.{needs}
 use lib.ListN.{length}
-use Rattle.session.proofs.put_bytes.Statement.{statement}
-use Rattle.session.proofs.put_bytes.Tie as tie
+use Rattle.output.proofs.put_bytes.Statement.{statement}
+use Rattle.output.proofs.put_bytes.Tie as tie
 
 abbrev Inv-loop : tie.InvT-loop
 Inv-loop out₀ used text at₀ i₀ out at i = (length out ≡ length out₀) × (i ≤ length text)

@@ -1,9 +1,9 @@
--- `session::receive_into` is safe: the part that it lends lies in the buffer.
+-- `playing::receive_into` is safe: the part that it lends lies in the buffer.
 use mathlib.Core.Path.{sym}
 use lib.Seq.{length-take-le}
 use borrow.Author.Needs.{needs}
-use Rattle.session.proofs.receive_into.Statement.{statement}
-use Rattle.session.proofs.receive_into.Tie as tie
+use Rattle.playing.proofs.receive_into.Statement.{statement}
+use Rattle.playing.proofs.receive_into.Tie as tie
 
 returns : tie.Need-returns
 returns c = search needs

@@ -1,9 +1,9 @@
--- `session::flush` is safe: the bytes that wait lie in the buffer.
+-- `output::flush` is safe: the bytes that wait lie in the buffer.
 use mathlib.Core.Path.{sym}
 use lib.Seq.{length-take-le}
 use borrow.Author.Needs.{needs}
-use Rattle.session.proofs.flush.Statement.{statement}
-use Rattle.session.proofs.flush.Tie as tie
+use Rattle.output.proofs.flush.Statement.{statement}
+use Rattle.output.proofs.flush.Tie as tie
 
 slice-aggregate-write-all : tie.Need-slice-aggregate-write-all
 slice-aggregate-write-all c = sym (length-take-le _ _ (search needs))

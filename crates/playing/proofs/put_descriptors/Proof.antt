@@ -1,9 +1,9 @@
--- `session::put_descriptors` is safe and ends. The measure is the number of descriptors left.
+-- `playing::put_descriptors` is safe and ends. The measure is the number of descriptors left.
 use mathlib.Core.Path.{_≡_}
 use borrow.Author.Needs.{needs}
 use lib.ListN.{length}
-use Rattle.session.proofs.put_descriptors.Statement.{statement}
-use Rattle.session.proofs.put_descriptors.Tie as tie
+use Rattle.playing.proofs.put_descriptors.Statement.{statement}
+use Rattle.playing.proofs.put_descriptors.Tie as tie
 
 abbrev Inv-loop : tie.InvT-loop
 Inv-loop report runs out₀ used at₀ left₀ used₀ out at left used' = length out ≡ length out₀
