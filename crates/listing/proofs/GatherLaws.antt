@@ -13,14 +13,15 @@ use lib.Seq.{drop-drop}
 use Rattle.little.specs.Little.{put}
 use Rattle.little.proofs.Put.{put-cons, put-nil, put-at}
 use Rattle.rules.proofs.ListLaws.{and-left, and-right}
-use Rattle.listing.specs.Listing.{firstField, laterFields, value, isNumber, mostAt, fitting, places}
-use Rattle.listing.specs.Inner.{numberOf, noNumbers, gathered}
-use Rattle.listing.specs.declared.Number.{Number}
-use Rattle.listing.specs.declared.Number.the-variants.{Is, None}
+use Rattle.fields.specs.Fields.{firstField, laterFields, value, isNumber, numberOf}
+use Rattle.listing.specs.Listing.{mostAt, fitting, places}
+use Rattle.listing.specs.Inner.{noNumbers, gathered}
+use Rattle.fields.specs.declared.Number.{Number}
+use Rattle.fields.specs.declared.Number.the-variants.{Is, None}
 use Rattle.listing.specs.declared.Numbers.{Numbers}
 use Rattle.listing.specs.declared.Word.{Word}
-use Rattle.listing.proofs.FieldLaws.{firstField-length, firstField-take, firstField-stop, laterFields-skip, laterFields-at, laterFields-over}
-use Rattle.listing.proofs.NumberLaws.{number-none, number-is, number-value, isNumber-fits}
+use Rattle.fields.proofs.FieldLaws.{firstField-length, firstField-take, firstField-stop, laterFields-skip, laterFields-at, laterFields-over}
+use Rattle.fields.proofs.NumberLaws.{number-none, number-is, number-value, isNumber-fits}
 
 -- ---- the field between two places of a line
 

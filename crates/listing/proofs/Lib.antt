@@ -1,5 +1,4 @@
-mod FieldLaws
-mod NumberLaws
 mod WordLaws
 mod GatherLaws
 mod LineLaws
+pub mod Promise

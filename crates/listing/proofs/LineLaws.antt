@@ -12,13 +12,14 @@ use Rattle.little.specs.Little.{put}
 use Rattle.little.proofs.Put.{put-at}
 use Rattle.rules.specs.Lists.{every}
 use Rattle.rules.proofs.ListLaws.{every-not, false-intro}
-use Rattle.listing.specs.Listing.{firstField, laterFields, value, wordOf, mostAt, takesCount, fitting, plainLine, places, callLine, lineRules, lineOf}
+use Rattle.fields.specs.Fields.{firstField, laterFields, value}
+use Rattle.listing.specs.Listing.{wordOf, mostAt, takesCount, fitting, plainLine, places, callLine, lineRules, lineOf}
 use Rattle.listing.specs.Inner.{noNumbers, gathered, Taken}
 use Rattle.listing.specs.declared.Call.the-variants.{Bad}
 use Rattle.listing.specs.declared.Line.{Line}
 use Rattle.listing.specs.declared.Numbers.{Numbers}
 use Rattle.listing.specs.declared.Word.{Word}
-use Rattle.listing.proofs.FieldLaws.{firstField-take, laterFields-skip}
+use Rattle.fields.proofs.FieldLaws.{firstField-take, laterFields-skip}
 use Rattle.listing.proofs.WordLaws.{takes-few}
 use Rattle.listing.proofs.GatherLaws.{Gathered, allFit, tooMany, unfit, gathered-cases, fitting-at}
 

@@ -1,19 +1,14 @@
 -- What the reader's own functions promise each other; which line is which call is said by Listing.antt alone.
 use Prim.Native.Nat.{ℕ, _+_, _≤_, _<_}
 use mathlib.Core.Path.{_≡_}
-use mathlib.Core.Bool.{Bool, true, false, cond}
+use mathlib.Core.Bool.{true, false, cond}
 use mathlib.Core.List.{List, [], _∷_}
 use lib.Dec.{ltb}
 use lib.ListN.{getD, set, replicate}
-use Rattle.listing.specs.Listing.{value, isNumber, mostAt, takesCount}
-use Rattle.listing.specs.declared.Number.{Number}
-use Rattle.listing.specs.declared.Number.the-variants.{Is, None}
+use Rattle.fields.specs.Fields.{value, isNumber}
+use Rattle.listing.specs.Listing.{mostAt, takesCount}
 use Rattle.listing.specs.declared.Numbers.{Numbers}
 use Rattle.listing.specs.declared.Word.{Word}
-
--- what a field says
-unfoldable pub numberOf : ℕ → List ℕ → Number
-numberOf most f = cond (isNumber most f) (Is (value f)) None
 
 abbrev pub noNumbers : Numbers
 noNumbers = record { ok = false; count = 0; values = replicate 34 0 }

@@ -1,5 +1,6 @@
 // A line of the session listing of document 01, read: the call that it asks for, or that it is bad.
 // Any bytes are met with an answer. Nothing here plays a call.
+use fields::Number;
 use rules::Range;
 ghost use mathlib.Core.Path.{_≡_};
 ghost use mathlib.Core.List.{[]};
@@ -8,8 +9,9 @@ ghost use lib.ListN.{length, getD, drop, replicate};
 ghost use Rattle.little.specs.Little.{put, recordsAt};
 ghost use Rattle.rules.specs.StartData.{placed};
 ghost use Rattle.listing.specs.declared.Word.the-variants as word;
-ghost use Rattle.listing.specs.Listing.{firstField, laterFields, isDigit, leadingZero, sameBytes, wordOf, mostAt, takesCount, plainLine, pairAt, identifierAt, callLine, lineOf};
-ghost use Rattle.listing.specs.Inner.{numberOf, noNumbers, gathered, Taken};
+ghost use Rattle.fields.specs.Fields.{firstField, laterFields};
+ghost use Rattle.listing.specs.Listing.{wordOf, mostAt, takesCount, plainLine, pairAt, identifierAt, callLine, lineOf};
+ghost use Rattle.listing.specs.Inner.{noNumbers, gathered, Taken};
 
 // What a line asks for. `Dev` has its number of identifiers last, `Start` its number of pairs: they stand beside the call.
 pub enum Call {
@@ -63,12 +65,6 @@ pub enum Word {
     Other,
 }
 
-// What a field says: a number, or none that fits.
-pub enum Number {
-    Is(u64),
-    None,
-}
-
 // The numbers after a line's word: whether there are none but such as fit, how many, and zeros in the places after them.
 pub struct Numbers {
     pub ok: bool,
@@ -76,126 +72,34 @@ pub struct Numbers {
     pub values: [u64; 34],
 }
 
-// ---- fields
-
-// Where the field that starts at `from` ends: at the next space, or at the end of the line.
-fn field_end(line: &[u8], from: usize) -> usize
-    requires { ⌜ from ≤ length (now line) ⌝ }
-    ensures { λ r. ⌜ r ≡ from + length (firstField (drop from (now (line .entry)))) ⌝ }
-{
-    let mut i = from;
-    while i < line.len() {
-        if line[i] == b' ' {
-            return i;
-        }
-        i = i + 1;
-    }
-    i
-}
-
-// Whether two rows of bytes are the same.
-fn same(a: &[u8], b: &[u8]) -> bool
-    ensures { λ r. ⌜ r ≡ sameBytes (now (a .entry)) (now (b .entry)) ⌝ }
-{
-    if a.len() != b.len() {
-        return false;
-    }
-    let mut i: usize = 0;
-    while i < a.len() {
-        if a[i] != b[i] {
-            return false;
-        }
-        i = i + 1;
-    }
-    true
-}
+// ---- words
 
 // The word that a field is.
 fn word_of(field: &[u8]) -> Word
     ensures { λ r. ⌜ r ≡ wordOf (now (field .entry)) ⌝ }
 {
-    if same(field, b"dev") {
+    if fields::same(field, b"dev") {
         return Word::Dev;
     }
-    if same(field, b"start") {
+    if fields::same(field, b"start") {
         return Word::Start;
     }
-    if same(field, b"stop") {
+    if fields::same(field, b"stop") {
         return Word::Stop;
     }
-    if same(field, b"write") {
+    if fields::same(field, b"write") {
         return Word::Write;
     }
-    if same(field, b"recv") {
+    if fields::same(field, b"recv") {
         return Word::Recv;
     }
-    if same(field, b"susp") {
+    if fields::same(field, b"susp") {
         return Word::Susp;
     }
-    if same(field, b"resume") {
+    if fields::same(field, b"resume") {
         return Word::Resume;
     }
     Word::Other
-}
-
-// ---- numbers
-
-// A byte as a number of 64 bits.
-fn wide(b: u8) -> u64
-    ensures { λ r. ⌜ r ≡ b ⌝ }
-{
-    b as u64
-}
-
-// Whether a zero stands before another byte.
-fn leading_zero(field: &[u8]) -> bool
-    ensures { λ r. ⌜ r ≡ leadingZero (now (field .entry)) ⌝ }
-{
-    if field.len() < 2 {
-        return false;
-    }
-    field[0] == b'0'
-}
-
-// Whether a byte is a decimal digit.
-fn is_digit(b: u8) -> bool
-    ensures { λ r. ⌜ r ≡ isDigit b ⌝ }
-{
-    if b < b'0' {
-        return false;
-    }
-    b <= b'9'
-}
-
-// The number that a field spells in decimal, if it is at most `most`: digits alone, and no zero before another.
-fn read_number(field: &[u8], most: u64) -> Number
-    ensures { λ r. ⌜ r ≡ numberOf most (now (field .entry)) ⌝ }
-{
-    let n = field.len();
-    if n == 0 {
-        return Number::None;
-    }
-    if leading_zero(field) {
-        return Number::None;
-    }
-    let mut v: u64 = 0;
-    let mut i: usize = 0;
-    while i < n {
-        let b = field[i];
-        if !is_digit(b) {
-            return Number::None;
-        }
-        let d = wide(b - b'0');
-        if most < d {
-            return Number::None;
-        }
-        if (most - d) / 10 < v {
-            return Number::None;
-        }
-        v = 10 * v + d;
-        i = i + 1;
-    }
-    Number::Is(v)
 }
 
 // The greatest number that the place `i` after a word takes.
@@ -304,8 +208,8 @@ fn read_numbers(line: &[u8], end: usize, word: Word) -> Numbers
             return no_numbers();
         }
         let from = at + 1;
-        let to = field_end(line, from);
-        let Number::Is(v) = read_number(&line[from..to], greatest(word, i)) else {
+        let to = fields::field_end(line, from);
+        let Number::Is(v) = fields::read_number(&line[from..to], greatest(word, i)) else {
             return no_numbers();
         };
         values[i] = v;
@@ -340,10 +244,7 @@ fn ranges_of(values: [u64; 34], n: usize) -> [Range; 16]
     requires { ⌜ (n ≤ 16) × ((k : _) → k < n → getD values (2 + 2 * k + 1) 0 ≤ 4294967295) ⌝ }
     ensures { λ r. ⌜ r ≡ placed (recordsAt pairAt 2 values 2 n) ⌝ }
 {
-    let mut a = [Range {
-        start: 0,
-        length: 0,
-    }; 16];
+    let mut a = rules::no_ranges();
     let mut i: usize = 0;
     while i < n {
         let at = 2 + 2 * i;
@@ -362,10 +263,7 @@ fn plain(call: Call) -> Line
     Line {
         call,
         identifiers: [0; 8],
-        ranges: [Range {
-            start: 0,
-            length: 0,
-        }; 16],
+        ranges: rules::no_ranges(),
     }
 }
 
@@ -389,10 +287,7 @@ fn dev_line(values: [u64; 34], count: usize) -> Line
         limit,
         count: n,
     };
-    let ranges = [Range {
-        start: 0,
-        length: 0,
-    }; 16];
+    let ranges = rules::no_ranges();
     Line {
         call,
         identifiers,
@@ -465,7 +360,7 @@ pub fn read_line(line: &[u8]) -> Line
     if line.len() > 1023 {
         return plain(Call::Bad);
     }
-    let end = field_end(line, 0);
+    let end = fields::field_end(line, 0);
     let word = word_of(&line[..end]);
     let read = read_numbers(line, end, word);
     if !read.ok {

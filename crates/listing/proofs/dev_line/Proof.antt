@@ -1,6 +1,6 @@
 -- `listing::dev_line` is right because each number stands at its place, and fits there (`Taken`).
 use native.Mathlib.Omega.{arith}
-use Rattle.little.specs.Little.{put}
+use Rattle.little.proofs.Put.{put-nil}
 use Rattle.listing.specs.Listing.{callLine}
 use Rattle.listing.proofs.WordLaws.{dev-least, dev-most, dev-identifiers, small-dev}
 use borrow.Author.Needs.{needs}
@@ -40,9 +40,12 @@ array-read-limit c = search needs
 cast-limit : tie.Need-cast-limit
 cast-limit c = omega (arith, small-dev _ _ (c .before .pre) .3)
 
+no-ranges-requires : tie.Need-no-ranges-requires
+no-ranges-requires c κs = search needs
+
 returns : tie.Need-returns
-unfolding callLine put
-returns c = rw (c .identifiers-of .ensures)
+unfolding callLine
+returns c = rw (c .before .identifiers-of .ensures, c .no-ranges .ensures, put-nil)
 
 pub dev-line-spec : {M : Type 1} → statement M
 dev-line-spec =
@@ -59,4 +62,5 @@ dev-line-spec =
     array-read-powers
     array-read-limit
     cast-limit
+    no-ranges-requires
     returns)

@@ -19,8 +19,11 @@ Inv-loop n values a₀ i₀ a i =
 abbrev μ-loop : tie.MeasureT-loop
 μ-loop n values a₀ i₀ a i = n - i
 
+no-ranges-requires : tie.Need-no-ranges-requires Inv-loop μ-loop
+no-ranges-requires c κs = search needs
+
 loop-holds : tie.Need-loop-holds Inv-loop μ-loop
-loop-holds c = (search needs, search needs, recordsAt-start _ _ _ _ _ _)
+loop-holds c = (rw (c .no-ranges .ensures), search needs, rw (c .no-ranges .ensures) (recordsAt-start _ _ _ _ _ _))
 
 mul-at : tie.Need-mul-at Inv-loop μ-loop
 mul-at c = search needs
@@ -44,7 +47,7 @@ array-read-length : tie.Need-array-read-length Inv-loop μ-loop
 array-read-length c = search needs
 
 cast-length : tie.Need-cast-length Inv-loop μ-loop
-cast-length c = omega (arith, c .before .before .pre .1 (c .before .loop .i) (omega arith))
+cast-length c = omega (arith, c .before .before .before .pre .1 (c .before .loop .i) (omega arith))
 
 mul-a : tie.Need-mul-a Inv-loop μ-loop
 mul-a c = search needs
@@ -70,6 +73,7 @@ ranges-of-spec =
     (tie.spec
     Inv-loop
     μ-loop
+    no-ranges-requires
     loop-holds
     mul-at
     add-at

@@ -7,7 +7,7 @@ use mathlib.Core.List.{[]}
 use native.Mathlib.Omega.{arith}
 use borrow.Author.Needs.{needs}
 use lib.ListN.{length, length-set, drop, replicate}
-use Rattle.listing.specs.Listing.{firstField, laterFields}
+use Rattle.fields.specs.Fields.{firstField, laterFields}
 use Rattle.listing.specs.Inner.{gathered}
 use Rattle.listing.proofs.GatherLaws.{field-most, field-next, gathered-over, gathered-many, gathered-none, gathered-again}
 use Rattle.listing.proofs.read_numbers.Statement.{statement}

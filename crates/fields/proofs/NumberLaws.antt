@@ -12,9 +12,8 @@ use lib.ListN.{length, getD, drop, set, replicate, drop-of-length-le}
 use lib.Seq.{drop-cons}
 use Rattle.rules.specs.Lists.{all, every}
 use Rattle.rules.proofs.ListLaws.{every-at, every-not, and-left, and-right}
-use Rattle.listing.specs.Listing.{isDigit, leadingZero, spelled, value, numberRules, isNumber}
-use Rattle.listing.specs.Inner.{numberOf}
-use Rattle.listing.specs.declared.Number.the-variants.{Is, None}
+use Rattle.fields.specs.Fields.{isDigit, leadingZero, spelled, value, numberRules, isNumber, numberOf}
+use Rattle.fields.specs.declared.Number.the-variants.{Is, None}
 
 -- more digits spell no smaller number
 pub spelled-least : (v : ℕ) (s : List ℕ) → v ≤ spelled v s

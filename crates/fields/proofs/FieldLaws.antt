@@ -11,7 +11,7 @@ use borrow.Author.Tests.{eq-eqb, ne-eqb, eqb-true}
 use lib.Dec.{eqb}
 use lib.ListN.{length, getD, take, drop, drop-of-length-le}
 use lib.Seq.{drop-cons}
-use Rattle.listing.specs.Listing.{firstField, laterFields, sameBytes}
+use Rattle.fields.specs.Fields.{firstField, laterFields, sameBytes}
 
 -- ---- firstField
 

@@ -1,7 +1,7 @@
--- `listing::is_digit` is right because it makes the two tests of `isDigit`.
+-- `fields::is_digit` is right because it makes the two tests of `isDigit`.
 use borrow.Author.Tests.{lt-leb, le-leb}
-use Rattle.listing.proofs.is_digit.Statement.{statement}
-use Rattle.listing.proofs.is_digit.Tie as tie
+use Rattle.fields.proofs.is_digit.Statement.{statement}
+use Rattle.fields.proofs.is_digit.Tie as tie
 
 returns : tie.Need-returns
 returns c = rw (lt-leb 48 _ (c .if1 .taken))

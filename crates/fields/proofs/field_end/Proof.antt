@@ -1,13 +1,13 @@
--- `listing::field_end` is right because each turn passes a byte of the field.
+-- `fields::field_end` is right because each turn passes a byte of the field.
 -- The loop's invariant: what is left of the field from `i` on ends where the field ends. The measure is what is left of the line.
 use Prim.Native.Nat.{_≤_, _+_, _-_}
 use mathlib.Core.Path.{_≡_}
 use borrow.Author.Needs.{needs}
 use lib.ListN.{length, drop}
-use Rattle.listing.specs.Listing.{firstField}
-use Rattle.listing.proofs.FieldLaws.{field-stop, field-again, field-over}
-use Rattle.listing.proofs.field_end.Statement.{statement}
-use Rattle.listing.proofs.field_end.Tie as tie
+use Rattle.fields.specs.Fields.{firstField}
+use Rattle.fields.proofs.FieldLaws.{field-stop, field-again, field-over}
+use Rattle.fields.proofs.field_end.Statement.{statement}
+use Rattle.fields.proofs.field_end.Tie as tie
 
 abbrev Inv-loop : tie.InvT-loop
 Inv-loop line from i₀ i = (i ≤ length line) × (from + length (firstField (drop from line)) ≡ i + length (firstField (drop i line)))

@@ -1,13 +1,13 @@
--- `listing::same` is right because each turn compares two bytes at one place.
+-- `fields::same` is right because each turn compares two bytes at one place.
 -- The loop's invariant: what is left from `i` on is the same exactly if all is. The measure is what is left.
 use Prim.Native.Nat.{_≤_, _-_}
 use mathlib.Core.Path.{_≡_}
 use borrow.Author.Needs.{needs}
 use lib.ListN.{length, drop}
-use Rattle.listing.specs.Listing.{sameBytes}
-use Rattle.listing.proofs.FieldLaws.{same-length, same-differs, same-again, same-over}
-use Rattle.listing.proofs.same.Statement.{statement}
-use Rattle.listing.proofs.same.Tie as tie
+use Rattle.fields.specs.Fields.{sameBytes}
+use Rattle.fields.proofs.FieldLaws.{same-length, same-differs, same-again, same-over}
+use Rattle.fields.proofs.same.Statement.{statement}
+use Rattle.fields.proofs.same.Tie as tie
 
 abbrev Inv-loop : tie.InvT-loop
 Inv-loop a b i₀ i = (i ≤ length a) × (length a ≡ length b) × (sameBytes (drop i a) (drop i b) ≡ sameBytes a b)

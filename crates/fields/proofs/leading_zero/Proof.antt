@@ -1,8 +1,8 @@
--- `listing::leading_zero` is right because it makes the two tests of `leadingZero`.
+-- `fields::leading_zero` is right because it makes the two tests of `leadingZero`.
 use borrow.Author.Tests.{lt-leb, le-leb}
 use borrow.Author.Needs.{needs}
-use Rattle.listing.proofs.leading_zero.Statement.{statement}
-use Rattle.listing.proofs.leading_zero.Tie as tie
+use Rattle.fields.proofs.leading_zero.Statement.{statement}
+use Rattle.fields.proofs.leading_zero.Tie as tie
 
 returns : tie.Need-returns
 returns c = rw (lt-leb 2 _ (c .if1 .taken))

@@ -1,4 +1,4 @@
--- `listing::read_number` is right because each turn passes a digit, and the number so far is no greater than the whole one.
+-- `fields::read_number` is right because each turn passes a digit, and the number so far is no greater than the whole one.
 -- The loop's invariant: the bytes left spell the field's number behind `v`, and are digits exactly if all are. The measure is the number of bytes left.
 use Prim.Native.Nat.{_≤_, _<_, _-_}
 use mathlib.Core.Path.{_≡_, refl, sym, _∙_}
@@ -8,10 +8,10 @@ use borrow.Author.Tests.{not-true, not-false}
 use borrow.Author.Needs.{needs}
 use lib.ListN.{length, getD, drop}
 use Rattle.rules.specs.Lists.{all}
-use Rattle.listing.specs.Listing.{isDigit, leadingZero, spelled, value}
-use Rattle.listing.proofs.NumberLaws.{digit-least, number-empty, number-zero, number-other, number-over, digits-again, spelled-again, number-whole}
-use Rattle.listing.proofs.read_number.Statement.{statement}
-use Rattle.listing.proofs.read_number.Tie as tie
+use Rattle.fields.specs.Fields.{isDigit, leadingZero, spelled, value}
+use Rattle.fields.proofs.NumberLaws.{digit-least, number-empty, number-zero, number-other, number-over, digits-again, spelled-again, number-whole}
+use Rattle.fields.proofs.read_number.Statement.{statement}
+use Rattle.fields.proofs.read_number.Tie as tie
 
 abbrev Inv-loop : tie.InvT-loop
 Inv-loop field most n v₀ i₀ v i =
