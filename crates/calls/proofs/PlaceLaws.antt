@@ -10,7 +10,7 @@ use Rattle.record.specs.Record.{noController, whereIs}
 use Rattle.record.specs.declared.Place.{Place}
 use Rattle.record.specs.declared.Place.the-variants.{At, Refused}
 use Rattle.record.proofs.RecordLaws.{whereIs-at, soundDevice-held}
-use Rattle.record.proofs.RangeLaws.{HeldFacts}
+use Rattle.ranges.proofs.RangeLaws.{HeldFacts}
 use Rattle.calls.specs.Inner.{placeNumber}
 use Rattle.calls.specs.Calls.{shareAt}
 

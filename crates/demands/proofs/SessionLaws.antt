@@ -15,7 +15,7 @@ use Rattle.rules.specs.History.{historyOf}
 use Rattle.rules.specs.Demands.{lentBytes}
 use Rattle.rules.specs.declared.Settings.{Settings}
 use Rattle.rules.proofs.ListLaws.{All}
-use Rattle.record.proofs.SettingsLaws.{settingsOk-count}
+use Rattle.settings.proofs.SettingsLaws.{settingsOk-count}
 use Rattle.calls.specs.Calls.{freshChange}
 use Rattle.demands.specs.View.{slotsFrom, view, run}
 use Rattle.demands.specs.Sessions.{Left, begun, outcome, next, leftAfter, answersTo, bytesTo}

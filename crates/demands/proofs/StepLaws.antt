@@ -36,7 +36,7 @@ use Rattle.rules.proofs.OrderLaws.{StartPassed, startOrder-passed}
 use Rattle.rules.proofs.StartLaws.{rangesOf-length}
 use Rattle.rules.proofs.Isolation.{withSlot-slotAt}
 use Rattle.record.specs.Record.{soundWith, noController, controllerAt, withController, isOn, seenIn}
-use Rattle.record.proofs.RangeLaws.{listTests-numbers, listTests-facts}
+use Rattle.ranges.proofs.RangeLaws.{listTests-numbers, listTests-facts}
 use Rattle.record.proofs.RecordLaws.{soundDevice-facts, soundDevice-held}
 use Rattle.calls.specs.Calls.{shareAt, marksAt, withMarks, withClear, Change, changed, started, startDone, startChange, stopped, stopDone, stopChange, flagged, flagDone, suspendChange, resumeChange, Note, noted, noteIn, writeDone, writeNote, Receipt, received, receiveIn, receiveDone, receiveReceipt}
 use Rattle.calls.specs.declared.Changed.{Changed}

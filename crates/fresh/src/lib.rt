@@ -64,7 +64,7 @@ fn closed() -> Device
 pub fn fresh(s: Settings, marks: &mut [u64]) -> Changed
     ensures { λ r. ⌜ (r ≡ freshChange s (now (marks .entry)) .answer) × (now (marks .exit) ≡ freshChange s (now (marks .entry)) .marks) ⌝ }
 {
-    if !record::settings_ok(s) {
+    if !settings::settings_ok(s) {
         let device = closed();
         return Changed { number: 16, device };
     }

@@ -1,5 +1,1 @@
-pub mod LoopLaws
-pub mod SettingsLaws
-pub mod PowerLaws
-pub mod RangeLaws
 pub mod RecordLaws

@@ -22,13 +22,14 @@ use Rattle.rules.specs.declared.Device.{Device}
 use Rattle.rules.proofs.ListLaws.{every-not, all-map, and-left, and-right, placeFrom-is, front-at, front-end}
 use Rattle.rules.proofs.RefusalLaws.{passes-Passed}
 use Rattle.rules.proofs.SoundLaws.{sound-settings, sound-held, sound-limit}
-use Rattle.record.specs.Record.{noController, countsOf, foundAt, soundWith, placeAt, whereIs, seenIn}
-use Rattle.record.specs.declared.Found.the-variants as found
-use Rattle.record.specs.declared.Found.the-variants.{Nothing}
+use Rattle.record.specs.Record.{noController, countsOf, soundWith, placeAt, whereIs, seenIn}
+use Rattle.settings.specs.Found.{foundAt}
+use Rattle.settings.specs.declared.Found.the-variants as found
+use Rattle.settings.specs.declared.Found.the-variants.{Nothing}
 use Rattle.record.specs.declared.Place.the-variants.{At, Refused}
-use Rattle.record.proofs.LoopLaws.{all-front}
-use Rattle.record.proofs.SettingsLaws.{settingsOk-count, settingsOk-greatest, settingsOk-limit}
-use Rattle.record.proofs.RangeLaws.{HeldFacts, listTests-facts}
+use Rattle.rules.proofs.LoopLaws.{all-front}
+use Rattle.settings.proofs.SettingsLaws.{settingsOk-count, settingsOk-greatest, settingsOk-limit}
+use Rattle.ranges.proofs.RangeLaws.{HeldFacts, listTests-facts}
 
 -- ---- the counts: a loop over the controllers, at i
 

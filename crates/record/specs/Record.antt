@@ -14,15 +14,8 @@ use Rattle.rules.specs.declared.Tracking.{Tracking}
 use Rattle.rules.specs.declared.Tracking.the-variants.{Off, On}
 use Rattle.rules.specs.declared.Controller.{Controller}
 use Rattle.rules.specs.declared.Device.{Device}
-use Rattle.record.specs.declared.Found.{Found}
-use Rattle.record.specs.declared.Found.the-variants.{At, Nothing}
 use Rattle.record.specs.declared.Place.{Place}
 use Rattle.record.specs.declared.Place.the-variants as place
-
--- a place as the search answers it
-abbrev pub foundAt : Option ℕ → Found
-foundAt none = Nothing
-foundAt (some i) = At i
 
 -- refusal 1: the record is sound and the marks are 512 words
 unfoldable pub soundWith : Device → ℕ → Bool

@@ -1,4 +1,5 @@
 pub mod ListLaws
+pub mod LoopLaws
 pub mod RefusalLaws
 pub mod UnitLaws
 pub mod RunLaws

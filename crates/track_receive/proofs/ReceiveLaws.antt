@@ -24,7 +24,7 @@ use Rattle.rules.proofs.RunLaws.{runs-length-le, pending-length-le}
 use Rattle.record.specs.Record.{noController, whereIs, seenIn}
 use Rattle.record.specs.declared.Place.the-variants.{At, Refused}
 use Rattle.record.proofs.RecordLaws.{Located, whereIs-at, whereIs-refused}
-use Rattle.record.proofs.RangeLaws.{RowFacts}
+use Rattle.ranges.proofs.RangeLaws.{RowFacts}
 use Rattle.calls.specs.Calls.{shareAt, withMarks, marksAt, Receipt, received, reportIn, receiveDone, receiveReceipt}
 use Rattle.scan.specs.Scan.{RangesEnd, Lists}
 use Rattle.calls.specs.declared.Received.{Received}

@@ -26,7 +26,7 @@ use Rattle.rules.proofs.RefusalLaws.{Passed, passes-Passed, refusal-first, refu
 use Rattle.record.specs.Record.{noController, withController, whereIs, seenIn, countsOf}
 use Rattle.record.specs.declared.Place.the-variants.{At, Refused}
 use Rattle.record.proofs.RecordLaws.{Located, whereIs-at, whereIs-refused}
-use Rattle.record.proofs.RangeLaws.{listTests-numbers}
+use Rattle.ranges.proofs.RangeLaws.{listTests-numbers}
 use Rattle.start_data.specs.Answer.{headerNumber}
 use Rattle.start_data.proofs.Answers.{headerOf-is, HeaderIs, headerOf-refused, HeaderRefused, noHeader, otherVersion}
 use Rattle.calls.specs.Calls.{changed, withClear, shareAt, startDone, startChange}

@@ -47,7 +47,7 @@ fn list_number(d: Device, g: u8, n: u32, data: &[u8]) -> u8
     ensures { λ r. ⌜ r ≡ refusal (listedTests (d .settings) (countsOf d) (now («data» .entry))) ⌝ }
 {
     let s = d.settings;
-    if !record::granularity_ok(s, g) {
+    if !settings::granularity_ok(s, g) {
         return 7;
     }
     let count = n as usize;
@@ -58,7 +58,7 @@ fn list_number(d: Device, g: u8, n: u32, data: &[u8]) -> u8
         return 9;
     }
     let ranges = start_data::read_ranges(data, count);
-    let number = record::list_refusal(s, g, count as u8, ranges);
+    let number = ranges::list_refusal(s, g, count as u8, ranges);
     if number != 0 {
         return number;
     }

@@ -20,8 +20,9 @@ use Rattle.rules.specs.Order.{writeOrder}
 use Rattle.rules.specs.declared.Device.{Device}
 use Rattle.rules.specs.declared.Tracking.{Tracking}
 use Rattle.rules.specs.declared.Tracking.the-variants.{Off, On}
-use Rattle.record.specs.Record.{noController, whereIs, seenIn, soundWith, foundAt, placeAt}
-use Rattle.record.specs.declared.Found.the-variants as found
+use Rattle.record.specs.Record.{noController, whereIs, seenIn, soundWith, placeAt}
+use Rattle.settings.specs.Found.{foundAt}
+use Rattle.settings.specs.declared.Found.the-variants as found
 use Rattle.record.specs.declared.Place.the-variants.{At, Refused}
 use Rattle.record.proofs.RecordLaws.{Located, whereIs-at, whereIs-refused}
 use Rattle.calls.specs.Calls.{shareAt, withMarks, marksAt, noted, writeDone, writeNote}

@@ -2,10 +2,10 @@
 // afterwards.
 
 use calls::Written;
-use record::Found;
 use rules::Bytes;
 use rules::Device;
 use rules::Tracking;
+use settings::Found;
 ghost use mathlib.Core.Path.{_≡_};
 ghost use mathlib.Core.Bool.{true};
 ghost use lib.ListN.{length};
@@ -19,7 +19,7 @@ fn note(d: Device, marks: &mut [u64], id: u16, at: u64, bytes: Bytes) -> Written
     ensures { λ r. ⌜ (r ≡ writeNote d (now (marks .entry)) id (record { address = at; bytes = bytes .0 }) .answer)
         × (now (marks .exit) ≡ writeNote d (now (marks .entry)) id (record { address = at; bytes = bytes .0 }) .marks) ⌝ }
 {
-    let Found::At(i) = record::find(d.settings, id) else {
+    let Found::At(i) = settings::find(d.settings, id) else {
         return Written {
             number: 2,
             count: 0,
@@ -53,7 +53,7 @@ fn note(d: Device, marks: &mut [u64], id: u16, at: u64, bytes: Bytes) -> Written
         };
     };
     let ranges = c.ranges;
-    let size = record::unit_size(g);
+    let size = ranges::unit_size(g);
     let count = marking::mark_ranges(
         marks,
         4096 * i,

@@ -2,7 +2,7 @@ use mathlib.Core.Path.{refl, sym, _∙_}
 use denote.Ref.{now}
 use borrow.Author.Needs.{needs}
 use borrow.Author.Tests.{not-true, not-false}
-use Rattle.record.proofs.SettingsLaws.{settingsOk-count}
+use Rattle.settings.proofs.SettingsLaws.{settingsOk-count}
 use Rattle.calls.proofs.Answers.{leaves}
 use Rattle.fresh.proofs.FreshLaws.{clear-words, fresh-settings, fresh-words, fresh-done}
 use Rattle.fresh.proofs.fresh.Statement.{statement}
@@ -10,7 +10,7 @@ use Rattle.fresh.proofs.fresh.Tie as tie
 use Rattle.fresh.proofs.fresh.Reads as reads
 use Rattle.fresh.proofs.fresh.Lts as lts
 use Rattle.bits.proofs.clear_span.Reads as clear-span-reads
-use Rattle.record.proofs.settings_ok.Reads as settings-ok-reads
+use Rattle.settings.proofs.settings_ok.Reads as settings-ok-reads
 use Rattle.fresh.proofs.clean.Reads as clean-reads
 use Rattle.fresh.proofs.closed.Reads as closed-reads
 use Rattle.fresh.proofs.untracked.Reads as untracked-reads

@@ -3,8 +3,8 @@ use mathlib.Core.Path.{sym, _∙_}
 use native.Mathlib.Omega.{arith}
 use borrow.Author.Needs.{needs}
 use borrow.Author.Tests.{not-true, not-false}
-use Rattle.record.proofs.SettingsLaws.{granularityOk-greatest}
-use Rattle.record.proofs.RangeLaws.{listTests-none}
+use Rattle.settings.proofs.SettingsLaws.{granularityOk-greatest}
+use Rattle.ranges.proofs.RangeLaws.{listTests-none}
 use Rattle.record.proofs.RecordLaws.{heldOk-off, heldOk-seven, heldOk-on}
 use Rattle.record.proofs.controller_ok.Statement.{statement}
 use Rattle.record.proofs.controller_ok.Tie as tie

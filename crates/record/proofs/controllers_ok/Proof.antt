@@ -9,7 +9,7 @@ use lib.ListN.{length, drop}
 use Rattle.rules.specs.Lists.{all}
 use Rattle.rules.specs.Device.{heldOf, heldOk, controllersOf}
 use Rattle.record.specs.Record.{noController}
-use Rattle.record.proofs.LoopLaws.{all-miss, all-next, all-end, length-mapped}
+use Rattle.rules.proofs.LoopLaws.{all-miss, all-next, all-end, length-mapped}
 use Rattle.record.proofs.controllers_ok.Statement.{statement}
 use Rattle.record.proofs.controllers_ok.Tie as tie
 

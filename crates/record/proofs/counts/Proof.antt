@@ -9,7 +9,7 @@ use lib.ListN.{length, drop}
 use Rattle.rules.specs.Lists.{sum}
 use Rattle.rules.specs.Device.{heldCount, heldOf, controllersOf}
 use Rattle.record.specs.Record.{countsOf}
-use Rattle.record.proofs.LoopLaws.{length-mapped}
+use Rattle.rules.proofs.LoopLaws.{length-mapped}
 use Rattle.record.proofs.RecordLaws.{countsOf-next, countsOf-end}
 use Rattle.record.proofs.counts.Statement.{statement}
 use Rattle.record.proofs.counts.Tie as tie

@@ -5,7 +5,7 @@ use mathlib.Core.Bool.{true}
 use borrow.Author.Needs.{needs}
 use borrow.Author.Tests.{not-true, not-false}
 use Rattle.rules.specs.Settings.{settingsOk}
-use Rattle.record.proofs.SettingsLaws.{settingsOk-count, settingsOk-greatest}
+use Rattle.settings.proofs.SettingsLaws.{settingsOk-count, settingsOk-greatest}
 use Rattle.record.proofs.RecordLaws.{soundDevice-settings-not, soundDevice-held-not, soundDevice-last}
 use Rattle.record.proofs.sound.Statement.{statement}
 use Rattle.record.proofs.sound.Tie as tie

@@ -11,8 +11,8 @@ use Rattle.rules.proofs.UnitLaws.{unitSize-pos}
 use Rattle.record.specs.Record.{noController, whereIs}
 use Rattle.record.specs.declared.Place.the-variants.{At, Refused}
 use Rattle.record.proofs.RecordLaws.{whereIs-at}
-use Rattle.record.proofs.LoopLaws.{length-mapped}
-use Rattle.record.proofs.RangeLaws.{HeldFacts}
+use Rattle.rules.proofs.LoopLaws.{length-mapped}
+use Rattle.ranges.proofs.RangeLaws.{HeldFacts}
 use Rattle.calls.proofs.PlaceLaws.{refused-place, held-at, share-within}
 use Rattle.track_receive.proofs.ReceiveLaws.{receives-nothing, rows-end, receive-refused, receive-off, receive-short, receive-done, lists-few}
 use Rattle.track_receive.proofs.receive.Statement.{statement}

@@ -10,7 +10,7 @@ use Rattle.little.specs.Little.{recordsAt}
 use Rattle.rules.specs.StartData.{rangeAt, placed}
 use Rattle.start_data.proofs.Answers.{rangesRead-there}
 use Rattle.record.proofs.RecordLaws.{soundDevice-facts}
-use Rattle.record.proofs.SettingsLaws.{granularityOk-greatest}
+use Rattle.settings.proofs.SettingsLaws.{granularityOk-greatest}
 use Rattle.track_send.proofs.StartedLaws.{listed-granularity, listed-short, listed-many, listed-rules, listed-limit, listed-passed}
 use Rattle.track_send.proofs.list_number.Statement.{statement}
 use Rattle.track_send.proofs.list_number.Tie as tie

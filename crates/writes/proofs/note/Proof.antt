@@ -11,8 +11,8 @@ use Rattle.rules.proofs.UnitLaws.{unitSize-pos}
 use Rattle.record.specs.Record.{noController, whereIs}
 use Rattle.record.specs.declared.Place.the-variants.{At}
 use Rattle.record.proofs.RecordLaws.{whereIs-at}
-use Rattle.record.proofs.LoopLaws.{length-mapped}
-use Rattle.record.proofs.RangeLaws.{HeldFacts}
+use Rattle.rules.proofs.LoopLaws.{length-mapped}
+use Rattle.ranges.proofs.RangeLaws.{HeldFacts}
 use Rattle.marking.specs.Note.{writeTo}
 use Rattle.calls.proofs.Answers.{notes}
 use Rattle.writes.proofs.WriteLaws.{sound-found, sound-nothing, write-refused, write-suspended, write-past, write-off, write-empty, write-done}

@@ -1,0 +1,189 @@
+-- Laws of the range rules (9, 10 and 11) as the code asks them: one range, two ranges, each rule of the table, the answer; and what ranges that
+-- pass are known by (`RowFacts`, `HeldFacts`). All of it is the library's interface. Assumes nothing.
+use Prim.Native.Nat.{ℕ, suc, _+_, _-_, _%_, _^_, _<_, _≤_}
+use mathlib.Core.Path.{_≡_, refl, _∙_}
+use mathlib.Core.Bool.{true, false, cond, and-true, and-false, or-comm}
+use mathlib.Core.List.{List, [], _∷_, map}
+use native.Mathlib.Omega.{arith}
+use native.Mathlib.Nat.{mul-pos, lt-of-lt-of-le}
+use lib.Dec.{leb, eqb}
+use lib.ListN.{length, getD}
+use lib.Pow.{pow-pos, pow-mono, shl-lt}
+use borrow.Author.Tests.{leb-true, le-leb, lt-leb, eqb-true, eq-eqb, ne-eqb}
+use Rattle.rules.specs.Lists.{all, every, pairs, sum}
+use Rattle.rules.specs.Refusals.{Test, _else_, passes, refusal}
+use Rattle.rules.specs.Settings.{granularityOk, unitSize, bytesOf}
+use Rattle.rules.specs.Units.{units}
+use Rattle.rules.specs.Ranges.{endOf, rowTests, rowsTests, apart, rangeTests, isPower, powersOk, unitsOk, listTests}
+use Rattle.rules.specs.declared.Range.{Range}
+use Rattle.rules.specs.declared.Settings.{Settings}
+use Rattle.rules.proofs.ListLaws.{All, All-map, All-append, or-intro-left, or-cases, bool-ext, every-not}
+use Rattle.rules.proofs.RefusalLaws.{Passed, Passed-left, Passed-right, refusal-alike, refusal-none, passes-all, passes-append, passes-Passed}
+use Rattle.rules.proofs.UnitLaws.{unitsFrom-length}
+use Rattle.settings.proofs.SettingsLaws.{granularityOk-greatest}
+
+-- ---- bytes
+
+-- the bytes of fewer than 2^32 units fit 64 bits, at every granularity from 0 to 20
+pub bytesOf-fits : (g u : ℕ) → g ≤ 20 → u < 4294967296 → bytesOf g u < 2 ^ 64
+bytesOf-fits g u h k = lt-of-lt-of-le (shl-lt 32 (12 + g) k) (pow-mono {i = 32 + (12 + g)} {j = 64} (omega arith))
+
+-- some units are some bytes
+pub bytesOf-pos : (g u : ℕ) → 1 ≤ u → 1 ≤ bytesOf g u
+bytesOf-pos g u h = mul-pos h (pow-pos (12 + g))
+
+-- ---- one range
+
+-- two orders that say each other are one test
+pub leb-ext : (a b c d : ℕ) → (a ≤ b → c ≤ d) → (c ≤ d → a ≤ b) → leb a b ≡ leb c d
+leb-ext a b c d f g = bool-ext (leb a b) (leb c d) (λ e. le-leb c d (f (leb-true a b e))) (λ e. le-leb a b (g (leb-true c d e)))
+
+-- what a range that passes 9 by itself is known by
+pub record RowFacts (g : ℕ) (r : Range) : Type 0 where
+  pub some : 1 ≤ r .length
+  pub aligned : r .start % unitSize g ≡ 0
+  pub within : endOf g r ≤ 2 ^ 64
+
+module _ (g : ℕ) (r : Range) where
+  -- its length is below 1, or its start is no multiple of the unit
+  pub rowTests-short : r .length < 1 → passes (rowTests g 0 r) ≡ false
+  rowTests-short h = rw (lt-leb 1 (r .length) h)
+
+  pub rowTests-askew : (u : ℕ) → u ≡ unitSize g → (r .start % u ≡ 0 → ⊥) → passes (rowTests g 0 r) ≡ false
+  rowTests-askew u e h = rw (ne-eqb (r .start % unitSize g) 0 (rw e at h), and-false (leb 1 (r .length)))
+
+  -- else it is left where it ends, which is asked without a sum: its last byte stands at most at the last address
+  pub rowTests-end : (u b : ℕ) → 1 ≤ r .length → u ≡ unitSize g → r .start % u ≡ 0 → b ≡ bytesOf g (r .length) → r .start < 2 ^ 64
+      → leb (b - 1) (18446744073709551615 - r .start) ≡ passes (rowTests g 0 r)
+  rowTests-end u b h e m k l =
+      let p = bytesOf-pos g (r .length) h in
+      rw (le-leb 1 (r .length) h, eq-eqb (r .start % unitSize g) 0 (rw e at m), and-true (leb (endOf g r) (2 ^ 64)))
+      (leb-ext (b - 1) (18446744073709551615 - r .start) (endOf g r) (2 ^ 64) (λ n. omega arith) (λ n. omega arith))
+
+  pub rowTests-facts : passes (rowTests g 0 r) ≡ true → RowFacts g r
+  rowTests-facts e =
+      let p = passes-Passed (rowTests g 0 r) e in
+      record {
+        some = leb-true 1 (r .length) (p .0);
+        aligned = eqb-true (r .start % unitSize g) 0 (p .1 .0);
+        within = leb-true (endOf g r) (2 ^ 64) (p .1 .1 .0);
+      }
+
+-- ---- two ranges, by the distance of their starts
+
+pub apart-first : (g : ℕ) (r q : Range) (b : ℕ) → b ≡ bytesOf g (r .length) → 1 ≤ q .length → r .start ≤ q .start → leb b (q .start - r .start) ≡ apart g r q
+apart-first g r q b e h k =
+    let p = bytesOf-pos g (q .length) h in
+    bool-ext (leb b (q .start - r .start)) (apart g r q)
+    (λ t. let l = leb-true b (q .start - r .start) t in or-intro-left (leb (endOf g r) (q .start)) _ (le-leb (endOf g r) (q .start) (omega arith)))
+    (λ t. or-cases (leb (endOf g r) (q .start)) (leb (endOf g q) (r .start)) (leb b (q .start - r .start) ≡ true) t
+    (λ u. let l = leb-true (endOf g r) (q .start) u in le-leb b (q .start - r .start) (omega arith))
+    (λ u. let l = leb-true (endOf g q) (r .start) u in absurd (omega arith)))
+
+pub apart-last : (g : ℕ) (r q : Range) (b : ℕ) → b ≡ bytesOf g (q .length) → 1 ≤ r .length → q .start < r .start → leb b (r .start - q .start) ≡ apart g r q
+apart-last g r q b e h k = apart-first g q r b e h (omega arith) ∙ or-comm (leb (endOf g q) (r .start)) (leb (endOf g r) (q .start))
+
+-- ---- 10
+
+-- where the rule is off, and where it is on
+pub powersOk-off : (s : Settings) (rs : List Range) → s .powers ≡ false → powersOk s rs ≡ true
+unfolding powersOk
+powersOk-off s rs e = rw e
+
+pub powersOk-on : (s : Settings) (rs : List Range) → s .powers ≡ true → powersOk s rs ≡ all (λ (r : Range). isPower (r .length)) rs
+unfolding powersOk
+powersOk-on s rs e = rw e
+
+-- ---- 9: the rows, and the whole table, as the code tests them
+
+pub rowsTests-number : (g row : ℕ) (rs : List Range) → All (λ (t : Test). t .number ≡ 9) (rowsTests g row rs)
+rowsTests-number g row [] = tt
+rowsTests-number g row (r ∷ rs) = (refl, (refl, (refl, rowsTests-number g (suc row) rs)))
+
+pub rangeTests-number : (g n : ℕ) (rs : List Range) → All (λ (t : Test). t .number ≡ 9) (rangeTests g n rs)
+unfolding rangeTests
+rangeTests-number g n rs =
+    (refl, (refl, All-append (λ (t : Test). t .number ≡ 9) (rowsTests g 0 rs) ((pairs (apart g) rs else 9) ∷ []) (rowsTests-number g 0 rs) (refl, tt)))
+
+-- a row's tests are passed or not wherever it is listed
+pub rowsTests-passes : (g row : ℕ) (rs : List Range) → passes (rowsTests g row rs) ≡ all (λ r. passes (rowTests g 0 r)) rs
+rowsTests-passes g row [] = refl
+rowsTests-passes g row (r ∷ rs) = passes-append (rowTests g row r) (rowsTests g (suc row) rs) ∙ rw (rowsTests-passes g (suc row) rs)
+
+-- what 9 asks, rule by rule
+pub rangeTests-passes : (g n : ℕ) (rs : List Range)
+    → passes (rangeTests g n rs) ≡ every (leb 1 n ∷ leb n 16 ∷ all (λ r. passes (rowTests g 0 r)) rs ∷ pairs (apart g) rs ∷ [])
+unfolding rangeTests
+rangeTests-passes g n rs = rw (passes-append (rowsTests g 0 rs) ((pairs (apart g) rs else 9) ∷ []), rowsTests-passes g 0 rs)
+
+pub rangeTests-passed : (g n : ℕ) (rs : List Range) → 1 ≤ n → n ≤ 16 → all (λ r. passes (rowTests g 0 r)) rs ≡ true → pairs (apart g) rs ≡ true → passes (rangeTests g n rs) ≡ true
+rangeTests-passed g n rs h k e f = rangeTests-passes g n rs ∙ rw (le-leb 1 n h, le-leb n 16 k, e, f)
+
+-- ---- 9, 10 and 11
+
+-- 11 asks for the sum of the lengths
+pub unitsOk-sum : (g : ℕ) (rs : List Range) → unitsOk g rs ≡ leb (sum (map (λ (r : Range). r .length) rs)) 4096
+unfolding unitsOk
+unitsOk-sum g rs = rw (unitsFrom-length (unitSize g) 0 rs)
+
+module _ (s : Settings) (g n : ℕ) (rs : List Range) where
+  -- past 9 the answer is that of the other two
+  pub listTests-refusal : refusal (listTests s g n rs) ≡ cond (passes (rangeTests g n rs)) (cond (powersOk s rs) (cond (unitsOk g rs) 0 11) 10) 9
+  listTests-refusal = refusal-alike 9 (rangeTests g n rs) ((powersOk s rs else 10) ∷ (unitsOk g rs else 11) ∷ []) (rangeTests-number g n rs)
+
+  -- 9 where one of its rules is broken, whichever
+  pub listTests-nine : (k : ℕ) → getD (leb 1 n ∷ leb n 16 ∷ all (λ r. passes (rowTests g 0 r)) rs ∷ pairs (apart g) rs ∷ []) k true ≡ false → refusal (listTests s g n rs) ≡ 9
+  listTests-nine k e = listTests-refusal ∙ rw (rangeTests-passes g n rs, every-not _ k e)
+
+  pub listTests-ten : passes (rangeTests g n rs) ≡ true → powersOk s rs ≡ false → refusal (listTests s g n rs) ≡ 10
+  listTests-ten e f = listTests-refusal ∙ rw (e, f)
+
+  pub listTests-eleven : passes (rangeTests g n rs) ≡ true → powersOk s rs ≡ true → 4096 < sum (map (λ (r : Range). r .length) rs) → refusal (listTests s g n rs) ≡ 11
+  listTests-eleven e f h = listTests-refusal ∙ rw (e, f, unitsOk-sum g rs, lt-leb (sum (map (λ (r : Range). r .length) rs)) 4096 h)
+
+  pub listTests-done : passes (rangeTests g n rs) ≡ true → powersOk s rs ≡ true → sum (map (λ (r : Range). r .length) rs) ≤ 4096 → refusal (listTests s g n rs) ≡ 0
+  listTests-done e f h = listTests-refusal ∙ rw (e, f, unitsOk-sum g rs, le-leb (sum (map (λ (r : Range). r .length) rs)) 4096 h)
+
+  -- no test has the number 0
+  pub listTests-numbers : All (λ (t : Test). 1 ≤ t .number) (listTests s g n rs)
+  listTests-numbers =
+      All-append (λ (t : Test). 1 ≤ t .number) (rangeTests g n rs) ((powersOk s rs else 10) ∷ (unitsOk g rs else 11) ∷ [])
+      (All-map (λ t e. omega arith) (rangeTests g n rs) (rangeTests-number g n rs)) (omega arith, (omega arith, tt))
+
+  -- the answer 0 says that all are passed
+  pub listTests-none : (k : ℕ) → k ≡ refusal (listTests s g n rs) → eqb k 0 ≡ passes (listTests s g n rs)
+  listTests-none k e = rw e (refusal-none (listTests s g n rs) listTests-numbers)
+
+-- ---- what ranges that pass 9, 10 and 11 at a granularity that passes 7 are known by
+
+-- the granularity passes 7 and is small; there are some ranges, and few; each passes 9 by itself; no two share a unit; 10; 11
+pub record HeldFacts (s : Settings) (g n : ℕ) (rs : List Range) : Type 0 where
+  pub granularity : granularityOk s g ≡ true
+  pub small : g ≤ 20
+  pub some : 1 ≤ n
+  pub few : n ≤ 16
+  pub rows : All (RowFacts g) rs
+  pub disjoint : pairs (apart g) rs ≡ true
+  pub powers : powersOk s rs ≡ true
+  pub total : length (units g rs) ≤ 4096
+
+rowsTests-facts : (g row : ℕ) (rs : List Range) → Passed (rowsTests g row rs) → All (RowFacts g) rs
+rowsTests-facts g row [] h = tt
+rowsTests-facts g row (r ∷ rs) h = (rowTests-facts g r (passes-all (rowTests g 0 r) (h .0, (h .1 .0, (h .1 .1 .0, tt)))), rowsTests-facts g (suc row) rs (h .1 .1 .1))
+
+module _ (s : Settings) (g n : ℕ) (rs : List Range) where
+  pub listTests-facts : s .greatest ≤ 20 → granularityOk s g ≡ true → Passed (listTests s g n rs) → HeldFacts s g n rs
+  unfolding rangeTests unitsOk
+  listTests-facts h e p =
+      let nine = Passed-left (rangeTests g n rs) ((powersOk s rs else 10) ∷ (unitsOk g rs else 11) ∷ []) p in
+      let rest = Passed-right (rangeTests g n rs) ((powersOk s rs else 10) ∷ (unitsOk g rs else 11) ∷ []) p in
+      record {
+        granularity = e;
+        small = omega (arith, granularityOk-greatest s g e);
+        some = leb-true 1 n (nine .0);
+        few = leb-true n 16 (nine .1 .0);
+        rows = rowsTests-facts g 0 rs (Passed-left (rowsTests g 0 rs) ((pairs (apart g) rs else 9) ∷ []) (nine .1 .1));
+        disjoint = Passed-right (rowsTests g 0 rs) ((pairs (apart g) rs else 9) ∷ []) (nine .1 .1) .0;
+        powers = rest .0;
+        total = leb-true (length (units g rs)) 4096 (rest .1 .0);
+      }
