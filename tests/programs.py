@@ -19,7 +19,7 @@ class Trouble(Exception):
 
 
 class Hang(Exception):
-    """A program did not end; what it was given is in target/listings/hang.listing."""
+    """A program did not end; what it was given is in target/hang.input."""
 
 
 class Program(NamedTuple):
@@ -111,7 +111,7 @@ def finished(program, process, rest, text):
     except subprocess.TimeoutExpired as late:
         process.kill()
         process.communicate()
-        path = ROOT / "target/listings/hang.listing"
+        path = ROOT / "target/hang.input"
         path.parent.mkdir(parents=True, exist_ok=True)
         path.write_bytes(text)
         raise Hang(f"{program.name} program did not end in {SECONDS_FOR_A_RUN} seconds on {path}") from late

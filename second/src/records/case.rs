@@ -6,8 +6,9 @@ use crate::rules::{Controller, Range, Record, Settings, Tracking};
 /// A case is exactly so long; what stands after its last field is not looked at.
 pub const CASE_BYTES: usize = 2944;
 /// A case may lend more words or fewer than the 512 that document 01 wants, so that both are refused.
-const MOST_WORDS: u64 = 600;
-const MOST_DATA: u64 = 1024;
+pub const MOST_WORDS: usize = 600;
+/// As many bytes at most are lent for a start structure or a report.
+pub const MOST_DATA: usize = 1024;
 
 /// The seven calls of document 01, with the numbers that only one of them takes.
 #[derive(Clone, Copy, Debug, PartialEq, Eq)]
@@ -39,14 +40,14 @@ pub fn read_case(bytes: &[u8]) -> Option<Case> {
     for controller in record.controllers.iter_mut() {
         *controller = read_controller(&mut fields)?;
     }
-    let words = fields.next_within(2, MOST_WORDS)?;
+    let words = fields.next_within(2, MOST_WORDS as u64)?;
     let mark = fields.next(8)?;
     let number = fields.next(1)?;
     let id = fields.next(2)?;
     let address = fields.next(8)?;
     let written = fields.next(8)?;
     let kind = fields.next(1)?;
-    let data = fields.next_within(2, MOST_DATA)?;
+    let data = fields.next_within(2, MOST_DATA as u64)?;
     let call = match number {
         0 => Call::Fresh,
         1 => Call::Start,

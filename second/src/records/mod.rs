@@ -9,10 +9,11 @@ mod tests;
 use std::io::{self, ErrorKind, Read, Write};
 
 use crate::device::Device;
+use crate::little_endian::put;
 use crate::report::read_report;
 use crate::rules::{Record, Refusal, UNSOUND};
 
-use self::case::{read_case, record_bytes, Call, Case, CASE_BYTES};
+use self::case::{read_case, record_bytes, Call, Case, CASE_BYTES, MOST_DATA, MOST_WORDS};
 use self::marks::{clear_words, mark_pending, pending_units, MARK_WORDS};
 
 /// What a call answers, and what it leaves behind.
@@ -28,7 +29,7 @@ struct Outcome {
     data: Vec<u8>,
 }
 
-/// Answers each case of `input` with a line. Input that isn't in the form is an error, as no answer would be right.
+/// Answers each case of `input`, in their order. Input that isn't in the form is an error, as no answer would be right.
 pub fn play<R: Read, W: Write>(input: &mut R, output: &mut W) -> io::Result<()> {
     loop {
         let mut bytes = Vec::new();
@@ -38,7 +39,7 @@ pub fn play<R: Read, W: Write>(input: &mut R, output: &mut W) -> io::Result<()> 
         }
         let case = if bytes.len() == CASE_BYTES { read_case(&bytes) } else { None };
         match case {
-            Some(case) => output.write_all(answer(&outcome(&case)).as_bytes())?,
+            Some(case) => output.write_all(&answer(&outcome(&case)))?,
             None => {
                 output.flush()?;
                 return Err(io::Error::new(ErrorKind::InvalidData, "a case is not in the form"));
@@ -126,33 +127,21 @@ fn report_numbers(buffer: &[u8]) -> [u64; 4] {
     }
 }
 
-/// The answer's line: refusal, count, the report's four numbers, and the hashes of record, marks and lent bytes.
-fn answer(outcome: &Outcome) -> String {
-    let mut line = format!("{} {}", outcome.refusal, outcome.count);
-    for number in &outcome.report {
-        line.push_str(&format!(" {}", number));
-    }
-    for bytes in &[record_bytes(&outcome.record), word_bytes(&outcome.words), outcome.data.clone()] {
-        line.push_str(&format!(" {}", hash(bytes)));
-    }
-    line.push('\n');
-    line
-}
-
-/// The mark words, 8 bytes each.
-fn word_bytes(words: &[u64]) -> Vec<u8> {
+/// The answer's bytes. Each part has room for the most that a case may lend, with zeros past what was lent.
+fn answer(outcome: &Outcome) -> Vec<u8> {
     let mut bytes = Vec::new();
-    for word in words {
-        bytes.extend_from_slice(&word.to_le_bytes());
+    put(&mut bytes, u128::from(outcome.refusal), 1);
+    put(&mut bytes, u128::from(outcome.count), 8);
+    for (number, width) in outcome.report.iter().zip(&[1, 1, 1, 8]) {
+        put(&mut bytes, u128::from(*number), *width);
     }
+    bytes.extend_from_slice(&record_bytes(&outcome.record));
+    let marks_end = bytes.len() + 8 * MOST_WORDS;
+    for word in &outcome.words {
+        put(&mut bytes, u128::from(*word), 8);
+    }
+    bytes.resize(marks_end, 0);
+    bytes.extend_from_slice(&outcome.data);
+    bytes.resize(marks_end + MOST_DATA, 0);
     bytes
-}
-
-/// FNV-1a, 64 bits.
-fn hash(bytes: &[u8]) -> u64 {
-    let mut hash: u64 = 14695981039346656037;
-    for byte in bytes {
-        hash = (hash ^ u64::from(*byte)).wrapping_mul(1099511628211);
-    }
-    hash
 }

@@ -308,9 +308,13 @@ fn case_bytes() -> Vec<u8> {
     bytes
 }
 
+/// A number of 8 bytes, zeros save the lowest and the highest.
+fn high(lowest: u64, highest: u64) -> u64 {
+    lowest + highest * 72057594037927936
+}
+
 #[test]
 fn fields_at_their_offsets() {
-    let high = |low: u64, high: u64| low + high * 72057594037927936;
     let case = read_case(&case_bytes()).unwrap();
     let settings = Settings {
         manager: 513,
@@ -373,21 +377,62 @@ fn bytes_that_are_no_case() {
 }
 
 #[test]
-fn hashes_by_hand() {
-    // The values that the authors of FNV give for no byte, "a" and "foobar".
-    assert_eq!(hash(b""), 0xcbf29ce484222325);
-    assert_eq!(hash(b"a"), 0xaf63dc4c8601ec8c);
-    assert_eq!(hash(b"foobar"), 0x85944171f73967e8);
-    assert_eq!(word_bytes(&[1, 256]), [1, 0, 0, 0, 0, 0, 0, 0, 0, 1, 0, 0, 0, 0, 0, 0]);
+fn answers_at_their_offsets() {
+    let case = read_case(&case_bytes()).unwrap();
+    let mut after = Outcome { refusal: 200, count: high(1, 2), report: [3, 4, 5, high(6, 7)], ..untouched(&case) };
+    after.words[512] = high(41, 42);
+    let mut expected = vec![0; 7443];
+    let fields: [(usize, &[u8]); 6] = [
+        (0, &[200]),                         // refusal
+        (1, &[1, 0, 0, 0, 0, 0, 0, 2]),      // count
+        (9, &[3, 4, 5]),                     // suspended, more, granularity
+        (12, &[6, 0, 0, 0, 0, 0, 0, 7]),     // number of runs
+        (5715, &[41, 0, 0, 0, 0, 0, 0, 42]), // the last of 513 words
+        (6419, &[34, 35, 36]),               // 3 lent bytes
+    ];
+    for (at, field) in &fields {
+        expected[*at..*at + field.len()].copy_from_slice(field);
+    }
+    expected[20..1619].copy_from_slice(&case_bytes()[..1599]);
+    for word in 0..512 {
+        expected[1619 + 8 * word..1627 + 8 * word].copy_from_slice(&[25, 0, 0, 0, 0, 0, 0, 26]);
+    }
+    assert_eq!(answer(&after), expected);
 }
 
 #[test]
-fn a_line_for_each_case() {
+fn answer_to_a_case_that_lends_the_most() {
+    // 600 words answer 1. Nothing is changed, so the answer ends in all that was lent.
+    let mut case = base(Call::Receive, 5);
+    case.words = vec![u64::MAX; 600];
+    case.data = vec![170; 1024];
+    let mut expected = vec![1];
+    expected.resize(20, 0);
+    expected.extend_from_slice(&record_bytes(&case.record));
+    expected.resize(6419, 255);
+    expected.resize(7443, 170);
+    assert_eq!(answer(&outcome(&case)), expected);
+}
+
+#[test]
+fn controller_that_is_off_answers_zeros() {
+    // A stop of controller 5 zeroes its 196 bytes, from byte 31 of the record on, and the record stays in the form.
+    let mut expected = record_bytes(&base(Call::Stop, 5).record);
+    for byte in &mut expected[31..227] {
+        *byte = 0;
+    }
+    assert_eq!(answer(&outcome(&base(Call::Stop, 5)))[20..1619].to_vec(), expected);
+}
+
+#[test]
+fn an_answer_for_each_case() {
     // Two cases of zeros: a fresh whose settings have no identifiers. It answers 16 and is closed; no words, no bytes.
     let mut output = Vec::new();
     play(&mut &vec![0; 2 * CASE_BYTES][..], &mut output).unwrap();
-    let line = format!("16 0 0 0 0 0 {} {} {}\n", hash(&[0; 1599]), hash(b""), hash(b""));
-    assert_eq!(String::from_utf8(output).unwrap(), line.repeat(2));
+    let mut expected = vec![0; 2 * 7443];
+    expected[0] = 16;
+    expected[7443] = 16;
+    assert_eq!(output, expected);
     let mut output = Vec::new();
     play(&mut &[][..], &mut output).unwrap();
     assert_eq!(output, b"");

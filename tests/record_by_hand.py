@@ -1,0 +1,478 @@
+"""Cases of tests/records by hand, with the answers that document 01 asks for."""
+
+import copy
+
+from record_case import ALL_ONES, MEMORY, Case, Controller, Record, structure
+
+MIXED = 0x8E5A0F3C7001C0D1  # a mark word with set and clear bits in every byte
+WRONG_WORDS = (0, 1, 64, 511, 513, 600)  # "marks are not 512 words"
+
+
+# ---- Records
+
+def base():
+    """Controller 5 tracks 4 units from page 16 on and 2 from page 0 on; 6 is not tracked; 7 is suspended and tracks 3
+    units of granularity 8. So 3 of the limit's 16 are taken."""
+    record = Record()
+    record.manager, record.least, record.greatest, record.rule, record.limit = 1, 0, 8, 0, 16
+    record.count, record.identifiers = 3, [5, 6, 7, 0, 0, 0, 0, 0]
+    record.controllers[0] = Controller((0, 2), [(65536, 4), (0, 2)])
+    record.controllers[2] = Controller((8, 1), [(1048576, 3)], suspended=1)
+    return record
+
+
+def base_with_rubbish():
+    """The same, with every unused place full of what no rule allows. 9 stands in an unused place."""
+    record = base()
+    record.identifiers[3:] = [5, 1, 9, 7, 65535]
+    for place, one in enumerate(record.controllers):
+        used = one.tracking[1] if one.tracking else 0
+        one.ranges[used:] = [(65537 + row, 2**32 - 1 if row % 2 else 0) for row in range(used, 16)]
+        if place >= 3:
+            one.tracking, one.suspended = (255, 255), place % 2
+    return record
+
+
+def sixteen(first=0, length=1, unit=4096):
+    """Sixteen ranges of this length in units, each beginning where the one before it ends."""
+    return [(first + row * length * unit, length) for row in range(16)]
+
+
+# Identifiers that keep the rules in all places, so that of a count too great it is the count alone that is refused.
+EIGHT = (5, 6, 7, 0, 65535, 2, 3, 4)
+
+
+# ---- Changes to a record
+
+def change(function):
+    """Makes a function of a record and other words one of these words alone, which answers a change to any record."""
+    return lambda *words, **named: lambda record: function(record, *words, **named)
+
+
+@change
+def closed(record):
+    record.__init__()
+
+
+@change
+def settings(record, **values):
+    for name, value in values.items():
+        setattr(record, name, value)
+
+
+@change
+def identifiers(record, *used, count=None):
+    """These identifiers; the controllers that come into use by that are off and running."""
+    record.identifiers[:len(used)] = used
+    record.count = len(used) if count is None else count
+    for one in record.controllers[3:len(used)]:
+        one.tracking, one.suspended = None, 0
+
+
+@change
+def tracked(record, granularity, *ranges, place=0, **values):
+    """The controller in this place (5 unless said) tracks these ranges; settings as named."""
+    record.controllers[place].track(granularity, *ranges)
+    settings(**values)(record)
+
+
+@change
+def counted(record, count, place=0):
+    """On, with a count that need not fit the ranges there."""
+    record.controllers[place].tracking = (0, count)
+    record.controllers[place].ranges = sixteen()
+    record.limit = 128
+
+
+@change
+def off(record, place):
+    record.controllers[place].tracking = None
+
+
+@change
+def in_place(record, place, row, start, length):
+    """One range put anywhere, used or not."""
+    record.controllers[place].ranges[row] = (start, length)
+
+
+@change
+def suspended(record, *flags):
+    for one, flag in zip(record.controllers, flags):
+        one.suspended = flag
+
+
+@change
+def full(record, limit):
+    """8 controllers of 16 ranges, 4,096 units each: 128 ranges in all. Controller 7 stays suspended."""
+    identifiers(*EIGHT)(record)
+    settings(greatest=20, rule=1, limit=limit)(record)
+    for one in record.controllers:
+        one.track(20, *sixteen(0, 256, 2**32))
+
+
+@change
+def both(record, *changes):
+    for one in changes:
+        one(record)
+
+
+# ---- Tables
+
+# The calls that each record of the table below is handed to; all are done on the base.
+BASE_CALLS = {
+    "fresh": {},
+    "start": dict(id=6, data=structure(0, [(65536, 1)])),
+    "stop": dict(id=5),
+    "write": dict(id=5, address=69632, bytes=1),
+    "receive": dict(id=5, data=b"\xaa" * 64),
+    "suspend": dict(id=5, type=1),
+    "resume": dict(id=7),
+}
+
+SOUND, UNSOUND, BROKEN = (0, 0), (0, 1), (16, 1)
+
+# Name, change to the base, what fresh and the other calls answer, and those of them that answer otherwise. By hand,
+# from document 01: "A record is sound exactly if its settings would pass 16, each tracked controller's granularity and
+# ranges would pass 7, 9, 10 and 11, and the counts together are within the limit."
+RECORDS = [
+    ("base", both(), SOUND),
+    ("closed device", closed(), BROKEN),
+    # "1 to 8 controller identifiers"; the greater ones would pass if cut to 8, 16 or 32 bits.
+    ("no identifier", settings(count=0), BROKEN),
+    ("one identifier", settings(count=1), SOUND, {"start": 2, "resume": 2}),
+    ("two identifiers", settings(count=2), SOUND, {"resume": 2}),
+    ("8 identifiers", identifiers(*EIGHT), SOUND),
+    ("count 9", identifiers(*EIGHT, count=9), BROKEN),
+    ("count 16", identifiers(*EIGHT, count=16), BROKEN),
+    ("count 255", identifiers(*EIGHT, count=255), BROKEN),
+    ("count 256 + 3", identifiers(*EIGHT, count=259), BROKEN),
+    ("count 2^16 + 3", identifiers(*EIGHT, count=2**16 + 3), BROKEN),
+    ("count 2^32 + 3", identifiers(*EIGHT, count=2**32 + 3), BROKEN),
+    ("count 2^63 + 3", identifiers(*EIGHT, count=2**63 + 3), BROKEN),
+    ("count 2^64 - 1", identifiers(*EIGHT, count=2**64 - 1), BROKEN),
+    # "all different"
+    ("first and second the same", identifiers(5, 5, 7), BROKEN),
+    ("first and last the same", identifiers(5, 6, 5), BROKEN),
+    ("second and last the same", identifiers(5, 6, 6), BROKEN),
+    ("seventh and eighth the same", identifiers(5, 6, 7, 8, 9, 10, 11, 11), BROKEN),
+    ("first and eighth the same", identifiers(5, 6, 7, 8, 9, 10, 11, 5), BROKEN),
+    ("the same save the high byte", identifiers(5, 6, 7, 5 + 256), SOUND),
+    ("0 twice", identifiers(5, 6, 7, 0, 0), BROKEN),
+    ("the same, unused", both(identifiers(5, 6, 7, 5), settings(count=3)), SOUND),
+    # "the manager's own identifier, not among them"
+    ("manager first", settings(manager=5), BROKEN),
+    ("manager second", settings(manager=6), BROKEN),
+    ("manager last", settings(manager=7), BROKEN),
+    ("manager eighth", identifiers(5, 6, 7, 8, 9, 10, 11, 1), BROKEN),
+    ("manager eighth, unused", both(identifiers(5, 6, 7, 8, 9, 10, 11, 1), settings(count=7)), SOUND),
+    ("manager 0", settings(manager=0), SOUND),
+    ("manager 65535", settings(manager=65535), SOUND),
+    ("manager among them save the high byte", settings(manager=5 + 256), SOUND),
+    # "least ≤ greatest ≤ 20", and 7 for the tracked: 5 has granularity 0, 7 has 8
+    ("greatest 20", settings(greatest=20), SOUND),
+    ("greatest 21", settings(greatest=21), BROKEN),
+    ("greatest 255", settings(greatest=255), BROKEN),
+    ("least and greatest 20", settings(least=20, greatest=20), UNSOUND),
+    ("least and greatest 21", settings(least=21, greatest=21), BROKEN),
+    ("least above greatest", settings(least=9), BROKEN),
+    ("least 255", settings(least=255), BROKEN),
+    ("least and greatest 8, 5 below", settings(least=8), UNSOUND),
+    ("least 1, 5 below", settings(least=1), UNSOUND),
+    ("greatest 7, 7 above", settings(greatest=7), UNSOUND),
+    ("least and greatest 8", tracked(8, (0, 4), least=8), SOUND, {"start": 7}),
+    # the limit: "0 to 128", and the counts together
+    ("limit 0", settings(limit=0), UNSOUND),
+    ("limit 2", settings(limit=2), UNSOUND),
+    ("limit 3", settings(limit=3), SOUND, {"start": 12}),
+    ("limit 4", settings(limit=4), SOUND),
+    ("limit 128", settings(limit=128), SOUND),
+    ("limit 129", settings(limit=129), BROKEN),
+    ("limit 256 + 16", settings(limit=272), BROKEN),
+    ("limit 65535", settings(limit=65535), BROKEN),
+    ("limit 17, 17 taken", tracked(0, *sixteen(65536), limit=17), SOUND, {"start": 12}),
+    ("limit 18, 17 taken", tracked(0, *sixteen(65536), limit=18), SOUND),
+    ("limit 16, 17 taken", tracked(0, *sixteen(65536), limit=16), UNSOUND),
+    ("limit 128, 128 taken", full(128), SOUND, {"start": 3}),
+    ("limit 127, 128 taken", full(127), UNSOUND),
+    ("limit 112, 112 taken, 16 unused", both(full(112), settings(count=7)), SOUND, {"start": 3}),
+    ("limit 111, 112 taken, 16 unused", both(full(111), settings(count=7)), UNSOUND),
+    ("full, last length 0", both(full(128), in_place(7, 15, 15 * 2**40, 0)), UNSOUND),
+    ("full, last length 512", both(full(128), in_place(7, 15, 15 * 2**40, 512)), UNSOUND),
+    ("full, last one the first again", both(full(128), in_place(7, 15, 0, 256)), UNSOUND),
+    ("full, last one off", both(full(112), off(7)), SOUND, {"start": 3}),
+    # 9, "the count is 1 to 16"
+    ("5 on, count 0", counted(0), UNSOUND),
+    ("5 on, count 1", counted(1), SOUND),
+    ("5 on, count 16", counted(16), SOUND),
+    ("5 on, count 17", counted(17), UNSOUND),
+    ("5 on, count 32", counted(32), UNSOUND),
+    ("5 on, count 255", counted(255), UNSOUND),
+    ("6 on, count 0", counted(0, place=1), UNSOUND),
+    ("6 on, count 1", counted(1, place=1), SOUND, {"start": 3}),
+    ("6 on, count 16", counted(16, place=1), SOUND, {"start": 3}),
+    ("6 on, count 17", counted(17, place=1), UNSOUND),
+    ("7 on, count 0", counted(0, place=2), UNSOUND),
+    ("7 on, count 255", counted(255, place=2), UNSOUND),
+    ("unused place on, count 255", counted(255, place=3), SOUND),
+    ("unused place on, count 0", counted(0, place=7), SOUND),
+    # 7
+    ("granularity 9", tracked(9, (0, 1)), UNSOUND),
+    ("granularity 255", tracked(255, (0, 1)), UNSOUND),
+    ("granularity 64, as 0 if shifted round", tracked(64, (65536, 4)), UNSOUND),
+    ("granularity 20", tracked(20, (2**32, 4096), greatest=20), SOUND),
+    ("granularity 21", tracked(21, (2**33, 4), greatest=20), UNSOUND),
+    # 9, "each length is at least 1"
+    ("first length 0", tracked(0, (65536, 0), (0, 2)), UNSOUND),
+    ("second length 0", tracked(0, (65536, 4), (0, 0)), UNSOUND),
+    ("length 0 within another range", tracked(0, (65536, 4), (69632, 0)), UNSOUND),
+    ("sixteenth length 0", both(tracked(0, *sixteen(), limit=128), in_place(0, 15, 2**20, 0)), UNSOUND),
+    ("length 0 past the count", in_place(0, 2, 2**20, 0), SOUND),
+    ("length 0 where off", in_place(1, 0, 65536, 0), SOUND),
+    # 9, "each start is a multiple of the unit"
+    ("start 1", tracked(0, (1, 1)), UNSOUND),
+    ("start 4095", tracked(0, (4095, 1)), UNSOUND),
+    ("start 65536 + 2048", tracked(0, (65536 + 2048, 1)), UNSOUND),
+    ("start 2^63 + 1", tracked(0, (2**63 + 1, 1)), UNSOUND),
+    ("start 2^64 - 1", tracked(0, (2**64 - 1, 1)), UNSOUND),
+    ("granularity 8, start 1052672", tracked(8, (1052672, 1)), UNSOUND),
+    ("granularity 8, start 1048576", tracked(8, (1048576, 1)), SOUND),
+    ("granularity 20, start 2^31", tracked(20, (2**31, 1), greatest=20), UNSOUND),
+    ("second start 4097", tracked(0, (65536, 4), (4097, 1)), UNSOUND),
+    ("start 4097 past the count", in_place(0, 2, 4097, 1), SOUND),
+    # 9, "start plus length in bytes is at most 2^64"
+    ("ends at 2^64", tracked(0, (MEMORY - 4096, 1)), SOUND),
+    ("ends a unit past 2^64", tracked(0, (MEMORY - 4096, 2)), UNSOUND),
+    ("ends far past 2^64", tracked(0, (MEMORY - 4096, 2**32 - 1)), UNSOUND),
+    ("4,096 units to 2^64", tracked(0, (MEMORY - 2**24, 4096)), SOUND),
+    ("4,096 units past 2^64", tracked(0, (MEMORY - 2**24 + 4096, 4096)), UNSOUND),
+    ("granularity 8, ends at 2^64", tracked(8, (MEMORY - 2**20, 1)), SOUND),
+    ("granularity 8, ends past 2^64", tracked(8, (MEMORY - 2**20, 2)), UNSOUND),
+    ("granularity 20, ends at 2^64", tracked(20, (MEMORY - 2**44, 4096), greatest=20), SOUND),
+    ("granularity 20, ends past 2^64", tracked(20, (MEMORY - 2**32, 2), greatest=20), UNSOUND),
+    ("granularity 20, length 2^32 - 1", tracked(20, (2**32, 2**32 - 1), greatest=20), UNSOUND),
+    ("second ends at 2^64", tracked(0, (0, 1), (MEMORY - 4096, 1)), SOUND),
+    ("second ends past 2^64", tracked(0, (65536, 1), (MEMORY - 4096, 2)), UNSOUND),
+    # 9, "no two ranges share a unit"
+    ("they touch", tracked(0, (65536, 4), (81920, 2)), SOUND),
+    ("they touch, later one below", tracked(0, (81920, 2), (65536, 4)), SOUND),
+    ("they share a unit", tracked(0, (65536, 4), (77824, 2)), UNSOUND),
+    ("they share a unit, later one below", tracked(0, (77824, 2), (65536, 4)), UNSOUND),
+    ("the same range twice", tracked(0, (65536, 4), (65536, 4)), UNSOUND),
+    ("one within the other", tracked(0, (65536, 4), (69632, 1)), UNSOUND),
+    ("one around the other", tracked(0, (69632, 1), (65536, 4)), UNSOUND),
+    ("the same start", tracked(0, (65536, 1), (65536, 4)), UNSOUND),
+    ("first and third share", tracked(0, (65536, 4), (0, 1), (77824, 1)), UNSOUND),
+    ("sixteen touch", tracked(0, *sixteen(65536), limit=128), SOUND),
+    ("first and sixteenth share", tracked(0, *sixteen(65536)[:15], (65536, 1), limit=128), UNSOUND),
+    ("last two share", tracked(0, *sixteen(65536)[:15], (65536 + 14 * 4096, 1), limit=128), UNSOUND),
+    ("they share the last unit", tracked(0, (MEMORY - 8192, 2), (MEMORY - 4096, 1)), UNSOUND),
+    ("they touch at the end", tracked(0, (MEMORY - 8192, 1), (MEMORY - 4096, 1)), SOUND),
+    ("shared past the count", in_place(0, 2, 65536, 4), SOUND),
+    ("two controllers share", tracked(8, (1048576, 3)), SOUND),
+    # 10; 7 has 3 units, so the rule alone breaks it
+    ("rule on, 7 has 3 units", settings(rule=1), UNSOUND),
+    ("rule on, 7 has 4 units", both(settings(rule=1), in_place(2, 0, 1048576, 4)), SOUND),
+    ("rule on, 5 has 3 units", both(tracked(0, (65536, 3), rule=1), in_place(2, 0, 1048576, 4)), UNSOUND),
+    ("rule on, 4,096 units", both(tracked(0, (65536, 4096), rule=1), in_place(2, 0, 1048576, 1)), SOUND),
+    ("rule on, 4,095 units", both(tracked(0, (65536, 4095), rule=1), in_place(2, 0, 1048576, 1)), UNSOUND),
+    ("rule on, 2^31 units", both(tracked(0, (0, 2**31), rule=1), in_place(2, 0, 1048576, 1)), UNSOUND),
+    ("rule on, 3 past the count", both(settings(rule=1), in_place(2, 0, 0, 1), in_place(2, 1, 2**20, 3)), SOUND),
+    # 11
+    ("4,096 units", tracked(0, (0, 4096)), SOUND),
+    ("4,097 units", tracked(0, (0, 4097)), UNSOUND),
+    ("4,095 and 1 units", tracked(0, (0, 4095), (2**24, 1)), SOUND),
+    ("4,095 and 2 units", tracked(0, (0, 4095), (2**24, 2)), UNSOUND),
+    ("16 times 256 units", tracked(0, *sixteen(0, 256), limit=128), SOUND),
+    ("16 times 256 units and 1", tracked(0, *sixteen(0, 256)[:15], (2**30, 257), limit=128), UNSOUND),
+    ("8,193 units, a sum of 1 in 13 bits", tracked(0, (0, 8193)), UNSOUND),
+    ("65,537 units, a sum of 1 in 16 bits", tracked(0, (0, 65537)), UNSOUND),
+    ("2^32 + 1 units, a sum of 1 in 32 bits", tracked(0, (0, 2**32 - 1), (2**44, 2)), UNSOUND),
+    ("2^32 units, a sum of 0 in 32 bits", tracked(0, *sixteen(0, 2**28), limit=128), UNSOUND),
+    ("4,096 units each", both(tracked(0, (0, 4096)), tracked(8, (0, 4096), place=2)), SOUND),
+    ("4,097 units past the count", in_place(0, 2, 2**30, 4097), SOUND),
+    # "Separately it is running or suspended", which soundness doesn't ask for
+    ("all suspended", suspended(1, 1, 1), SOUND, {"start": 4, "stop": 4, "write": 4}),
+    ("none suspended", suspended(0, 0, 0), SOUND, {"resume": 13}),
+    ("unused suspended", suspended(0, 0, 1, 1, 1, 1, 1, 1), SOUND),
+]
+
+# Sound records, by their change to the base, and calls on them: the call, its fields, the first numbers of the answer.
+# Marks are 0 unless said. Controller 5's bits 0 to 3 are pages 16 to 19, its bits 4 and 5 pages 0 and 1.
+ONE = structure(0, [(65536, 1)])
+SEVENTEEN = sixteen() + [(2**30, 1)]
+ORDERS = [
+    ("base", both(), [
+        ("start", dict(id=1, data=b""), [2]),
+        ("start", dict(id=0, data=ONE), [2]),
+        ("start", dict(id=9, data=ONE), [2]),
+        ("start", dict(id=5 + 256, data=ONE), [2]),
+        ("start", dict(id=7, data=b""), [4]),
+        ("start", dict(id=5, data=b""), [3]),
+        *[("start", dict(id=6, data=structure(9, [], version=1)[:size]), [8]) for size in range(8)],
+        ("start", dict(id=6, data=structure(9, [], version=1, count=1)), [6]),
+        ("start", dict(id=6, data=structure(0, [(65536, 1)], version=255)), [6]),
+        ("start", dict(id=6, data=structure(9, [], count=1)), [7]),
+        ("start", dict(id=6, data=structure(255, [(0, 1)])), [7]),
+        ("start", dict(id=6, data=structure(8, [(0, 1)])), [0]),
+        ("start", dict(id=6, data=structure(0, [(1, 0)])[:19]), [8]),
+        ("start", dict(id=6, data=structure(0, sixteen())[:199]), [8]),
+        ("start", dict(id=6, data=structure(0, SEVENTEEN)[:211]), [8]),
+        ("start", dict(id=6, data=structure(0, [], count=2**32 - 1).ljust(1024, b"\1")), [8]),
+        ("start", dict(id=6, data=structure(0, [], count=85).ljust(1024, b"\1")), [8]),
+        ("start", dict(id=6, data=structure(0, [(65536, 1)], count=257)), [8]),
+        ("start", dict(id=6, data=structure(0, [(65536, 1)], count=2**31 + 1)), [8]),
+        # 12 times this count is 12 in 32 bits, so a length reckoned there would do.
+        ("start", dict(id=6, data=structure(0, [(65536, 1)], count=2**30 + 1)), [8]),
+        ("start", dict(id=6, data=structure(0, [], count=84).ljust(1024, b"\1")), [9]),
+        ("start", dict(id=6, data=structure(0, SEVENTEEN)), [9]),
+        ("start", dict(id=6, data=structure(0, [])), [9]),
+        ("start", dict(id=6, data=structure(0, [(65536, 1)], count=0)), [9]),
+        ("start", dict(id=6, data=structure(0, [(65536, 0)])), [9]),
+        ("start", dict(id=6, data=structure(0, [(65537, 1)])), [9]),
+        ("start", dict(id=6, data=structure(8, [(1052672, 1)])), [9]),
+        ("start", dict(id=6, data=structure(0, [(MEMORY - 4096, 2)])), [9]),
+        ("start", dict(id=6, data=structure(0, [(MEMORY - 4096, 1)])), [0]),
+        ("start", dict(id=6, data=structure(0, [(65536, 4), (77824, 4097)])), [9]),
+        ("start", dict(id=6, data=structure(0, [(65536, 4), (81920, 1)])), [0]),
+        ("start", dict(id=6, data=structure(0, [(65536, 3)])), [0]),
+        ("start", dict(id=6, data=structure(0, [(0, 4097)])), [11]),
+        ("start", dict(id=6, data=structure(0, [(0, 4096)])), [0]),
+        ("start", dict(id=6, data=structure(0, sixteen()[:13])), [0]),
+        ("start", dict(id=6, data=structure(0, sixteen()[:14])), [12]),
+        ("start", dict(id=6, data=structure(0, sixteen())), [12]),
+        ("start", dict(id=6, data=structure(0, sixteen(0, 512))), [11]),
+        ("start", dict(id=6, data=structure(0, [(65536, 1)], reserved=65535) + b"\xff" * 100), [0]),
+        ("start", dict(id=6, data=ONE, mark=ALL_ONES), [0]),
+        ("stop", dict(id=1), [2]),
+        ("stop", dict(id=0), [2]),
+        ("stop", dict(id=9), [2]),
+        ("stop", dict(id=7), [4]),
+        ("stop", dict(id=6), [5]),
+        ("stop", dict(id=5, mark=ALL_ONES), [0]),
+        ("write", dict(id=1, address=0, bytes=1), [2]),
+        ("write", dict(id=9, address=2, bytes=ALL_ONES), [2]),
+        ("write", dict(id=7, address=2, bytes=ALL_ONES), [4]),
+        ("write", dict(id=5, address=2, bytes=ALL_ONES), [14]),
+        ("write", dict(id=5, address=ALL_ONES, bytes=2), [14]),
+        ("write", dict(id=5, address=ALL_ONES, bytes=ALL_ONES), [14]),
+        ("write", dict(id=6, address=ALL_ONES, bytes=2), [14]),
+        ("write", dict(id=6, address=0, bytes=ALL_ONES), [0, 0]),
+        ("write", dict(id=5, address=ALL_ONES, bytes=0), [0, 0]),
+        ("write", dict(id=5, address=ALL_ONES, bytes=1), [0, 0]),
+        ("write", dict(id=5, address=65536, bytes=0), [0, 0]),
+        ("write", dict(id=5, address=69632, bytes=1), [0, 1]),
+        ("write", dict(id=5, address=73727, bytes=2), [0, 2]),
+        ("write", dict(id=5, address=65535, bytes=1), [0, 0]),
+        ("write", dict(id=5, address=65535, bytes=2), [0, 1]),
+        ("write", dict(id=5, address=81919, bytes=1), [0, 1]),
+        ("write", dict(id=5, address=81920, bytes=1), [0, 0]),
+        ("write", dict(id=5, address=1, bytes=ALL_ONES), [0, 6]),
+        ("write", dict(id=5, address=4096, bytes=ALL_ONES - 4095), [0, 5]),
+        ("write", dict(id=5, address=0, bytes=ALL_ONES, mark=ALL_ONES), [0, 0]),
+        ("write", dict(id=5, address=0, bytes=ALL_ONES, mark=0b010101), [0, 3]),
+        ("write", dict(id=5, address=0, bytes=ALL_ONES, mark=ALL_ONES - 63), [0, 6]),
+        ("receive", dict(id=1, data=b"\xaa" * 64), [2]),
+        ("receive", dict(id=9, data=b""), [2]),
+        ("receive", dict(id=6, data=b""), [5]),
+        *[("receive", dict(id=5, data=b"\xaa" * size), [8]) for size in (0, 1, 15, 16, 31)],
+        ("receive", dict(id=5, data=b"\xaa" * 32), [0, 0, 0, 0, 0, 0]),
+        ("receive", dict(id=5, data=b"\xaa" * 32, mark=ALL_ONES - 63), [0, 0, 0, 0, 0, 0]),
+        ("receive", dict(id=5, data=b"\xaa" * 32, mark=ALL_ONES), [0, 0, 0, 1, 0, 1]),
+        ("receive", dict(id=5, data=b"\xaa" * 48, mark=ALL_ONES), [0, 0, 0, 0, 0, 2]),
+        ("receive", dict(id=5, data=b"\xaa" * 47, mark=0b010101), [0, 0, 0, 1, 0, 1]),
+        ("receive", dict(id=5, data=b"\xaa" * 63, mark=0b010101), [0, 0, 0, 1, 0, 2]),
+        ("receive", dict(id=5, data=b"\xaa" * 64, mark=0b010101), [0, 0, 0, 0, 0, 3]),
+        ("receive", dict(id=5, data=b"\xaa" * 1024, mark=0b010101), [0, 0, 0, 0, 0, 3]),
+        ("receive", dict(id=7, data=b"\xaa" * 32, mark=0b101), [0, 0, 1, 1, 8, 1]),
+        ("receive", dict(id=7, data=b"\xaa" * 48, mark=0b101), [0, 0, 1, 0, 8, 2]),
+        ("receive", dict(id=7, data=b"\xaa" * 48, mark=ALL_ONES - 7), [0, 0, 1, 0, 8, 0]),
+        ("suspend", dict(id=1, type=2), [2]),
+        ("suspend", dict(id=9, type=1), [2]),
+        *[("suspend", dict(id=id, type=type), [0]) for id in (5, 6, 7) for type in (0, 1)],
+        *[("suspend", dict(id=id, type=type), [15]) for id in (5, 6, 7) for type in (2, 255)],
+        ("resume", dict(id=1), [2]),
+        ("resume", dict(id=9), [2]),
+        ("resume", dict(id=5), [13]),
+        ("resume", dict(id=6), [13]),
+        ("resume", dict(id=7), [0]),
+    ]),
+    ("rule on", both(settings(rule=1), in_place(2, 0, 1048576, 4)), [
+        ("start", dict(id=6, data=structure(0, [(65536, 3)])), [10]),
+        ("start", dict(id=6, data=structure(0, [(65536, 4)])), [0]),
+        ("start", dict(id=6, data=structure(0, [(65536, 3), (65536, 3)])), [9]),
+        ("start", dict(id=6, data=structure(0, [(0, 4097)])), [10]),
+        ("start", dict(id=6, data=structure(0, [(0, 4096), (2**24, 1)])), [11]),
+        ("start", dict(id=6, data=structure(0, sixteen(0, 3))), [10]),
+    ]),
+    ("6 suspended", suspended(0, 1), [
+        ("start", dict(id=6, data=b""), [4]),
+        ("stop", dict(id=6), [4]),
+        ("write", dict(id=6, address=0, bytes=1), [4]),
+        ("receive", dict(id=6, data=b"\xaa" * 64), [5]),
+        ("resume", dict(id=6), [0]),
+    ]),
+    ("4,096 units", tracked(0, (0, 4096)), [
+        ("write", dict(id=5, address=0, bytes=ALL_ONES), [0, 4096]),
+        ("receive", dict(id=5, data=b"\xaa" * 32, mark=ALL_ONES), [0, 0, 0, 0, 0, 1]),
+    ]),
+    ("to 2^64", tracked(0, (MEMORY - 2**24, 4096)), [
+        ("write", dict(id=5, address=ALL_ONES, bytes=1), [0, 1]),
+        ("write", dict(id=5, address=1, bytes=ALL_ONES), [0, 4096]),
+        ("receive", dict(id=5, data=b"\xaa" * 32, mark=ALL_ONES), [0, 0, 0, 0, 0, 1]),
+    ]),
+    ("sixteen touch", tracked(0, *sixteen(), limit=128), [
+        ("receive", dict(id=5, data=b"\xaa" * 256, mark=ALL_ONES), [0, 0, 0, 1, 0, 15]),
+        ("receive", dict(id=5, data=b"\xaa" * 272, mark=ALL_ONES), [0, 0, 0, 0, 0, 16]),
+    ]),
+    ("full", full(128), [
+        ("write", dict(id=4, address=0, bytes=ALL_ONES), [0, 4096]),
+        ("receive", dict(id=4, data=b"\xaa" * 1024, mark=ALL_ONES), [0, 0, 0, 0, 20, 16]),
+        ("stop", dict(id=4, mark=ALL_ONES), [0]),
+        ("resume", dict(id=7), [0]),
+    ]),
+]
+
+
+# ---- Cases
+
+def cases():
+    for build, said in ((base, ""), (base_with_rubbish, ", rubbish in unused places")):
+        yield from every_call(build, said)
+        yield from wrong_words(build, said)
+        yield from orders(build, said)
+
+
+def every_call(build, said):
+    """Every record of the table with every call. Marks are in every place, so that each call shows which it clears."""
+    for name, change_it, (fresh, others), *otherwise in RECORDS:
+        for call, fields in BASE_CALLS.items():
+            number = fresh if call == "fresh" else dict(*otherwise).get(call, others)
+            yield Case(changed(build, change_it), call, mark=MIXED, **fields).named(f"{name}, {call}{said}", number)
+
+
+def wrong_words(build, said):
+    """On two records only, as words and record have nothing to do with each other. "Fresh: 16, then 1 for the marks'
+    length"."""
+    for name, change_it, fresh in (("base", both(), 1), ("closed device", closed(), 16)):
+        for call, fields in BASE_CALLS.items():
+            for words in WRONG_WORDS:
+                case = Case(changed(build, change_it), call, words=words, mark=MIXED, **fields)
+                yield case.named(f"{name}, {call}{said}, {words} words", fresh if call == "fresh" else 1)
+
+
+def orders(build, said):
+    """Each call as it is; then on a record whose last controller is unsound, and with a word too few."""
+    for name, change_it, calls in ORDERS:
+        record = changed(build, change_it)
+        unsound = copy.deepcopy(record)
+        unsound.controllers[2].track(8, (1048577, 1))
+        for call, fields, known in calls:
+            yield Case(record, call, **fields).named(f"{name}, {call}{said}", *known)
+            yield Case(unsound, call, **fields).named(f"{name}, {call}{said}, unsound", 1)
+            yield Case(record, call, words=511, **fields).named(f"{name}, {call}{said}, 511 words", 1)
+
+
+def changed(build, change_it):
+    record = build()
+    change_it(record)
+    return record

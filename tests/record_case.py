@@ -1,0 +1,149 @@
+"""A case of tests/records and its answer, in the form of RECORDS.md."""
+
+import struct
+
+CALLS = ["fresh", "start", "stop", "write", "receive", "suspend", "resume"]
+CASE_BYTES = 2944
+MOST_WORDS, MOST_DATA = 600, 1024  # that a case may lend
+MEMORY = 2**64
+ALL_ONES = 2**64 - 1
+
+
+# ---- A case
+
+class Controller:
+    """Tracking is None (off) or (granularity, count). The 16 ranges are pairs of start and length in units."""
+
+    def __init__(self, tracking=None, ranges=(), suspended=0):
+        self.tracking = tracking
+        self.suspended = suspended
+        self.ranges = (list(ranges) + [(0, 0)] * 16)[:16]
+
+    def track(self, granularity, *ranges):
+        """Tracks these ranges; what stands in the places behind them stays."""
+        self.tracking = (granularity, len(ranges))
+        self.ranges[:len(ranges)] = ranges
+
+    def packed(self):
+        granularity, count = self.tracking or (0, 0)
+        numbers = [number for pair in self.ranges for number in pair]
+        return struct.pack("<4B" + "QI" * 16, self.tracking is not None, granularity, count, self.suspended, *numbers)
+
+    def readable(self):
+        tracking = "on, granularity {}, count {}".format(*self.tracking) if self.tracking else "off"
+        used = self.tracking[1] if self.tracking else 0
+        listed = " ".join(map(str, self.ranges[:used])) or "none"
+        unused = "rubbish" if any(map(any, self.ranges[used:])) else "zeros"
+        return f"{tracking}, {'suspended' if self.suspended else 'running'}; ranges {listed}, then {unused}"
+
+
+class Record:
+    """Settings and 8 controllers, as they come: nothing here asks whether they are sound."""
+
+    def __init__(self):
+        self.manager = self.least = self.greatest = self.rule = self.limit = self.count = 0
+        self.identifiers = [0] * 8
+        self.controllers = [Controller() for _ in range(8)]
+
+    def packed(self):
+        settings = (self.manager, self.least, self.greatest, self.rule, self.limit, self.count, *self.identifiers)
+        return struct.pack("<HBBBHQ8H", *settings) + b"".join(one.packed() for one in self.controllers)
+
+    def readable(self):
+        yield (f"settings: manager {self.manager}, granularities {self.least} to {self.greatest}, rule {self.rule}, "
+               f"limit {self.limit}, count {self.count}, identifiers {self.identifiers}")
+        for place, one in enumerate(self.controllers):
+            yield f"controller {place}{' (unused)' if place >= self.count else ''}: {one.readable()}"
+
+
+CLOSED = Record().packed()
+
+
+class Case:
+    """A record, lent marks and bytes, and one call. `known` are the answer's first numbers, as far as known by hand."""
+
+    def __init__(self, record, call, id=0, address=0, bytes=0, type=0, data=b"", words=512, mark=0):
+        self.record = record
+        self.call = call
+        self.id, self.address, self.bytes, self.type, self.data = id, address, bytes, type, data
+        self.words, self.mark = words, mark
+
+    def named(self, name, *known):
+        self.name, self.known = name, known
+        return self
+
+    def packed(self):
+        call = (self.words, self.mark, CALLS.index(self.call), self.id, self.address, self.bytes, self.type)
+        fields = struct.pack("<HQBHQQBH", *call, len(self.data)) + self.data
+        return (self.record.packed() + fields).ljust(CASE_BYTES, b"\0")
+
+    def readable(self):
+        yield f"case: {self.name}"
+        yield from self.record.readable()
+        yield f"marks: {self.words} words of {self.mark:#x}"
+        yield (f"call: {self.call}, id {self.id}, address {self.address}, bytes {self.bytes}, type {self.type}, "
+               f"{len(self.data)} lent bytes {self.data.hex()}")
+        if self.known:
+            numbers = ", ".join(f"{name} {number}" for name, number in zip(NUMBERS, self.known))
+            yield f"document 01 asks for: {numbers}"
+
+
+def structure(granularity, ranges, version=0, count=None, reserved=0):
+    """A start structure (document 01, "The start structure")."""
+    count = len(ranges) if count is None else count
+    header = struct.pack("<BHBI", version, reserved, granularity, count)
+    return header + b"".join(struct.pack("<QI", *one) for one in ranges)
+
+
+# ---- An answer
+
+NUMBERS = ["refusal", "count", "suspended", "more", "granularity", "runs"]
+PACKED_NUMBERS = struct.Struct("<BQBBBQ")
+
+
+def record_fields():
+    """Name and width of each field of a record, in their order."""
+    yield from [("manager", 2), ("least", 1), ("greatest", 1), ("rule", 1), ("limit", 2), ("count", 8)]
+    yield from ((f"identifier in place {place}", 2) for place in range(8))
+    for place in range(8):
+        for name in ("tracking", "granularity", "count of ranges", "suspended"):
+            yield f"controller {place}: {name}", 1
+        for row in range(16):
+            yield f"controller {place}: start of range {row}", 8
+            yield f"controller {place}: length of range {row}", 4
+
+
+def answer_fields():
+    """Name and width of each field of an answer, in their order."""
+    yield from zip(NUMBERS, [1, 8, 1, 1, 1, 8])
+    at = 0
+    for name, width in record_fields():
+        yield f"record, byte {at}, {name}", width
+        at += width
+    yield from ((f"mark word {word}", 8) for word in range(MOST_WORDS))
+    yield from ((f"lent byte {byte}", 1) for byte in range(MOST_DATA))
+
+
+ANSWER_BYTES = sum(width for _, width in answer_fields())
+
+
+def differences(one, other):
+    """The fields in which two answers differ: name and both values."""
+    at = 0
+    for name, width in answer_fields():
+        values = [int.from_bytes(answer[at:at + width], "little") for answer in (one, other)]
+        if values[0] != values[1]:
+            yield name, *values
+        at += width
+
+
+def asked_for(case, answer):
+    """The answer that document 01 asks for. Of a refused call all of it is known: zeros, and what was given (of a fresh
+    the closed device). Of a done one the first numbers are known, and the rest is taken to be as answered."""
+    if not any(case.known[:1]):
+        numbers = case.known + PACKED_NUMBERS.unpack_from(answer)[len(case.known):]
+        return PACKED_NUMBERS.pack(*numbers) + answer[PACKED_NUMBERS.size:]
+    record = CLOSED if case.call == "fresh" else case.record.packed()
+    marks = struct.pack("<Q", case.mark) * case.words
+    return (PACKED_NUMBERS.pack(case.known[0], 0, 0, 0, 0, 0) + record
+            + marks.ljust(8 * MOST_WORDS, b"\0") + case.data.ljust(MOST_DATA, b"\0"))

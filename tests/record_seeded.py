@@ -1,0 +1,250 @@
+"""Cases of tests/records at random, from a seed."""
+
+import random
+
+from record_by_hand import WRONG_WORDS
+from record_case import ALL_ONES, CALLS, MEMORY, Case, Record, structure
+
+
+def cases(seed, count):
+    """Each has a seed of its own, so that its name alone brings it back."""
+    for number in range(count):
+        yield Maker(f"{seed}/{number}").case().named(f"random, seed {seed}, number {number}")
+
+
+class Maker:
+    """Random cases from a seed: a sound record, at times damaged in one place, and a call that goes well with it."""
+
+    def __init__(self, seed):
+        self.random = random.Random(seed)
+        self.place = 0  # the called controller's
+
+    def chance(self, share):
+        return self.random.random() < share
+
+    def case(self):
+        # A start has the most ways to be refused.
+        call = self.random.choice(CALLS + ["start"])
+        self.record = self.sound_record()
+        if self.chance(0.5):
+            # A fresh looks at the settings alone.
+            self.damage_settings() if call == "fresh" else self.damage()
+        fields = {"id": self.identifier(call), "mark": self.mark(), "words": self.words()}
+        fields.update(getattr(self, call + "_fields", dict)())
+        return Case(self.record, call, **fields)
+
+    # Sound records
+
+    def sound_record(self):
+        pick = self.random
+        record = self.record = Record()
+        record.count = pick.choice([1, 2, 2, 3, 3, 4, 5, 8])
+        few = pick.sample(range(20), 8) + [65535, 256, 257, pick.randrange(65536)]
+        distinct = list(dict.fromkeys(few))
+        pick.shuffle(distinct)
+        record.manager, used = distinct[0], distinct[1:record.count + 1]
+        # An unused place often holds what would count if it were looked at.
+        record.identifiers = used + [pick.choice(distinct + [0]) for _ in range(8 - record.count)]
+        record.least, record.greatest = sorted(pick.choice([0, 0, 1, 8, 12, 19, 20]) for _ in range(2))
+        record.rule = int(self.chance(0.4))
+        for place, one in enumerate(record.controllers):
+            if self.chance(0.6):
+                one.ranges = [(self.number(64), self.number(32)) for _ in range(16)]
+            if place >= record.count:
+                one.tracking = pick.choice([None, (0, 1), (pick.randrange(256), pick.randrange(256))])
+            elif self.chance(0.5):
+                granularity = pick.randint(record.least, record.greatest)
+                one.track(granularity, *self.ranges(granularity))
+            one.suspended = int(self.chance(0.25))
+        # Often little or nothing of the limit is left.
+        record.limit = min(128, self.taken() + pick.choice([0, 0, 1, 2, 16, 128, 128, 128]))
+        return record
+
+    def taken(self):
+        used = self.record.controllers[:min(self.record.count, 8)]
+        return sum(one.tracking[1] for one in used if one.tracking)
+
+    def ranges(self, granularity):
+        """Ranges that keep the rules 9, 10 and 11, in any order; some touch, some end at 2^64."""
+        pick, unit = self.random, 4096 << granularity
+        lengths = self.lengths(pick.choice([1, 1, 2, 2, 3, 4, 8, 15, 16]))
+        gaps = [pick.choice([0, 0, 1, 2, pick.randrange(2000)]) for _ in lengths]
+        room = MEMORY // unit - sum(lengths) - sum(gaps)
+        at = pick.choice([0, 0, 16, room, pick.randrange(room + 1)])
+        listed = []
+        for gap, length in zip(gaps, lengths):
+            listed.append(((at + gap) * unit, length))
+            at += gap + length
+        if self.chance(0.5):
+            pick.shuffle(listed)
+        return listed
+
+    def lengths(self, count):
+        pick = self.random
+        small, great = [1, 1, 1, 2, 2, 4, 8], [16, 32, 64, 128, 256]
+        if not self.record.rule:
+            small, great = small + [3, 5, 7], great + [31, 63, 65, 127, 129, 200]
+        lengths = [pick.choice(small if self.chance(0.85) else great) for _ in range(count)]
+        if self.chance(0.05):
+            # As many units as may be: a single range of all, or the rest put to the first.
+            lengths[0] += 4096 - sum(lengths)
+            if self.record.rule:
+                lengths = pick.choice([[4096], [2048, 2048], [256] * 16])
+        return lengths
+
+    def number(self, bits):
+        pick = self.random
+        return pick.choice([0, 1, 2**bits - 1, 4096, 65536, pick.getrandbits(bits), pick.getrandbits(8)])
+
+    # Damages: most make a sound record unsound, some don't.
+
+    def damage(self):
+        used, pick = self.record.controllers[:self.record.count], self.random
+        tracked_ones = [one for one in used if one.tracking]
+        self.one = pick.choice(tracked_ones or used)
+        damages = [self.damage_settings, self.damage_tracking]
+        if tracked_ones:
+            damages += [self.damage_tracking, self.damage_limit] + [self.damage_range] * 4
+        pick.choice(damages)()
+
+    def damage_limit(self):
+        self.record.limit = self.taken() - 1
+
+    def damage_settings(self):
+        record, pick = self.record, self.random
+        name, values = pick.choice([
+            ("count", [0, 1, 8, 9, 10, 255, 256 + record.count, 2**32 + 1, ALL_ONES]),
+            ("manager", record.identifiers),
+            ("identifiers", [self.one_repeated()]),
+            ("least", [record.greatest, record.greatest + 1, 20, 21, 255]),
+            ("greatest", [0, record.least, 20, 21, 255]),
+            ("rule", [1]),
+            ("limit", [0, 1, 128, 129, 256, 65535]),
+        ])
+        setattr(record, name, pick.choice(values))
+
+    def one_repeated(self):
+        """The identifiers with one in use put into another place, used or not."""
+        repeated = list(self.record.identifiers)
+        repeated[self.random.randrange(8)] = repeated[self.random.randrange(self.record.count)]
+        return repeated
+
+    def damage_tracking(self):
+        record, pick, one = self.record, self.random, self.one
+        granularity, count = one.tracking or (record.least, 1)
+        edges = [record.least, record.greatest, record.least - 1, record.greatest + 1, granularity + 1]
+        if self.chance(0.5):
+            one.tracking = (pick.choice(edges + [20, 21, 64, 255]) % 256, count)
+        else:
+            one.tracking = (granularity, pick.choice([0, count - 1, count + 1, 16, 17, 18, 255]) % 256)
+            record.limit = pick.choice([record.limit, 128])
+
+    def damage_range(self):
+        pick, one = self.random, self.one
+        granularity, count = one.tracking
+        unit = 4096 << granularity
+        row, other = pick.randrange(count), pick.randrange(count)
+        start, length = one.ranges[row]
+        beside, beside_length = one.ranges[other]
+        start, length = pick.choice([
+            *[(start, new) for new in (0, length + 1, 3, 4096, 4097, 2**32 - 1, pick.getrandbits(32))],
+            *[(new, length) for new in (start + 1, start + unit // 2, start - 4096, start ^ 2**63)],
+            (beside, length),
+            (beside + (beside_length - 1) * unit, length),
+            (beside + beside_length * unit, length),
+            (beside - length * unit, length),
+            (beside - (length - 1) * unit, length),
+            (MEMORY - length * unit, length),
+            (MEMORY - (length - 1) * unit, length),
+            (MEMORY - unit, 2),
+            (pick.getrandbits(64), length),
+        ])
+        one.ranges[row] = (start % MEMORY, length % 2**32)
+
+    # Calls
+
+    def identifier(self, call):
+        """Mostly one in use, and of these often one that the call isn't refused for."""
+        record, pick = self.record, self.random
+        if self.chance(0.08):
+            return pick.choice([record.manager, pick.choice(record.identifiers), pick.randrange(65536)])
+        places = list(range(max(1, min(record.count, 8))))
+        wanted = {
+            "start": lambda one: not one.tracking and not one.suspended,
+            "stop": lambda one: one.tracking and not one.suspended,
+            "write": lambda one: one.tracking and not one.suspended,
+            "receive": lambda one: one.tracking,
+            "resume": lambda one: one.suspended,
+        }.get(call)
+        liked = [place for place in places if wanted and wanted(record.controllers[place])]
+        self.place = pick.choice(liked if liked and self.chance(0.9) else places)
+        return record.identifiers[self.place]
+
+    def mark(self):
+        pick = self.random
+        sparse = pick.getrandbits(64) & pick.getrandbits(64) & pick.getrandbits(64)
+        return pick.choice([0, 0, ALL_ONES, 0x5555555555555555, 1, 2**63, 6, sparse, pick.getrandbits(64)])
+
+    def words(self):
+        return self.random.choice(WRONG_WORDS) if self.chance(0.04) else 512
+
+    def start_fields(self):
+        record, pick = self.record, self.random
+        granularity = min(20, pick.choice([record.least, record.greatest]))
+        parts = {"granularity": granularity, "ranges": self.ranges(granularity)}
+        if self.chance(0.25):
+            # Just enough of the limit is left, or one too few.
+            record.limit = min(128, self.taken() + len(parts["ranges"]) - pick.choice([0, 1]))
+        if self.chance(0.4):
+            pick.choice([self.damage_header] + [self.damage_listed] * 3)(parts)
+        data = structure(reserved=pick.choice([0, 0, pick.getrandbits(16)]), **parts)
+        if self.chance(0.1):
+            data = data[:pick.choice([pick.randrange(8), pick.randrange(len(data)), len(data) - 1])]
+        elif self.chance(0.2):
+            data += pick.randbytes(pick.choice([1, 12, 100]))
+        return {"data": data}
+
+    def damage_header(self, parts):
+        record, pick, number = self.record, self.random, len(parts["ranges"])
+        name, value = pick.choice([
+            ("version", pick.choice([1, 128, 255])),
+            ("granularity", pick.choice([record.least - 1, record.greatest + 1, 255]) % 256),
+            ("count", pick.choice([0, number - 1, number + 1, 17, 256, 2**32 - 1])),
+            ("ranges", (parts["ranges"] * 17)[:17]),
+        ])
+        parts[name] = value
+
+    def damage_listed(self, parts):
+        pick, listed, unit = self.random, parts["ranges"], 4096 << parts["granularity"]
+        row = pick.randrange(len(listed))
+        start, length = listed[row]
+        far = (start + 2**63) % MEMORY  # from the others, so that it is the units that are too many
+        listed[row] = pick.choice([
+            *[(start, new) for new in (0, 3, 3, max(1, length - 1), length + 1)],
+            (far, 4096),
+            (far, 4097),
+            ((start + 1) % MEMORY, length),
+            (pick.choice(listed)[0], length),
+            (MEMORY - unit, pick.choice([1, 2])),
+        ])
+
+    def write_fields(self):
+        """At and around the edges of a listed range; at times anywhere."""
+        pick = self.random
+        if self.chance(0.2):
+            return {"address": self.number(64), "bytes": self.number(64)}
+        one = self.record.controllers[self.place]
+        granularity, count = one.tracking or (0, 1)
+        unit = 4096 << min(granularity, 20)
+        start, length = one.ranges[pick.randrange(max(1, min(count, 16)))]
+        at = start + pick.choice([0, 0, length, pick.randrange(length + 1)]) * unit + pick.choice([-1, 0, 0, 1])
+        written = pick.choice([0, 1, 1, 2, unit, unit + 1, 3 * unit - 1, 64 * unit, MEMORY - at % MEMORY, ALL_ONES])
+        return {"address": at % MEMORY, "bytes": written % MEMORY}
+
+    def receive_fields(self):
+        pick = self.random
+        size = pick.choice([31, 32, 32, 47, 48, 64, 100, 272, 1024, pick.randrange(1025)])
+        return {"data": pick.randbytes(size)}
+
+    def suspend_fields(self):
+        return {"type": self.random.choice([0, 1, 1, 1, 2, 255])}
