@@ -1,0 +1,51 @@
+-- `records::play_in` is safe: the parts that it lends lie in the room that there is.
+use mathlib.Core.Path.{sym}
+use borrow.Author.Needs.{needs}
+use lib.Seq.{length-take-le}
+use Rattle.records.proofs.play_in.Statement.{statement}
+use Rattle.records.proofs.play_in.Tie as tie
+
+lent-at-requires : tie.Need-lent-at-requires
+lent-at-requires c κs = search needs
+
+lent-at-requires-2 : tie.Need-lent-at-requires-2
+lent-at-requires-2 c κs = search needs
+
+slice-relend-prefix-lend : tie.Need-slice-relend-prefix-lend
+slice-relend-prefix-lend c = search needs
+
+slice-aggregate-lend : tie.Need-slice-aggregate-lend
+slice-aggregate-lend c = sym (length-take-le _ _ (search needs))
+
+slice-relend-prefix-lend-2 : tie.Need-slice-relend-prefix-lend-2
+slice-relend-prefix-lend-2 c = search needs
+
+slice-aggregate-lend-2 : tie.Need-slice-aggregate-lend-2
+slice-aggregate-lend-2 c = sym (length-take-le _ _ (search needs))
+
+lend-requires : tie.Need-lend-requires
+lend-requires c κs = search needs
+
+same-length : tie.Need-same-length
+same-length c = search needs
+
+same-length-2 : tie.Need-same-length-2
+same-length-2 c = search needs
+
+returns : tie.Need-returns
+returns c = search needs
+
+pub play-in-spec : {M : Type 1} → statement M
+play-in-spec =
+    tie.close
+    (tie.spec
+    lent-at-requires
+    lent-at-requires-2
+    slice-relend-prefix-lend
+    slice-aggregate-lend
+    slice-relend-prefix-lend-2
+    slice-aggregate-lend-2
+    lend-requires
+    same-length
+    same-length-2
+    returns)

@@ -1,0 +1,536 @@
+// The records program: reads cases from standard input to its end, and answers each on standard output. A case is a device record of any kind, sound
+// or not, with lent marks, lent bytes and one call. The calls are `tracker`'s; here stand only the bytes of a case and of its answer, little-endian.
+//
+// A case has 2944 bytes: the record (1599 bytes: settings, and from 31 on 8 controllers of 196 bytes), how many mark words are lent (2) and the value of
+// each (8), the call (1, at 1609), its identifier (2), address (8), length in bytes (8) and type (1), how many bytes are lent (2), these (1024), zeros.
+// An answer has 7443: the number (1), a write's count (8), a receive's suspended, more and granularity (1 each) and runs (8), then the record (1599),
+// 600 mark words and 1024 lent bytes as they are after the call, with zeros past the lent ones.
+
+use libc::STDIN_FILENO;
+use rules::Bytes;
+use rules::Controller;
+use rules::Device;
+use rules::Range;
+use rules::Settings;
+use rules::Tracking;
+use tracker::Changed;
+use tracker::Received;
+ghost use Prim.Native.Nat.{_≤_};
+ghost use Rattle.io.specs.Counts.{Counts};
+
+// Between two bytes of input: how many bytes of a case are there, and how many bytes of answers wait to be written.
+struct State {
+    there: usize,
+    used: usize,
+}
+
+// What a call answers, and the record after it. The count is a write's, and what was received is a receive's: zeros, beside the number, where it is none.
+struct Answer {
+    received: Received,
+    count: usize,
+    device: Device,
+}
+
+// ---- the bytes of a case: those past its end are zeros
+
+// A byte.
+fn byte_at(case: &[u8], at: usize) -> u8 {
+    if at < case.len() { case[at] } else { 0 }
+}
+
+// A number of 2 bytes.
+fn short_at(case: &[u8], at: usize) -> u16 {
+    if case.len() < 2 {
+        return 0;
+    }
+    if case.len() - 2 < at {
+        return 0;
+    }
+    little::read_u16(case, at)
+}
+
+// A number of 4 bytes.
+fn word_at(case: &[u8], at: usize) -> u32 {
+    if case.len() < 4 {
+        return 0;
+    }
+    if case.len() - 4 < at {
+        return 0;
+    }
+    little::read_u32(case, at)
+}
+
+// A number of 8 bytes.
+fn long_at(case: &[u8], at: usize) -> u64 {
+    if case.len() < 8 {
+        return 0;
+    }
+    if case.len() - 8 < at {
+        return 0;
+    }
+    little::read_u64(case, at)
+}
+
+// A flag: every byte but 0 sets it.
+fn flag_at(case: &[u8], at: usize) -> bool {
+    byte_at(case, at) != 0
+}
+
+// ---- a record
+
+// A range, from index `at` on.
+fn read_range(case: &[u8], at: usize) -> Range
+    requires { ⌜ at ≤ 2944 ⌝ }
+{
+    let start = long_at(case, at);
+    let length = word_at(case, at + 8);
+    Range { start, length }
+}
+
+// The ranges of a controller, from index `at` on.
+fn read_ranges(case: &[u8], at: usize) -> [Range; 16]
+    requires { ⌜ at ≤ 2048 ⌝ }
+{
+    let mut ranges = rules::no_ranges();
+    let mut i: usize = 0;
+    while i < 16 {
+        ranges[i] = read_range(case, at + 12 * i);
+        i = i + 1;
+    }
+    ranges
+}
+
+// Whether a controller is tracked, and how, from index `at` on.
+fn read_tracking(case: &[u8], at: usize) -> Tracking
+    requires { ⌜ at ≤ 2048 ⌝ }
+{
+    if byte_at(case, at) == 0 {
+        return Tracking::Off;
+    }
+    let granularity = byte_at(case, at + 1);
+    let count = byte_at(case, at + 2);
+    Tracking::On(granularity, count)
+}
+
+// A controller, from index `at` on.
+fn read_controller(case: &[u8], at: usize) -> Controller
+    requires { ⌜ at ≤ 2000 ⌝ }
+{
+    let tracking = read_tracking(case, at);
+    let suspended = flag_at(case, at + 3);
+    let ranges = read_ranges(case, at + 4);
+    Controller {
+        tracking,
+        suspended,
+        ranges,
+    }
+}
+
+// The controllers.
+fn read_controllers(case: &[u8]) -> [Controller; 8] {
+    let first = read_controller(case, 31);
+    let mut controllers = [first; 8];
+    let mut i: usize = 1;
+    while i < 8 {
+        controllers[i] = read_controller(case, 31 + 196 * i);
+        i = i + 1;
+    }
+    controllers
+}
+
+// The identifiers.
+fn read_identifiers(case: &[u8]) -> [u16; 8] {
+    let mut identifiers = [0u16; 8];
+    let mut i: usize = 0;
+    while i < 8 {
+        identifiers[i] = short_at(case, 15 + 2 * i);
+        i = i + 1;
+    }
+    identifiers
+}
+
+// The settings.
+fn read_settings(case: &[u8]) -> Settings {
+    let manager = short_at(case, 0);
+    let least = byte_at(case, 2);
+    let greatest = byte_at(case, 3);
+    let powers = flag_at(case, 4);
+    let limit = short_at(case, 5);
+    let count = long_at(case, 7) as usize;
+    let identifiers = read_identifiers(case);
+    Settings {
+        manager,
+        least,
+        greatest,
+        powers,
+        limit,
+        count,
+        identifiers,
+    }
+}
+
+// The record.
+fn read_device(case: &[u8]) -> Device {
+    let settings = read_settings(case);
+    let controllers = read_controllers(case);
+    Device {
+        settings,
+        controllers,
+    }
+}
+
+// ---- the bytes of an answer
+
+// Puts the lowest `width` bytes of a number, lowest first. Past the eighth byte they are zeros.
+fn put_number(out: &mut [u8], used: usize, width: usize, n: u64) -> usize {
+    let mut at = used;
+    let mut left = width;
+    let mut rest = n;
+    while 0 < left {
+        at = output::put_byte(out, at, (rest % 256) as u8);
+        rest = rest / 256;
+        left = left - 1;
+    }
+    at
+}
+
+// Puts a flag.
+fn put_flag(out: &mut [u8], used: usize, b: bool) -> usize {
+    if b {
+        return output::put_byte(out, used, 1);
+    }
+    output::put_byte(out, used, 0)
+}
+
+// Puts a range.
+fn put_range(out: &mut [u8], used: usize, r: Range) -> usize {
+    let a = put_number(out, used, 8, r.start);
+    put_number(out, a, 4, r.length as u64)
+}
+
+// Puts the ranges of a controller.
+fn put_ranges(out: &mut [u8], used: usize, ranges: [Range; 16]) -> usize {
+    let mut at = used;
+    let mut i: usize = 0;
+    while i < 16 {
+        at = put_range(out, at, ranges[i]);
+        i = i + 1;
+    }
+    at
+}
+
+// Puts whether a controller is tracked, and how.
+fn put_tracking(out: &mut [u8], used: usize, t: Tracking) -> usize {
+    match t {
+        Tracking::Off => put_number(out, used, 3, 0),
+        Tracking::On(granularity, count) => {
+            let a = output::put_byte(out, used, 1);
+            let b = output::put_byte(out, a, granularity);
+            output::put_byte(out, b, count)
+        }
+    }
+}
+
+// Puts a controller.
+fn put_controller(out: &mut [u8], used: usize, c: Controller) -> usize {
+    let t = c.tracking;
+    let ranges = c.ranges;
+    let a = put_tracking(out, used, t);
+    let b = put_flag(out, a, c.suspended);
+    put_ranges(out, b, ranges)
+}
+
+// Puts the controllers.
+fn put_controllers(out: &mut [u8], used: usize, controllers: [Controller; 8]) -> usize {
+    let mut at = used;
+    let mut i: usize = 0;
+    while i < 8 {
+        at = put_controller(out, at, controllers[i]);
+        i = i + 1;
+    }
+    at
+}
+
+// Puts the identifiers.
+fn put_identifiers(out: &mut [u8], used: usize, identifiers: [u16; 8]) -> usize {
+    let mut at = used;
+    let mut i: usize = 0;
+    while i < 8 {
+        at = put_number(out, at, 2, identifiers[i] as u64);
+        i = i + 1;
+    }
+    at
+}
+
+// Puts the settings.
+fn put_settings(out: &mut [u8], used: usize, s: Settings) -> usize {
+    let identifiers = s.identifiers;
+    let a = put_number(out, used, 2, s.manager as u64);
+    let b = output::put_byte(out, a, s.least);
+    let c = output::put_byte(out, b, s.greatest);
+    let e = put_flag(out, c, s.powers);
+    let f = put_number(out, e, 2, s.limit as u64);
+    let g = put_number(out, f, 8, s.count as u64);
+    put_identifiers(out, g, identifiers)
+}
+
+// Puts a record.
+fn put_device(out: &mut [u8], used: usize, d: Device) -> usize {
+    let settings = d.settings;
+    let controllers = d.controllers;
+    let a = put_settings(out, used, settings);
+    put_controllers(out, a, controllers)
+}
+
+// Puts some words.
+fn put_words(out: &mut [u8], used: usize, words: &[u64]) -> usize {
+    let mut at = used;
+    let mut i: usize = 0;
+    while i < words.len() {
+        at = put_number(out, at, 8, words[i]);
+        i = i + 1;
+    }
+    at
+}
+
+// Puts what a receive answers, less its number.
+fn put_received(out: &mut [u8], used: usize, r: Received) -> usize {
+    let a = put_flag(out, used, r.suspended);
+    let b = put_flag(out, a, r.more);
+    let c = output::put_byte(out, b, r.granularity);
+    put_number(out, c, 8, r.runs as u64)
+}
+
+// Puts what a call answers, and the record after it.
+fn put_answer(out: &mut [u8], used: usize, a: Answer) -> usize {
+    let received = a.received;
+    let device = a.device;
+    let b = output::put_byte(out, used, received.number);
+    let c = put_number(out, b, 8, a.count as u64);
+    let e = put_received(out, c, received);
+    put_device(out, e, device)
+}
+
+// ---- the calls
+
+// A number with zeros in a receive's places, for a call that is none.
+fn not_received(number: u8) -> Received {
+    Received {
+        number,
+        suspended: false,
+        more: false,
+        granularity: 0,
+        runs: 0,
+    }
+}
+
+// The answer of a call that may change the record.
+fn changed(c: Changed) -> Answer {
+    let received = not_received(c.number);
+    let device = c.device;
+    Answer {
+        received,
+        count: 0,
+        device,
+    }
+}
+
+// Plays a fresh.
+fn fresh(case: &[u8], marks: &mut [u64]) -> Answer {
+    let s = read_settings(case);
+    changed(tracker::fresh(s, marks))
+}
+
+// Plays a start.
+fn start(case: &[u8], marks: &mut [u64], lent: &[u8]) -> Answer {
+    let d = read_device(case);
+    let id = short_at(case, 1610);
+    changed(tracker::start(d, marks, id, lent))
+}
+
+// Plays a stop.
+fn stop(case: &[u8], marks: &mut [u64]) -> Answer {
+    let d = read_device(case);
+    let id = short_at(case, 1610);
+    changed(tracker::stop(d, marks, id))
+}
+
+// Plays a write: the record stays as given.
+fn write(case: &[u8], marks: &mut [u64]) -> Answer {
+    let device = read_device(case);
+    let id = short_at(case, 1610);
+    let at = long_at(case, 1612);
+    let bytes = long_at(case, 1620);
+    let written = tracker::write(device, marks, id, at, Bytes(bytes));
+    let received = not_received(written.number);
+    Answer {
+        received,
+        count: written.count,
+        device,
+    }
+}
+
+// Plays a receive: the record stays as given.
+fn receive(case: &[u8], marks: &mut [u64], lent: &mut [u8]) -> Answer {
+    let device = read_device(case);
+    let id = short_at(case, 1610);
+    let received = tracker::receive(device, marks, id, lent);
+    Answer {
+        received,
+        count: 0,
+        device,
+    }
+}
+
+// Plays a suspend.
+fn suspend(case: &[u8], marks: &[u64]) -> Answer {
+    let d = read_device(case);
+    let id = short_at(case, 1610);
+    let kind = byte_at(case, 1628);
+    changed(tracker::suspend(d, marks, id, kind))
+}
+
+// Plays a resume.
+fn resume(case: &[u8], marks: &[u64]) -> Answer {
+    let d = read_device(case);
+    let id = short_at(case, 1610);
+    changed(tracker::resume(d, marks, id))
+}
+
+// Plays a case's call on what is lent to it. A call past the form is taken for the last one.
+fn call(case: &[u8], marks: &mut [u64], lent: &mut [u8]) -> Answer {
+    match byte_at(case, 1609) {
+        0 => fresh(case, marks),
+        1 => start(case, marks, lent),
+        2 => stop(case, marks),
+        3 => write(case, marks),
+        4 => receive(case, marks, lent),
+        5 => suspend(case, marks),
+        _ => resume(case, marks),
+    }
+}
+
+// ---- what is lent
+
+// How much is lent: as a case says, and no more than there is room for.
+fn lent_at(case: &[u8], at: usize, most: usize) -> usize
+    ensures { λ r. ⌜ r ≤ most ⌝ }
+{
+    let n = short_at(case, at) as usize;
+    if n < most { n } else { most }
+}
+
+// Makes all words the same.
+fn fill(words: &mut [u64], value: u64) {
+    let mut i: usize = 0;
+    while i < words.len() {
+        words[i] = value;
+        i = i + 1;
+    }
+}
+
+// Copies a case's lent bytes, as many as there is room for.
+fn copy_lent(case: &[u8], lent: &mut [u8]) {
+    let mut at: usize = 1631;
+    while at < case.len() {
+        let i = at - 1631;
+        if lent.len() <= i {
+            return;
+        }
+        lent[i] = case[at];
+        at = at + 1;
+    }
+}
+
+// Fills what a case lends, and plays its call on that.
+fn lend(case: &[u8], marks: &mut [u64], lent: &mut [u8]) -> Answer {
+    let value = long_at(case, 1601);
+    fill(marks, value);
+    copy_lent(case, lent);
+    call(case, marks, lent)
+}
+
+// Plays a case in this room, all zeros, for what it lends: what is past that stays zero.
+fn play_in(case: &[u8], marks: &mut [u64], lent: &mut [u8]) -> Answer {
+    let words = lent_at(case, 1599, marks.len());
+    let size = lent_at(case, 1629, lent.len());
+    lend(case, &mut marks[..words], &mut lent[..size])
+}
+
+// Plays a case, and puts its answer. There is room for more marks than a device has.
+fn play(case: &[u8], out: &mut [u8], used: usize) -> usize {
+    let mut marks = [0u64; 600];
+    let mut lent = [0u8; 1024];
+    let answer = play_in(case, &mut marks, &mut lent);
+    let a = put_answer(out, used, answer);
+    let b = put_words(out, a, &marks);
+    output::put_bytes(out, b, &lent)
+}
+
+// ---- input and output
+
+// Puts a byte behind the `at` bytes of a case that are there.
+fn keep_byte(case: &mut [u8], at: usize, b: u8) -> usize {
+    if at < case.len() {
+        case[at] = b;
+        return at + 1;
+    }
+    at
+}
+
+// Takes a byte in, and plays the case that it ends.
+fn take_byte(s: State, case: &mut [u8], out: &mut [u8], b: u8) -> State {
+    let there = keep_byte(case, s.there, b);
+    if there < case.len() {
+        return State {
+            there,
+            used: s.used,
+        };
+    }
+    let used = play(case, out, s.used);
+    State { there: 0, used }
+}
+
+// Takes some input in.
+fn take_in(s: State, case: &mut [u8], out: &mut [u8], input: &[u8]) -> State {
+    let mut s = s;
+    let mut i: usize = 0;
+    while i < input.len() {
+        s = take_byte(s, case, out, input[i]);
+        i = i + 1;
+    }
+    s
+}
+
+// Reads once, and answers how many bytes came: 0 at the end of the input, and where reading fails.
+fn read_some(input: &mut [u8]) -> usize
+    ensures { λ r. ⌜ Counts r (now (input .exit)) ⌝ }
+{
+    let got = libc::read(STDIN_FILENO, input);
+    io::count(got, input)
+}
+
+// Plays the cases; a rest that is no whole case is none. What was answered is written out before more input is waited for. A proved loop has to end,
+// and nothing says that the input does: it counts its turns down, from a number that no run uses up.
+fn run(case: &mut [u8], out: &mut [u8], input: &mut [u8]) {
+    let mut s = State { there: 0, used: 0 };
+    let mut turns = u64::MAX;
+    while turns > 0 {
+        let n = read_some(input);
+        if n == 0 {
+            return;
+        }
+        s = take_in(s, case, out, &input[..n]);
+        output::flush(out, s.used);
+        s.used = 0;
+        turns -= 1;
+    }
+}
+
+// A case is 2944 bytes.
+fn main() {
+    let mut case = [0u8; 2944];
+    let mut out = [0u8; 65536];
+    let mut input = [0u8; 65536];
+    run(&mut case, &mut out, &mut input);
+}
