@@ -1,0 +1,70 @@
+"""From times to ratios. Every figure is a difference of times, so that what both listings do (starting, reading lines, answering) falls out."""
+
+PROVED, PLAIN, TESTED = "proved", "plain C", "C with the test"
+
+
+class Costs:
+    """What one program's calls cost, by the best time of each record and body."""
+
+    def __init__(self, best, program, calls):
+        self.best, self.program, self.calls = best, program, calls
+
+    def time(self, record, body):
+        return self.best[self.program, record, body]
+
+    def on(self, record, body):
+        """A body on a record, less the same lines with no device: what its calls cost in all."""
+        return self.time(record, body) - self.time("none", body)
+
+    def line(self):
+        """A line that is read and answered with one number, and leads to no call."""
+        return (self.time("none", "writes") - self.time("nothing", "nothing")) / self.calls["writes"]
+
+    def done(self):
+        """What the longer answer of a done write costs more than that of a refused one: both on a device that tracks nothing."""
+        return (self.time("idle", "writes") - self.time("idle", "refused writes")) / self.calls["writes"]
+
+    def test(self, record):
+        """The soundness test: a write that is then refused with 2 does nothing else, but for the search for its identifier."""
+        return (self.time(record, "refused writes") - self.time("none", "writes")) / self.calls["writes"]
+
+    def write(self, record, body="writes"):
+        return self.on(record, body) / self.calls[body] - self.done()
+
+    def report(self, record, session):
+        return (self.on(record, session) - self.on(record, session + ", no reports")) / self.calls[session]
+
+    def session(self, record, session):
+        return self.time(record, session) - self.time("nothing", "nothing")
+
+
+CALLS = {
+    "write, sparse: one unit": lambda costs, record: costs.write(record),
+    "write, dense: 4,096 units": lambda costs, record: costs.write(record, "writes to all units"),
+    "report, sparse: up to 8 runs": lambda costs, record: costs.report(record, "sparse"),
+    "report, dense: 255 runs, mostly their text": lambda costs, record: costs.report(record, "dense"),
+}
+REST = {
+    "a line alone, no call": lambda costs, record: costs.line(),
+    "the whole sparse session": lambda costs, record: costs.session(record, "sparse"),
+    "the whole dense session": lambda costs, record: costs.session(record, "dense"),
+}
+
+
+def ratio(cost):
+    """The proved program's cost to another's."""
+    return lambda programs, record, other: cost(programs[PROVED], record) / cost(programs[other], record)
+
+
+def share(cost):
+    """The soundness test's part of a program's cost, in percent."""
+    return lambda programs, record, name: 100 * programs[name].test(record) / cost(programs[name], record)
+
+
+def share_left_out(programs, record, name):
+    """The same for a sparse write in C, where the test can be left out: it tells how far `share` can be believed."""
+    return None if name == PROVED else 100 * (1 - programs[PLAIN].write(record) / programs[TESTED].write(record))
+
+
+RATIOS = {name: ratio(cost) for name, cost in {**CALLS, **REST}.items()}
+SHARES = {**{name: share(cost) for name, cost in CALLS.items()}, "write, sparse, by leaving the test out": share_left_out}

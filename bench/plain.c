@@ -1,0 +1,511 @@
+// A plain C program for the session listing of document 01, to time the proved one beside. It goes over the marks bit by bit, as one would write it
+// first, and trusts its own record. Built with -DSOUND=1 it tests the whole record before each call, as document 01 asks and the proved calls do.
+// The kit has a C library and no headers for it, so the two functions that are wanted are declared here.
+
+#ifndef SOUND
+#define SOUND 0
+#endif
+
+typedef unsigned char u8;
+typedef unsigned short u16;
+typedef unsigned int u32;
+typedef unsigned long u64;
+
+long read(int file, void *bytes, u64 size);
+long write(int file, const void *bytes, u64 size);
+
+enum { IDS = 8, RANGES = 16, UNITS = 4096, WORDS = IDS * UNITS / 64, NUMBERS = 2 + 2 * RANGES, LINE = 1023, REPORT = 4096, ROOM = 65536 };
+
+struct range { u64 start; u32 length; };
+struct controller { _Bool tracked, suspended; u8 granularity; u32 count; struct range ranges[RANGES]; };
+struct device { u16 manager; u8 least, greatest; _Bool powers; u16 limit; u32 count; u16 ids[IDS]; struct controller controllers[IDS]; };
+
+static struct device device;  // with no identifiers until a `dev` is done
+static u64 marks[WORDS];
+
+// ---- rules
+
+static _Bool settings_ok(const struct device *d)
+{
+    if (d->count < 1 || d->count > IDS || d->least > d->greatest || d->greatest > 20 || d->limit > IDS * RANGES)
+        return 0;
+    for (u32 i = 0; i < d->count; i++) {
+        if (d->ids[i] == d->manager)
+            return 0;
+        for (u32 j = i + 1; j < d->count; j++)
+            if (d->ids[i] == d->ids[j])
+                return 0;
+    }
+    return 1;
+}
+
+static u64 unit_size(u8 granularity) { return 4096ul << granularity; }
+
+static u64 last_byte(const struct range *r, u64 unit) { return r->start + (r->length * unit - 1); }
+
+static _Bool range_ok(const struct range *r, u64 unit)
+{
+    return r->length >= 1 && r->start % unit == 0 && last_byte(r, unit) >= r->start;
+}
+
+static _Bool ranges_ok(const struct range *ranges, u32 count, u64 unit)
+{
+    for (u32 i = 0; i < count; i++)
+        if (!range_ok(&ranges[i], unit))
+            return 0;
+    for (u32 i = 0; i < count; i++)
+        for (u32 j = i + 1; j < count; j++)
+            if (ranges[i].start <= last_byte(&ranges[j], unit) && ranges[j].start <= last_byte(&ranges[i], unit))
+                return 0;
+    return 1;
+}
+
+// The first of 7, 9, 10 and 11 that a granularity and its ranges break, or 0.
+static u8 list_refusal(const struct device *d, u8 granularity, const struct range *ranges, u32 count)
+{
+    u64 units = 0;
+    if (granularity < d->least || granularity > d->greatest)
+        return 7;
+    if (count < 1 || count > RANGES || !ranges_ok(ranges, count, unit_size(granularity)))
+        return 9;
+    for (u32 i = 0; i < count; i++) {
+        if (d->powers && (ranges[i].length & (ranges[i].length - 1)))
+            return 10;
+        units += ranges[i].length;
+    }
+    return units > UNITS ? 11 : 0;
+}
+
+static u32 counts(const struct device *d)
+{
+    u32 total = 0;
+    for (u32 i = 0; i < d->count; i++)
+        total += d->controllers[i].tracked ? d->controllers[i].count : 0;
+    return total;
+}
+
+static _Bool sound(const struct device *d)
+{
+    if (!settings_ok(d))
+        return 0;
+    for (u32 i = 0; i < d->count; i++) {
+        const struct controller *c = &d->controllers[i];
+        if (c->tracked && list_refusal(d, c->granularity, c->ranges, c->count))
+            return 0;
+    }
+    return counts(d) <= d->limit;
+}
+
+// ---- marks
+
+static _Bool pending(u32 k) { return marks[k / 64] >> k % 64 & 1; }
+static void set(u32 k) { marks[k / 64] |= 1ul << k % 64; }
+static void clear(u32 k) { marks[k / 64] &= ~(1ul << k % 64); }
+
+static void clear_all(u32 from, u32 count)
+{
+    for (u32 k = from; k < from + count; k++)
+        clear(k);
+}
+
+// ---- calls: each answers its number
+
+// Where a call finds its controller: 0 and its place, or 1 or 2.
+static u8 find(u16 id, u32 *place)
+{
+    *place = 0;
+    if (SOUND ? !sound(&device) : !device.count)
+        return 1;
+    for (; *place < device.count; ++*place)
+        if (device.ids[*place] == id)
+            return 0;
+    return 2;
+}
+
+static u8 fresh(const struct device *d)
+{
+    if (!settings_ok(d))
+        return 16;
+    device = *d;
+    clear_all(0, IDS * UNITS);
+    return 0;
+}
+
+static u8 start(u16 id, u8 granularity, const struct range *ranges, u32 count)
+{
+    u32 place;
+    u8 number = find(id, &place);
+    struct controller *c = &device.controllers[place];
+    if (number)
+        return number;
+    if (c->suspended)
+        return 4;
+    if (c->tracked)
+        return 3;
+    number = list_refusal(&device, granularity, ranges, count);
+    if (number)
+        return number;
+    if (count + counts(&device) > device.limit)
+        return 12;
+    c->tracked = 1;
+    c->granularity = granularity;
+    c->count = count;
+    for (u32 i = 0; i < count; i++)
+        c->ranges[i] = ranges[i];
+    clear_all(UNITS * place, UNITS);
+    return 0;
+}
+
+static u8 stop(u16 id)
+{
+    u32 place;
+    u8 number = find(id, &place);
+    struct controller *c = &device.controllers[place];
+    if (number)
+        return number;
+    if (c->suspended)
+        return 4;
+    if (!c->tracked)
+        return 5;
+    *c = (struct controller){0};
+    clear_all(UNITS * place, UNITS);
+    return 0;
+}
+
+// Marks what a write touches in one range, whose marks stand from `base` on, and counts what was not pending.
+static u32 mark(const struct range *r, u64 unit, u32 base, u64 first, u64 last)
+{
+    u32 new = 0;
+    if (last < r->start || first > last_byte(r, unit))
+        return 0;
+    u64 from = first < r->start ? 0 : (first - r->start) / unit;
+    u64 to = last > last_byte(r, unit) ? r->length - 1 : (last - r->start) / unit;
+    for (u32 k = base + from; k <= base + to; k++)
+        if (!pending(k)) {
+            set(k);
+            new++;
+        }
+    return new;
+}
+
+static u8 note(u16 id, u64 address, u64 bytes, u32 *new)
+{
+    u32 place;
+    u8 number = find(id, &place);
+    const struct controller *c = &device.controllers[place];
+    *new = 0;
+    if (number)
+        return number;
+    if (c->suspended)
+        return 4;
+    if (bytes == 0)
+        return 0;
+    if (address + (bytes - 1) < address)
+        return 14;
+    if (!c->tracked)
+        return 0;
+    u32 base = UNITS * place;
+    for (u32 i = 0; i < c->count; i++) {
+        *new += mark(&c->ranges[i], unit_size(c->granularity), base, address, address + (bytes - 1));
+        base += c->ranges[i].length;
+    }
+    return 0;
+}
+
+static void put_little(u8 *bytes, u64 n, u32 size)
+{
+    for (u32 i = 0; i < size; i++)
+        bytes[i] = n >> 8 * i;
+}
+
+static u64 get_little(const u8 *bytes, u32 size)
+{
+    u64 n = 0;
+    for (u32 i = 0; i < size; i++)
+        n |= (u64)bytes[i] << 8 * i;
+    return n;
+}
+
+static void put_descriptor(u8 *at, u64 address, u32 length)
+{
+    put_little(at, address, 8);
+    put_little(at + 8, length, 4);
+    put_little(at + 12, 0, 4);
+}
+
+// Lists the first runs, as many as there is room for, and makes them clear. Answers whether a run stays.
+static _Bool list_runs(const struct controller *c, u32 base, u8 *report, u32 room, u32 *runs)
+{
+    *runs = 0;
+    for (u32 i = 0; i < c->count; i++) {
+        const struct range *r = &c->ranges[i];
+        for (u32 k = base; k < base + r->length;) {
+            if (!pending(k)) {
+                k++;
+                continue;
+            }
+            if (*runs == room)
+                return 1;
+            u32 from = k;
+            while (k < base + r->length && pending(k))
+                clear(k++);
+            put_descriptor(report + 16 + 16 * (*runs)++, r->start + (from - base) * unit_size(c->granularity), k - from);
+        }
+        base += r->length;
+    }
+    return 0;
+}
+
+static u8 receive(u16 id, u8 *report, u32 size)
+{
+    u32 place, runs;
+    u8 number = find(id, &place);
+    const struct controller *c = &device.controllers[place];
+    if (number)
+        return number;
+    if (!c->tracked)
+        return 5;
+    if (size < 32)
+        return 8;
+    _Bool more = list_runs(c, UNITS * place, report, (size - 16) / 16, &runs);
+    put_little(report, 0, 1);
+    put_little(report + 1, c->suspended * 2 + more, 1);
+    put_little(report + 2, id, 2);
+    put_little(report + 4, runs, 4);
+    put_little(report + 8, c->granularity, 2);
+    put_little(report + 10, 0, 6);
+    return 0;
+}
+
+static u8 suspend(u16 id, u8 type)
+{
+    u32 place;
+    u8 number = find(id, &place);
+    if (number)
+        return number;
+    if (type > 1)
+        return 15;
+    if (type == 1)
+        device.controllers[place].suspended = 1;
+    return 0;
+}
+
+static u8 resume(u16 id)
+{
+    u32 place;
+    u8 number = find(id, &place);
+    if (number)
+        return number;
+    if (!device.controllers[place].suspended)
+        return 13;
+    device.controllers[place].suspended = 0;
+    return 0;
+}
+
+// ---- answers as text
+
+static u8 out[ROOM];
+static u32 used;
+
+static void flush(void)
+{
+    for (u32 at = 0; at < used;) {
+        long n = write(1, out + at, used - at);
+        if (n <= 0)
+            break;
+        at += n;
+    }
+    used = 0;
+}
+
+static void put_byte(u8 b)
+{
+    if (used == ROOM)
+        flush();
+    out[used++] = b;
+}
+
+static void put_text(const char *text)
+{
+    while (*text)
+        put_byte(*text++);
+}
+
+static void put_number(const char *before, u64 n)
+{
+    u8 digits[20];
+    u32 count = 0;
+    put_text(before);
+    do
+        digits[count++] = '0' + n % 10;
+    while (n /= 10);
+    while (count)
+        put_byte(digits[--count]);
+}
+
+static void put_answer(u8 number)
+{
+    put_number("", number);
+    put_byte('\n');
+}
+
+static void put_report(const u8 *report)
+{
+    u32 runs = get_little(report + 4, 4);
+    put_number("0 susp ", report[1] >> 1 & 1);
+    put_number(" more ", report[1] & 1);
+    put_number(" gran ", get_little(report + 8, 2));
+    put_number(" runs ", runs);
+    put_byte('\n');
+    for (const u8 *at = report + 16; at < report + 16 + 16 * runs; at += 16) {
+        put_number("", get_little(at, 8));
+        put_number(" ", get_little(at + 8, 4));
+        put_byte('\n');
+    }
+}
+
+// ---- lines
+
+enum word { DEV, START, STOP, WRITE, RECV, SUSP, RESUME, NO_WORD };
+static const struct { const char *name; u32 least, most; } words[NO_WORD] = {
+    {"dev", 5, 5 + IDS}, {"start", 2, NUMBERS}, {"stop", 1, 1}, {"write", 3, 3}, {"recv", 2, 2}, {"susp", 2, 2}, {"resume", 1, 1},
+};
+
+// The greatest number that a place after a word takes.
+static u64 greatest(enum word word, u32 place)
+{
+    if (word == DEV)
+        return place == 3 ? 1 : place == 1 || place == 2 ? 255 : 65535;
+    if (place == 0)
+        return 65535;
+    if (word == START)
+        return place == 1 ? 255 : place % 2 ? 0xfffffffful : ~0ul;
+    return word == WRITE ? ~0ul : word == RECV ? REPORT : 255;
+}
+
+static enum word word_of(const u8 *text, u32 length)
+{
+    for (enum word word = DEV; word < NO_WORD; word++) {
+        u32 i = 0;
+        while (i < length && words[word].name[i] == text[i])
+            i++;
+        if (i == length && !words[word].name[i])
+            return word;
+    }
+    return NO_WORD;
+}
+
+static _Bool number_of(const u8 *text, u32 length, u64 most, u64 *n)
+{
+    *n = 0;
+    if (length == 0 || (length > 1 && text[0] == '0'))
+        return 0;
+    for (u32 i = 0; i < length; i++) {
+        u64 digit = text[i] - '0';
+        if (digit > 9 || digit > most || *n > (most - digit) / 10)
+            return 0;
+        *n = 10 * *n + digit;
+    }
+    return 1;
+}
+
+static u32 field_end(const u8 *line, u32 length, u32 from)
+{
+    while (from < length && line[from] != ' ')
+        from++;
+    return from;
+}
+
+// Reads a line: its word and numbers, or NO_WORD for one that is bad.
+static enum word read_line(const u8 *line, u32 length, u64 *numbers, u32 *count)
+{
+    u32 end = field_end(line, length, 0);
+    enum word word = word_of(line, end);
+    *count = 0;
+    if (word == NO_WORD || length > LINE)
+        return NO_WORD;
+    while (end < length) {
+        u32 from = end + 1;
+        end = field_end(line, length, from);
+        if (*count == words[word].most || !number_of(line + from, end - from, greatest(word, *count), &numbers[*count]))
+            return NO_WORD;
+        ++*count;
+    }
+    if (*count < words[word].least || (word == START && *count % 2))
+        return NO_WORD;
+    return word;
+}
+
+static void play_dev(const u64 *n, u32 count)
+{
+    struct device d = {.manager = n[0], .least = n[1], .greatest = n[2], .powers = n[3], .limit = n[4], .count = count - 5};
+    for (u32 i = 0; i < d.count; i++)
+        d.ids[i] = n[5 + i];
+    put_answer(fresh(&d));
+}
+
+static void play_start(const u64 *n, u32 count)
+{
+    struct range ranges[RANGES];
+    for (u32 i = 0; i < count / 2 - 1; i++)
+        ranges[i] = (struct range){n[2 + 2 * i], n[3 + 2 * i]};
+    put_answer(start(n[0], n[1], ranges, count / 2 - 1));
+}
+
+static void play_write(const u64 *n)
+{
+    u32 new;
+    u8 number = note(n[0], n[1], n[2], &new);
+    if (number) {
+        put_answer(number);
+    } else {
+        put_number("0 ", new);
+        put_byte('\n');
+    }
+}
+
+static void play_recv(const u64 *n)
+{
+    u8 report[REPORT];
+    u8 number = receive(n[0], report, n[1]);
+    if (number)
+        put_answer(number);
+    else
+        put_report(report);
+}
+
+static void play(const u8 *line, u32 length)
+{
+    u64 n[NUMBERS];
+    u32 count;
+    switch (read_line(line, length, n, &count)) {
+    case DEV: play_dev(n, count); break;
+    case START: play_start(n, count); break;
+    case STOP: put_answer(stop(n[0])); break;
+    case WRITE: play_write(n); break;
+    case RECV: play_recv(n); break;
+    case SUSP: put_answer(suspend(n[0], n[1])); break;
+    case RESUME: put_answer(resume(n[0])); break;
+    case NO_WORD: put_text("bad\n"); break;
+    }
+}
+
+// Plays standard input, line by line; answers go out before more input is waited for. A line keeps one byte more than it may have, as a sign that it is
+// too long. A last line without a line feed is played too.
+int main(void)
+{
+    static u8 input[ROOM], line[LINE + 1];
+    u32 length = 0;
+    for (long got; (got = read(0, input, ROOM)) > 0; flush())
+        for (long i = 0; i < got; i++)
+            if (input[i] == '\n') {
+                play(line, length);
+                length = 0;
+            } else if (length <= LINE) {
+                line[length++] = input[i];
+            }
+    if (length)
+        play(line, length);
+    flush();
+    return 0;
+}

@@ -1,0 +1,91 @@
+"""The listings that are timed: what is set up first, and the lines that are played on it."""
+
+import random
+from typing import NamedTuple
+
+UNIT, UNITS, FIRST = 4096, 4096, 1 << 32   # bytes of a unit, units of a controller, address of the first
+ID, UNKNOWN = 5, 4                         # as many digits in both, so that their lines cost the same to read
+RUNS = 255                                 # what a report of 4,096 bytes holds
+
+DEV = "dev 1 0 8 0 128"
+NOTHING = []                               # no device: every line answers 1, and no call does any work
+IDLE = [f"{DEV} {ID}"]                     # a device that tracks nothing: a done write marks nothing
+ONE_RANGE = IDLE + [f"start {ID} 0 {FIRST} {UNITS}"]
+
+
+def full_record():
+    """8 controllers with 16 ranges each, the most that there can be. The ranges lie one behind the other, so lines made for one range fit here too."""
+    ids = range(ID, ID + 8)
+    ranges = " ".join(f"{FIRST + i * 256 * UNIT} 256" for i in range(16))
+    return [f"{DEV} {' '.join(map(str, ids))}"] + [f"start {id} 0 {ranges}" for id in ids]
+
+
+RECORDS = {"none": NOTHING, "idle": IDLE, "1 range": ONE_RANGE, "128 ranges": full_record()}
+
+
+class Body(NamedTuple):
+    lines: list
+    calls: int     # among how many calls its time is shared
+
+
+def write(unit, within=0, id=ID):
+    return f"write {id} {FIRST + unit * UNIT + within} 1"
+
+
+def report():
+    return f"recv {ID} 4096"
+
+
+def few_writes(rng, count):
+    """Writes of one byte, anywhere."""
+    return [write(rng.randrange(UNITS), rng.randrange(UNIT)) for _ in range(count)]
+
+
+def sparse(rng, reports):
+    """Eight writes, a report, and so on: a report goes over 4,096 units and finds up to eight runs."""
+    return [line for _ in range(reports) for line in few_writes(rng, 8) + [report()]]
+
+
+def dense(rng, reports):
+    """Every second unit is pending: 2,048 runs. A report takes the first 255, and 255 writes mark them again."""
+    taken = [write(2 * run) for run in range(RUNS)]
+    lines = [write(unit) for unit in range(0, UNITS, 2)]
+    for _ in range(reports):
+        lines += [report()] + rng.sample(taken, RUNS)
+    return lines
+
+
+def without_reports(lines):
+    return [line for line in lines if not line.startswith("recv")]
+
+
+def to_unknown(lines):
+    """The same writes, for an identifier that is not in the settings: refused with 2, after the soundness test."""
+    return [line.replace(f"write {ID} ", f"write {UNKNOWN} ") for line in lines]
+
+
+def bodies(seed, scale):
+    """What is played on a record, by name. Scale 1 fits an emulator."""
+    rng = random.Random(seed)
+    writes = few_writes(rng, 40_000 * scale)
+    all_units = [f"write {ID} {FIRST} {UNITS * UNIT}"] * (2_000 * scale)
+    few_runs, many_runs = sparse(rng, 1_000 * scale), dense(rng, 80 * scale)
+    return {
+        "writes": Body(writes, len(writes)),
+        "refused writes": Body(to_unknown(writes), len(writes)),
+        "writes to all units": Body(all_units, len(all_units)),
+        "sparse": Body(few_runs, 1_000 * scale),
+        "sparse, no reports": Body(without_reports(few_runs), 1_000 * scale),
+        "dense": Body(many_runs, 80 * scale),
+        "dense, no reports": Body(without_reports(many_runs), 80 * scale),
+    }
+
+
+def listings(made):
+    """Every listing to be timed: lines, by the names of record and body. One is empty: it costs what starting a program costs."""
+    lines = {("nothing", "nothing"): []}
+    for record, setup in RECORDS.items():
+        for name, body in made.items():
+            if record != "idle" or name in ("writes", "refused writes"):
+                lines[record, name] = setup + body.lines
+    return lines
