@@ -16,7 +16,7 @@ use Rattle.rules.specs.declared.Settings.{Settings}
 use Rattle.rules.specs.Machine.{on, slot, noReport, pendingIn, State, fresh, soundState, slotOf, Call}
 use Rattle.rules.specs.History.{Did, historyOf, only, pendingBy, PendingBy}
 use Rattle.rules.specs.Demands as rules-demands
-use Rattle.rules.specs.Demands.{sessionEnd, sessionHistory, lentBytes}
+use Rattle.rules.specs.Demands.{sessionEnd, sessionHistory, lentBytes, ReadBack}
 use Rattle.rules.proofs.SlotHistory.{Known}
 use Rattle.rules.proofs.Sessions.{known-session}
 use Rattle.rules.proofs.ListLaws.{some-inj}
@@ -24,6 +24,8 @@ use Rattle.rules.proofs.StartLaws.{without-loss}
 use Rattle.rules.proofs.Theorems as rules
 use Rattle.rules.specs.declared.Tracking.the-variants.{On}
 use Rattle.record.specs.Record.{soundWith, controllerAt, seenIn}
+use Rattle.record.proofs.RecordLaws.{soundDevice-facts, soundDevice-held}
+use Rattle.report_reader.proofs.ReadBack.{reads-back}
 use Rattle.bits.proofs.Share.{getShare-at}
 use Rattle.calls.specs.Calls.{shareAt, withMarks, reportIn, freshChange, Change, changed, startDone, startChange, stopDone, stopChange, flagDone, suspendChange, resumeChange, Note, noted, writeDone, writeNote, Receipt, received, receiveDone, receiveReceipt}
 use Rattle.calls.specs.declared.Changed.{Changed}
@@ -143,6 +145,15 @@ module _ (s : Settings) (ws : List ℕ) (ks : List Call) (eight : length (s .ide
       unfolding receiveReceipt
       is-received x h = rw (place, sure begun-well, t, le-leb 32 (length x) h)
 
+      is-read-back : (x : List ℕ) → 32 ≤ length x → a < 2 ^ 16
+          → let c = receiveReceipt (endOf s ws ks .device) (endOf s ws ks .marks) a x in ReadBack a (c .report) (c .buffer)
+      is-read-back x h small =
+          let d = endOf s ws ks .device in
+          let e = soundness .kept s ws ks eight begun-well .0 in
+          let f = soundDevice-held d i g n e (placeOf-used d a i place) (omega (arith, r .fits .controllers, placeOf-used d a i place, soundDevice-facts d e .count)) t in
+          subst (λ (c : Receipt). ReadBack a (c .report) (c .buffer)) (sym (is-received x h))
+          (reads-back a g (controllerOf (endOf s ws ks) i .suspended) (take n (controllerOf (endOf s ws ks) i .ranges)) p x small (f .small) (f .rows) (f .total) h)
+
       is-written : (w : Write) → controllerOf (endOf s ws ks) i .suspended ≡ false → w .address + w .bytes ≤ 2 ^ 64
           → writeNote (endOf s ws ks .device) (endOf s ws ks .marks) a w ≡ noted 0 (newly w us p) (withMarks (endOf s ws ks .marks) (shareAt i) (mark w us p))
       unfolding writeNote
@@ -159,6 +170,7 @@ module _ (s : Settings) (ws : List ℕ) (ks : List Call) (eight : length (s .ide
                   (λ q. some-inj (sym e ∙ k .1 (subst (λ h. PendingBy h u) (history-same a) q))),
                 );
             received = is-received;
+            read-back = is-read-back;
             written = is-written;
             reports = λ k. rules.demand-2 .reports s ks a _ g _ p is-on k;
             writes = λ w. rules.demand-2 .writes s ks a _ g _ p is-on w;

@@ -1,7 +1,7 @@
 -- What the customer asked for, as statements about the calls of `tracker`, each proved in proofs/Theorems.antt. Any record, any words, any bytes and
 -- any numbers are meant where nothing else is said. Where a session is meant, its settings have the eight places of their type and the marks are 512
 -- words, as fresh asks.
-use Prim.Native.Nat.{ℕ, _+_, _^_, _≤_}
+use Prim.Native.Nat.{ℕ, _+_, _^_, _≤_, _<_}
 use mathlib.Core.Path.{_≡_}
 use mathlib.Core.Logic.{_≢_, _↔_}
 use mathlib.Core.Bool.{Bool, true, false}
@@ -16,7 +16,7 @@ use Rattle.rules.specs.Order.{freshOrder, startOrder, stopOrder, writeOrder, re
 use Rattle.rules.specs.Device.{closedDevice, soundDevice}
 use Rattle.rules.specs.Machine.{refused, pendingIn, slotOf, Call, lent}
 use Rattle.rules.specs.History.{only, PendingBy}
-use Rattle.rules.specs.Demands.{Reports, Touches, Writes, WithoutLoss, unhindered}
+use Rattle.rules.specs.Demands.{Reports, ReadBack, Touches, Writes, WithoutLoss, unhindered}
 use Rattle.rules.specs.declared.Settings.{Settings}
 use Rattle.rules.specs.declared.Controller.{Controller}
 use Rattle.rules.specs.declared.Device.{Device}
@@ -89,6 +89,9 @@ pub record Tracked (s : Settings) (ws : List ℕ) (ks : List Call) (a i g n : �
       ≡ reportIn (endOf s ws ks .marks) (shareAt i) a (controllerOf (endOf s ws ks) i .suspended) g (unitsOf (endOf s ws ks) i g n) (marksIn (endOf s ws ks) i g n) x
   -- "a report lists the earliest pending runs that fit; More To Report is clear exactly when nothing stays pending", with room for k runs
   pub reports : (k : ℕ) → Reports (controllerOf (endOf s ws ks) i .suspended) g k (unitsOf (endOf s ws ks) i g n) (marksIn (endOf s ws ks) i g n)
+  -- W1: the host's reader accepts that report, and gives back exactly its runs
+  pub read-back : (x : List ℕ) → 32 ≤ length x → a < 2 ^ 16
+      → let c = receiveReceipt (endOf s ws ks .device) (endOf s ws ks .marks) a x in ReadBack a (c .report) (c .buffer)
   -- a write that ends at most at 2^64, of a controller that is not suspended, marks the units that it touches
   pub written : (w : Write) → controllerOf (endOf s ws ks) i .suspended ≡ false → w .address + w .bytes ≤ 2 ^ 64
       → writeNote (endOf s ws ks .device) (endOf s ws ks .marks) a w

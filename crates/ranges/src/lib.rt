@@ -47,7 +47,7 @@ fn bytes_in(g: u8, r: Range) -> Bytes
 
 // Whether a range by itself passes 9: some units, from a multiple of the unit on, that end at most at 2^64. Its last byte is held to the last
 // address, so that no sum can wrap.
-fn range_ok(g: u8, r: Range) -> bool
+pub fn range_ok(g: u8, r: Range) -> bool
     requires { ⌜ g ≤ 20 ⌝ }
     ensures { λ x. ⌜ x ≡ passes (rowTests g 0 r) ⌝ }
 {

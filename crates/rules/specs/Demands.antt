@@ -8,10 +8,12 @@ use mathlib.Core.List.{List, [], _∷_, map}
 use mathlib.Core.Option.{none, some}
 use lib.ListN.{length, take, drop, getD, getElem?}
 use Rattle.rules.specs.Lists.{all, any, join, member}
+use Rattle.rules.specs.Refusals.{refusal}
 use Rattle.rules.specs.Settings.{settingsOk, unitSize, bytesOf}
 use Rattle.rules.specs.Units.{Unit, Write, units, touches, mark, newly, pending}
 use Rattle.rules.specs.StartData.{startSize, startBytes, startData, startWritten, placed}
-use Rattle.rules.specs.Report.{follows, runs, Descriptor, descriptor, reportOn, marksLeft}
+use Rattle.rules.specs.Report.{follows, runs, Descriptor, descriptor, Report, reportOn, marksLeft}
+use Rattle.rules.specs.ReportReader.{moreIn, suspendedIn, identifierIn, granularityIn, descriptorsIn, reportTests}
 use Rattle.rules.specs.Machine.{refused, slot, on, pendingIn, State, fresh, soundState, slotOf, Call, step, after, events, lent, stored, numberOf, newlyOf, noReport, reportOf}
 use Rattle.rules.specs.History.{Did, only, historyOf, PendingBy, lists, slotBy}
 use Rattle.rules.specs.declared.Range.{Range}
@@ -138,6 +140,17 @@ pub record WithoutLoss : Type 0 where
       → startData x ≡ record { header = Is g n; ranges = rs } → startBytes g (take n rs) ≡ take (startSize n) x
   -- bytes after the structure are unchanged, and a refused writer changes none
   pub rest : (buffer : List ℕ) (g n : ℕ) (rs : List Range) → drop (startSize (length rs)) (startWritten buffer g n rs) ≡ drop (startSize (length rs)) buffer
+
+-- ---- W1: the host's reader "accepts each report the core can write, returning exactly its runs"
+
+-- the bytes of a report r on a controller, read back
+pub record ReadBack (id : ℕ) (r : Report) (x : List ℕ) : Type 0 where
+  pub accepted : refusal (reportTests x) ≡ 0
+  pub identifier : identifierIn x ≡ id
+  pub suspended : suspendedIn x ≡ r .suspended
+  pub more : moreIn x ≡ r .more
+  pub granularity : granularityIn x ≡ r .granularity
+  pub runs : descriptorsIn x ≡ r .descriptors
 
 -- ---- demand 3
 

@@ -5,6 +5,7 @@ pub mod Units
 pub mod Ranges
 pub mod StartData
 pub mod Report
+pub mod ReportReader
 pub mod Order
 pub mod Device
 pub mod Machine
