@@ -18,6 +18,22 @@ pub struct Judged {
 
 // ---- the whole report
 
+// The granularity, in its 16 bits.
+fn granularity_in(report: &[u8]) -> u16
+    requires { ⌜ reportSize 0 ≤ length (now report) ⌝ }
+    ensures { λ r. ⌜ r ≡ granularityIn (now (report .entry)) ⌝ }
+{
+    little::read_u16(report, 8)
+}
+
+// The number of descriptors.
+fn count_in(report: &[u8]) -> u32
+    requires { ⌜ reportSize 0 ≤ length (now report) ⌝ }
+    ensures { λ r. ⌜ r ≡ countIn (now (report .entry)) ⌝ }
+{
+    little::read_u32(report, 4)
+}
+
 // The descriptor in the 16 bytes from index `at` on, as a range.
 fn read_range(report: &[u8], at: usize) -> Range
     requires { ⌜ at + 16 ≤ length (now report) ⌝ }
@@ -71,14 +87,14 @@ fn judge(report: &[u8]) -> Judged
             index: 0,
         };
     }
-    let g = little::read_u16(report, 8);
+    let g = granularity_in(report);
     if g > 20 {
         return Judged {
             number: 7,
             index: 0,
         };
     }
-    let n = little::read_u32(report, 4) as usize;
+    let n = count_in(report) as usize;
     if more_of_none(report, n) {
         return Judged {
             number: 9,
@@ -163,7 +179,7 @@ pub extern "C" fn tmc_report_granularity(report: &[u8]) -> u16
     if tmc_report_refusal(report) != 0 {
         return 0;
     }
-    little::read_u16(report, 8)
+    granularity_in(report)
 }
 
 // The number of descriptors.
@@ -174,7 +190,7 @@ pub extern "C" fn tmc_report_count(report: &[u8]) -> u32
     if tmc_report_refusal(report) != 0 {
         return 0;
     }
-    little::read_u32(report, 4)
+    count_in(report)
 }
 
 // ---- its descriptors
@@ -188,7 +204,7 @@ pub extern "C" fn tmc_report_refusal_at(report: &[u8], index: u64) -> u8
     if number != 0 {
         return number;
     }
-    let count = little::read_u32(report, 4) as u64;
+    let count = count_in(report) as u64;
     if count <= index {
         return 33;
     }

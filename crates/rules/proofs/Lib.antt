@@ -13,3 +13,4 @@ pub mod StartLaws
 pub mod ReportLaws
 pub mod Theorems
 pub mod ScanLaws
+pub mod Promise

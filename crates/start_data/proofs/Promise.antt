@@ -5,6 +5,7 @@ use denote.Ref.{now}
 use lib.ListN.{take}
 use Rattle.rules.specs.StartData.{startData, startWritten}
 use Rattle.rules.specs.Demands.{WithoutLoss}
+use Rattle.rules.proofs.Promise.{Determinate}
 use Rattle.rules.proofs.StartLaws.{without-loss}
 use Rattle.start_data.proofs.read_header.Reads as read-header
 use Rattle.start_data.proofs.read_ranges.Reads as read-ranges
@@ -12,9 +13,6 @@ use Rattle.start_data.proofs.read_start.Reads as read-start
 use Rattle.start_data.proofs.write_start.Reads as write-start
 
 -- ---- any two results that a promise allows are equal
-
-abbrev Determinate : {K : Type 0} {A R E : K → Type 0} → ((κs : K) → A κs → R κs → E κs → Type 0) → Type 0
-Determinate promise = (κs : _) (a : _) (r r′ : _) (e e′ : _) → promise κs a r e → promise κs a r′ e′ → r ≡ r′
 
 pub read-header-determinate : Determinate read-header.Post
 read-header-determinate κs a r r′ e e′ p q = p ∙ sym q

@@ -2,6 +2,7 @@
 -- contract as the checker reads it off the source: of its arguments `a`, its result and what it was lent, at exit. Assumes nothing.
 use mathlib.Core.Path.{_≡_, sym, _∙_}
 use denote.Ref.{now}
+use Rattle.rules.proofs.Promise.{Determinate}
 use Rattle.fresh.proofs.fresh.Reads as fresh
 use Rattle.track_send.proofs.start.Reads as start
 use Rattle.track_send.proofs.stop.Reads as stop
@@ -29,8 +30,8 @@ pub receive-determinate : (κs : _) (a : _) (r r′ : _) (e e′ : _) → receiv
 receive-determinate κs a r r′ e e′ p q = (p .0 ∙ sym (q .0), p .1 ∙ sym (q .1), p .2 ∙ sym (q .2))
 
 -- the marks are only read
-pub suspend-determinate : (κs : _) (a : _) (r r′ : _) (e e′ : _) → suspend.Post κs a r e → suspend.Post κs a r′ e′ → r ≡ r′
+pub suspend-determinate : Determinate suspend.Post
 suspend-determinate κs a r r′ e e′ p q = p ∙ sym q
 
-pub resume-determinate : (κs : _) (a : _) (r r′ : _) (e e′ : _) → resume.Post κs a r e → resume.Post κs a r′ e′ → r ≡ r′
+pub resume-determinate : Determinate resume.Post
 resume-determinate κs a r r′ e e′ p q = p ∙ sym q

@@ -16,14 +16,14 @@ shared-slice-read-if2 c = search needs
 returns-2 : tie.Need-returns-2
 returns-2 c = judged-version _ (c .before .before .if1 .left) (c .if2 .taken)
 
-read-u16-requires : tie.Need-read-u16-requires
-read-u16-requires c κs = search needs
+granularity-in-requires : tie.Need-granularity-in-requires
+granularity-in-requires c κs = search needs
 
 returns-3 : tie.Need-returns-3
-returns-3 c = judged-granularity _ (c .before .before .before .before .if1 .left) (c .before .before .if2 .left) (rw (c .before .read-u16 .ensures) at (c .if3 .taken))
+returns-3 c = judged-granularity _ (c .before .before .before .before .if1 .left) (c .before .before .if2 .left) (rw (c .before .granularity-in .ensures) at (c .if3 .taken))
 
-read-u32-requires : tie.Need-read-u32-requires
-read-u32-requires c κs = search needs
+count-in-requires : tie.Need-count-in-requires
+count-in-requires c κs = search needs
 
 cast-n : tie.Need-cast-n
 cast-n c = search needs
@@ -33,8 +33,8 @@ more-of-none-requires c κs = search needs
 
 returns-4 : tie.Need-returns-4
 returns-4 c =
-    judged-more _ (c .before .before .before .before .before .before .before .if1 .left) (c .before .before .before .before .before .if2 .left) (rw (c .before .before .before .before .read-u16 .ensures) at (c .before .before .before .if3 .left))
-    (rw (c .before .before .read-u32 .ensures) at (sym (c .before .more-of-none .ensures) ∙ c .if4 .taken))
+    judged-more _ (c .before .before .before .before .before .before .before .if1 .left) (c .before .before .before .before .before .if2 .left) (rw (c .before .before .before .before .granularity-in .ensures) at (c .before .before .before .if3 .left))
+    (rw (c .before .before .count-in .ensures) at (sym (c .before .more-of-none .ensures) ∙ c .if4 .taken))
 
 mul-if5 : tie.Need-mul-if5
 mul-if5 c = search needs
@@ -44,8 +44,8 @@ add-if5 c = search needs
 
 returns-5 : tie.Need-returns-5
 returns-5 c =
-    judged-rest _ (c .before .before .before .before .before .before .before .before .if1 .left) (c .before .before .before .before .before .before .if2 .left) (rw (c .before .before .before .before .before .read-u16 .ensures) at (c .before .before .before .before .if3 .left))
-    (rw (c .before .before .before .read-u32 .ensures) at (sym (c .before .before .more-of-none .ensures) ∙ c .before .if4 .left)) (rw (c .before .before .before .read-u32 .ensures) at (c .if5 .taken))
+    judged-rest _ (c .before .before .before .before .before .before .before .before .if1 .left) (c .before .before .before .before .before .before .if2 .left) (rw (c .before .before .before .before .before .granularity-in .ensures) at (c .before .before .before .before .if3 .left))
+    (rw (c .before .before .before .count-in .ensures) at (sym (c .before .before .more-of-none .ensures) ∙ c .before .if4 .left)) (rw (c .before .before .before .count-in .ensures) at (c .if5 .taken))
 
 cast-first-bad : tie.Need-cast-first-bad
 cast-first-bad c = search needs
@@ -56,16 +56,16 @@ first-bad-requires c κs = search needs
 returns-6 : tie.Need-returns-6
 unfolding descriptorsIn
 returns-6 c =
-    judged-bad _ (c .before .before .before .before .before .before .before .before .before .before .if1 .left) (c .before .before .before .before .before .before .before .before .if2 .left) (rw (c .before .before .before .before .before .before .before .read-u16 .ensures) at (c .before .before .before .before .before .before .if3 .left))
-    (rw (c .before .before .before .before .before .read-u32 .ensures) at (sym (c .before .before .before .before .more-of-none .ensures) ∙ c .before .before .before .if4 .left)) (rw (c .before .before .before .before .before .read-u32 .ensures) at (c .before .before .if5 .left)) _
-    (rw (c .before .before .before .before .before .before .before .read-u16 .ensures, c .before .before .before .before .before .read-u32 .ensures) at (c .before .first-bad .ensures)) (rw (c .before .before .before .before .before .read-u32 .ensures) at (c .if6 .taken))
+    judged-bad _ (c .before .before .before .before .before .before .before .before .before .before .if1 .left) (c .before .before .before .before .before .before .before .before .if2 .left) (rw (c .before .before .before .before .before .before .before .granularity-in .ensures) at (c .before .before .before .before .before .before .if3 .left))
+    (rw (c .before .before .before .before .before .count-in .ensures) at (sym (c .before .before .before .before .more-of-none .ensures) ∙ c .before .before .before .if4 .left)) (rw (c .before .before .before .before .before .count-in .ensures) at (c .before .before .if5 .left)) _
+    (rw (c .before .before .before .before .before .before .before .granularity-in .ensures, c .before .before .before .before .before .count-in .ensures) at (c .before .first-bad .ensures)) (rw (c .before .before .before .before .before .count-in .ensures) at (c .if6 .taken))
 
 returns-7 : tie.Need-returns-7
 unfolding descriptorsIn
 returns-7 c =
-    judged-good _ (c .before .before .before .before .before .before .before .before .before .before .if1 .left) (c .before .before .before .before .before .before .before .before .if2 .left) (rw (c .before .before .before .before .before .before .before .read-u16 .ensures) at (c .before .before .before .before .before .before .if3 .left))
-    (rw (c .before .before .before .before .before .read-u32 .ensures) at (sym (c .before .before .before .before .more-of-none .ensures) ∙ c .before .before .before .if4 .left)) (rw (c .before .before .before .before .before .read-u32 .ensures) at (c .before .before .if5 .left)) _
-    (rw (c .before .before .before .before .before .before .before .read-u16 .ensures, c .before .before .before .before .before .read-u32 .ensures) at (c .before .first-bad .ensures)) (rw (c .before .before .before .before .before .read-u32 .ensures) at (c .if6 .left))
+    judged-good _ (c .before .before .before .before .before .before .before .before .before .before .if1 .left) (c .before .before .before .before .before .before .before .before .if2 .left) (rw (c .before .before .before .before .before .before .before .granularity-in .ensures) at (c .before .before .before .before .before .before .if3 .left))
+    (rw (c .before .before .before .before .before .count-in .ensures) at (sym (c .before .before .before .before .more-of-none .ensures) ∙ c .before .before .before .if4 .left)) (rw (c .before .before .before .before .before .count-in .ensures) at (c .before .before .if5 .left)) _
+    (rw (c .before .before .before .before .before .before .before .granularity-in .ensures, c .before .before .before .before .before .count-in .ensures) at (c .before .first-bad .ensures)) (rw (c .before .before .before .before .before .count-in .ensures) at (c .if6 .left))
 
 pub judge-spec : {M : Type 1} → statement M
 judge-spec =
@@ -74,9 +74,9 @@ judge-spec =
     returns
     shared-slice-read-if2
     returns-2
-    read-u16-requires
+    granularity-in-requires
     returns-3
-    read-u32-requires
+    count-in-requires
     cast-n
     more-of-none-requires
     returns-4

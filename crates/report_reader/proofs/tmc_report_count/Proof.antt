@@ -12,11 +12,11 @@ tmc-report-refusal-requires c κs = search needs
 returns : tie.Need-returns
 returns c = refused-answer _ _ (rw (c .before .tmc-report-refusal .ensures) at (c .if1 .taken))
 
-read-u32-requires : tie.Need-read-u32-requires
-read-u32-requires c κs = omega (arith, accepted-size _ (rw (c .before .tmc-report-refusal .ensures) at (c .if1 .left)))
+count-in-requires : tie.Need-count-in-requires
+count-in-requires c κs = omega (arith, accepted-size _ (rw (c .before .tmc-report-refusal .ensures) at (c .if1 .left)))
 
 returns-2 : tie.Need-returns-2
-returns-2 c = c .read-u32 .ensures ∙ accepted-answer _ (rw (c .before .before .tmc-report-refusal .ensures) at (c .before .if1 .left)) _
+returns-2 c = c .count-in .ensures ∙ accepted-answer _ (rw (c .before .before .tmc-report-refusal .ensures) at (c .before .if1 .left)) _
 
 pub tmc-report-count-spec : {M : Type 1} → statement M
-tmc-report-count-spec = tie.close (tie.spec tmc-report-refusal-requires returns read-u32-requires returns-2)
+tmc-report-count-spec = tie.close (tie.spec tmc-report-refusal-requires returns count-in-requires returns-2)

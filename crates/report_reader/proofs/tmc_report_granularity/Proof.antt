@@ -12,11 +12,11 @@ tmc-report-refusal-requires c κs = search needs
 returns : tie.Need-returns
 returns c = refused-answer _ _ (rw (c .before .tmc-report-refusal .ensures) at (c .if1 .taken))
 
-read-u16-requires : tie.Need-read-u16-requires
-read-u16-requires c κs = omega (arith, accepted-size _ (rw (c .before .tmc-report-refusal .ensures) at (c .if1 .left)))
+granularity-in-requires : tie.Need-granularity-in-requires
+granularity-in-requires c κs = omega (arith, accepted-size _ (rw (c .before .tmc-report-refusal .ensures) at (c .if1 .left)))
 
 returns-2 : tie.Need-returns-2
-returns-2 c = c .read-u16 .ensures ∙ accepted-answer _ (rw (c .before .before .tmc-report-refusal .ensures) at (c .before .if1 .left)) _
+returns-2 c = c .granularity-in .ensures ∙ accepted-answer _ (rw (c .before .before .tmc-report-refusal .ensures) at (c .before .if1 .left)) _
 
 pub tmc-report-granularity-spec : {M : Type 1} → statement M
-tmc-report-granularity-spec = tie.close (tie.spec tmc-report-refusal-requires returns read-u16-requires returns-2)
+tmc-report-granularity-spec = tie.close (tie.spec tmc-report-refusal-requires returns granularity-in-requires returns-2)

@@ -12,19 +12,19 @@ tmc-report-refusal-requires c κs = search needs
 returns : tie.Need-returns
 returns c = c .before .tmc-report-refusal .ensures ∙ index-refused _ _ (rw (c .before .tmc-report-refusal .ensures) at (c .if1 .taken))
 
-read-u32-requires : tie.Need-read-u32-requires
-read-u32-requires c κs = omega (arith, accepted-size _ (rw (c .before .tmc-report-refusal .ensures) at (c .if1 .left)))
+count-in-requires : tie.Need-count-in-requires
+count-in-requires c κs = omega (arith, accepted-size _ (rw (c .before .tmc-report-refusal .ensures) at (c .if1 .left)))
 
 cast-count : tie.Need-cast-count
 cast-count c = search needs
 
 returns-2 : tie.Need-returns-2
-returns-2 c = index-past _ (rw (c .before .before .before .tmc-report-refusal .ensures) at (c .before .before .if1 .left)) _ (rw (c .before .read-u32 .ensures) at (c .if2 .taken))
+returns-2 c = index-past _ (rw (c .before .before .before .tmc-report-refusal .ensures) at (c .before .before .if1 .left)) _ (rw (c .before .count-in .ensures) at (c .if2 .taken))
 
 returns-3 : tie.Need-returns-3
-returns-3 c = index-within _ (rw (c .before .before .before .tmc-report-refusal .ensures) at (c .before .before .if1 .left)) _ (rw (c .before .read-u32 .ensures) at (c .if2 .left))
+returns-3 c = index-within _ (rw (c .before .before .before .tmc-report-refusal .ensures) at (c .before .before .if1 .left)) _ (rw (c .before .count-in .ensures) at (c .if2 .left))
 
 pub tmc-report-refusal-at-spec : {M : Type 1} → statement M
 tmc-report-refusal-at-spec =
     tie.close
-    (tie.spec tmc-report-refusal-requires returns read-u32-requires cast-count returns-2 returns-3)
+    (tie.spec tmc-report-refusal-requires returns count-in-requires cast-count returns-2 returns-3)
