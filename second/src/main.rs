@@ -1,13 +1,15 @@
 //! The second program: reads a session listing from standard input to its end and writes the answers to standard
-//! output; with `--records`, cases with records of any kind instead of a listing. Written from the documents alone, as
-//! an independent check of the proved core (see README.md).
+//! output; with `--records`, cases with records of any kind instead of a listing, and with `--reports` cases with reports
+//! of any kind. Written from the documents alone, as an independent check of the proved core (see README.md).
 
+mod cases;
 mod device;
 mod lines;
 mod listing;
 mod little_endian;
 mod records;
 mod report;
+mod reports;
 mod rules;
 mod session;
 mod structure;
@@ -49,8 +51,12 @@ fn play<R: Read, W: Write>(input: &mut R, output: &mut W) -> io::Result<()> {
 fn main() -> ExitCode {
     let mut input = io::stdin().lock();
     let mut output = BufWriter::new(io::stdout().lock());
-    let records = env::args_os().nth(1).is_some_and(|argument| argument == "--records");
-    let played = if records { records::play(&mut input, &mut output) } else { play(&mut input, &mut output) };
+    let argument = env::args_os().nth(1).unwrap_or_default();
+    let played = match argument.to_str() {
+        Some("--records") => records::play(&mut input, &mut output),
+        Some("--reports") => reports::play(&mut input, &mut output),
+        _ => play(&mut input, &mut output),
+    };
     match played {
         Ok(()) => ExitCode::SUCCESS,
         Err(error) => {

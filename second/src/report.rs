@@ -6,8 +6,8 @@
 
 use crate::little_endian::{get, put};
 
-const HEADER_BYTES: usize = 16;
-const DESCRIPTOR_BYTES: usize = 16;
+pub const HEADER_BYTES: usize = 16;
+pub const DESCRIPTOR_BYTES: usize = 16;
 
 /// "so a buffer below 32 bytes is refused with 8 (house)".
 pub const LEAST_BUFFER: usize = 32;
@@ -58,7 +58,8 @@ pub fn report_bytes(report: &Report) -> Vec<u8> {
     bytes
 }
 
-/// Reads a report back from a buffer that may be longer; nothing if the bytes are none of a report.
+/// Reads a report back from a buffer that may be longer; nothing if the bytes are none that the core may write. (The
+/// host's reader, which ignores reserved bits, is in `reports`.)
 pub fn read_report(buffer: &[u8]) -> Option<Report> {
     if get(buffer, 0, 1)? != 0 || get(buffer, 10, 6)? != 0 {
         return None;

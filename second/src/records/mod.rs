@@ -6,8 +6,9 @@ mod marks;
 #[cfg(test)]
 mod tests;
 
-use std::io::{self, ErrorKind, Read, Write};
+use std::io::{self, Read, Write};
 
+use crate::cases::play_cases;
 use crate::device::Device;
 use crate::little_endian::put;
 use crate::report::read_report;
@@ -29,23 +30,9 @@ struct Outcome {
     data: Vec<u8>,
 }
 
-/// Answers each case of `input`, in their order. Input that isn't in the form is an error, as no answer would be right.
+/// Answers each case of `input`, in their order.
 pub fn play<R: Read, W: Write>(input: &mut R, output: &mut W) -> io::Result<()> {
-    loop {
-        let mut bytes = Vec::new();
-        input.by_ref().take(CASE_BYTES as u64).read_to_end(&mut bytes)?;
-        if bytes.is_empty() {
-            return output.flush();
-        }
-        let case = if bytes.len() == CASE_BYTES { read_case(&bytes) } else { None };
-        match case {
-            Some(case) => output.write_all(&answer(&outcome(&case)))?,
-            None => {
-                output.flush()?;
-                return Err(io::Error::new(ErrorKind::InvalidData, "a case is not in the form"));
-            }
-        }
-    }
+    play_cases(input, output, CASE_BYTES, &|bytes| read_case(bytes).map(|case| answer(&outcome(&case))))
 }
 
 /// "Every refused call returns its number, with zeros for everything else ..., and changes neither device, marks nor any
