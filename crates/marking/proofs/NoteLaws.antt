@@ -4,7 +4,6 @@ use mathlib.Core.Path.{_≡_, refl, sym, ap, ap₂, subst, _∙_}
 use mathlib.Core.Bool.{Bool, true, false, _&&_, _||_, not, cond, or-false, or-true}
 use mathlib.Core.List.{List, [], _∷_, _++_}
 use Prim.Native.Nat.{ℕ, zero, suc, _+_, _-_, _*_, _/_, _≤_, _<_, min}
-use native.Mathlib.Numerals.{add-one}
 use native.Mathlib.Omega.{arith}
 use native.Mathlib.Nat.{suc-add, zero-add, add-assoc, add-zero, div-lt-iff-lt-mul, suc-mul, lt-of-not-le}
 use native.Mathlib.Decide.{decLt, decLe}
@@ -17,10 +16,11 @@ use Rattle.bits.specs.Share.{getShare, putShare}
 use Rattle.bits.proofs.Span.{fill-length, fill-at-below, fill-at-in, fill-at-above, clears-cons, clears-ext}
 use Rattle.bits.proofs.Share.{getShare-length, getShare-putShare-above, putShare-append, fill-share, clears-share}
 use Rattle.rules.specs.Units.{Unit, Write, unitsOfRow, unitsFrom, touches, mark, newly}
-use Rattle.rules.specs.StartData.{noRange}
 use Rattle.rules.specs.declared.Range.{Range}
-use Rattle.rules.proofs.ListLaws.{front-at, front-end}
 use Rattle.rules.proofs.UnitLaws.{unitsOfRow-length, unitsOfRow-at, mark-length, mark-append, newly-append, mark-at}
+use Rattle.pieces.specs.Pieces.{unitsLeft, PieceFound}
+use Rattle.pieces.specs.declared.Piece.{Piece}
+use Rattle.pieces.proofs.PieceLaws.{left-all, piece-left}
 use Rattle.marking.specs.Note.{writeTo, unitAt, Touched}
 
 noUnit : Unit
@@ -232,61 +232,58 @@ module _ (size : ℕ) (z : 0 < size) (r : Range) (at last : ℕ) (h : at ≤ las
           go j k (no a) (yes b) = touched-yes j (from-right j (omega arith)) (low-enough j b) ∙ sym (among-in from to j (omega arith) b)
           go j k (no a) (no b) = touched-not-right j (too-high j k (omega arith)) ∙ sym (among-above from to j (omega arith))
 
--- ---- the loop over a controller's ranges
+-- ---- the loop over the pieces of a controller's ranges
 
--- the units of the ranges that are left at i, and those of the next range apart
-abbrev pub unitsLeft : ℕ → List Range → ℕ → ℕ → List Unit
-unitsLeft size rs n i = unitsFrom size i (drop i (take n rs))
+-- what is still to be marked from unit `unit` of a row on, whose marks stand from a bit on, makes of the bits and the count as they are now what they are
+-- to be
+pub record Marking (w : Write) (size : ℕ) (rs : List Range) (l : List Bool) (from row unit count : ℕ) (bits : List Bool) (total : ℕ) : Type 0 where
+  pub fits : from + length (unitsLeft size rs row unit) ≤ length l
+  pub marked : putShare l from (mark w (unitsLeft size rs row unit) (getShare l from (length (unitsLeft size rs row unit)))) ≡ bits
+  pub counted : count + newly w (unitsLeft size rs row unit) (getShare l from (length (unitsLeft size rs row unit))) ≡ total
 
-pub unitsLeft-at : (size : ℕ) (rs : List Range) (n i : ℕ) → i < n → i < length rs
-    → unitsLeft size rs n i ≡ unitsOfRow i size (getD rs i noRange .start) (getD rs i noRange .length) ++ unitsLeft size rs n (i + 1)
-unitsLeft-at size rs n i h k =
-    rw (front-at rs n i noRange h k)
-    (ap (λ j. unitsOfRow i size (getD rs i noRange .start) (getD rs i noRange .length) ++ unitsFrom size j (drop (i + 1) (take n rs))) (sym (add-one i)))
+pub marking-start : (w : Write) (size : ℕ) (rs : List Range) (l : List Bool) (at : ℕ) → at + length (unitsFrom size 0 [] rs) ≤ length l
+    → Marking w size rs l at 0 0 0 (putShare l at (mark w (unitsFrom size 0 [] rs) (getShare l at (length (unitsFrom size 0 [] rs))))) (newly w (unitsFrom size 0 [] rs) (getShare l at (length (unitsFrom size 0 [] rs))))
+marking-start w size rs l at h =
+    record {
+      fits = subst (λ us. at + length us ≤ length l) (left-all size rs) h;
+      marked = ap (λ us. putShare l at (mark w us (getShare l at (length us)))) (sym (left-all size rs));
+      counted = zero-add _ ∙ ap (λ us. newly w us (getShare l at (length us))) (sym (left-all size rs));
+    }
 
-pub unitsLeft-end : (size : ℕ) (rs : List Range) (n i : ℕ) → n ≤ i → unitsLeft size rs n i ≡ []
-unitsLeft-end size rs n i h = rw (front-end rs n i (omega arith))
-
--- what is still to be marked at range i, whose marks stand from a bit on, makes of the bits and the count as they are now what they are to be
-pub record Marking (w : Write) (size : ℕ) (rs : List Range) (n : ℕ) (l : List Bool) (from i count : ℕ) (bits : List Bool) (total : ℕ) : Type 0 where
-  pub fits : from + length (unitsLeft size rs n i) ≤ length l
-  pub marked : putShare l from (mark w (unitsLeft size rs n i) (getShare l from (length (unitsLeft size rs n i)))) ≡ bits
-  pub counted : count + newly w (unitsLeft size rs n i) (getShare l from (length (unitsLeft size rs n i))) ≡ total
-
-module _ (w : Write) (size : ℕ) (rs : List Range) (n : ℕ) (l : List Bool) (at i count : ℕ) (bits : List Bool) (total : ℕ) (m : Marking w size rs n l at i count bits total) where
-  -- one range more
-  module _ (h : i < n) (k : i < length rs) (from to : ℕ) (t : Touched w size (getD rs i noRange) from to) where
+module _ (w : Write) (size : ℕ) (rs : List Range) (l : List Bool) (at row unit count : ℕ) (bits : List Bool) (total : ℕ) (m : Marking w size rs l at row unit count bits total) where
+  -- one piece more
+  module _ (p : Piece) (f : PieceFound size rs row unit p) (from to : ℕ) (t : Touched w size (p .range) from to) where
     abbrev r : Range
-    r = getD rs i noRange
+    r = p .range
 
-    left : unitsLeft size rs n i ≡ unitsOfRow i size (r .start) (r .length) ++ unitsLeft size rs n (i + 1)
-    left = unitsLeft-at size rs n i h k
+    left : unitsLeft size rs row unit ≡ unitsOfRow (p .row) size (r .start) (r .length) ++ unitsLeft size rs (p .row) (p .next)
+    left = piece-left size rs row unit p f
 
-    left-length : length (unitsLeft size rs n i) ≡ r .length + length (unitsLeft size rs n (i + 1))
-    left-length = ap length left ∙ rw (length-append, unitsOfRow-length i size (r .start) (r .length))
+    pub left-length : length (unitsLeft size rs row unit) ≡ r .length + length (unitsLeft size rs (p .row) (p .next))
+    left-length = ap length left ∙ rw (length-append, unitsOfRow-length (p .row) size (r .start) (r .length))
 
-    pub marking-fits : at + (r .length + length (unitsLeft size rs n (i + 1))) ≤ length l
+    pub marking-fits : at + (r .length + length (unitsLeft size rs (p .row) (p .next))) ≤ length l
     marking-fits = omega (arith, m .fits, left-length)
 
     -- its span is marked, from bit at + from below at + to, and k of its units were clear
     pub marking-next : (l′ : List Bool) (k : ℕ) → l′ ≡ fill true l (at + from) (at + to - (at + from)) → k ≡ clears l (at + from) (at + to - (at + from))
-        → Marking w size rs n l′ (at + r .length) (i + 1) (count + k) bits total
+        → Marking w size rs l′ (at + r .length) (p .row) (p .next) (count + k) bits total
     marking-next l′ k e e′ =
         record {
           fits = omega (arith, marking-fits, ap length e, fill-length true l (at + from) (at + to - (at + from)));
           marked =
               ap (λ b. putShare b (at + r .length) (mark w rest (getShare b (at + r .length) (length rest)))) (e ∙ rw span)
-              ∙ note-bits w l at i size r rest marking-fits from to t
+              ∙ note-bits w l at (p .row) size r rest marking-fits from to t
               ∙ subst (λ us. putShare l at (mark w us (getShare l at (length us))) ≡ bits) left (m .marked);
           counted =
               ap₂ (λ x b. count + x + newly w rest (getShare b (at + r .length) (length rest))) (e′ ∙ rw span) (e ∙ rw span)
               ∙ add-assoc count (clears l (at + from) (to - from)) (newly w rest (getShare next (at + r .length) (length rest)))
-              ∙ ap (λ x. count + x) (note-count w l at i size r rest marking-fits from to t)
+              ∙ ap (λ x. count + x) (note-count w l at (p .row) size r rest marking-fits from to t)
               ∙ subst (λ us. count + newly w us (getShare l at (length us)) ≡ total) left (m .counted);
         }
       where
         rest : List Unit
-        rest = unitsLeft size rs n (i + 1)
+        rest = unitsLeft size rs (p .row) (p .next)
 
         next : List Bool
         next = fill true l (at + from) (to - from)
@@ -295,15 +292,15 @@ module _ (w : Write) (size : ℕ) (rs : List Range) (n : ℕ) (l : List Bool) (a
         span = omega arith
 
   -- nothing is left
-  module _ (h : n ≤ i) where
+  module _ (none : unitsLeft size rs row unit ≡ []) where
     pub marking-bits : l ≡ bits
     unfolding putShare
     marking-bits =
         let e : at + 0 ≡ at = omega arith in
         sym (take-append-drop at l) ∙ ap (λ k. take at l ++ drop k l) (sym e)
-        ∙ subst (λ us. putShare l at (mark w us (getShare l at (length us))) ≡ bits) (unitsLeft-end size rs n i h) (m .marked)
+        ∙ subst (λ us. putShare l at (mark w us (getShare l at (length us))) ≡ bits) none (m .marked)
 
     pub marking-count : count ≡ total
     marking-count =
         sym (add-zero count)
-        ∙ subst (λ us. count + newly w us (getShare l at (length us)) ≡ total) (unitsLeft-end size rs n i h) (m .counted)
+        ∙ subst (λ us. count + newly w us (getShare l at (length us)) ≡ total) none (m .counted)

@@ -1,12 +1,15 @@
-// The marking of a noted write, range by range: in each range the touched units are a span.
+// The marking of a noted write, piece by piece: in each piece of a range the touched units are a span.
 
+use pieces::NextPiece;
 use rules::Range;
 ghost use mathlib.Core.Path.{_≡_};
+ghost use mathlib.Core.List.{[]};
 ghost use Prim.Native.Nat.{_+_, _≤_, _<_, min};
 ghost use lib.ListN.{length, take};
 ghost use Rattle.bits.specs.Flat.{flat};
 ghost use Rattle.bits.specs.Share.{getShare, putShare};
 ghost use Rattle.rules.specs.Units.{unitsFrom, mark, newly};
+ghost use Rattle.pieces.specs.Pieces.{Laid};
 ghost use Rattle.marking.specs.Note.{writeTo, Touched};
 
 // Units of a range, counted from its first: those from `from` below `to`.
@@ -52,21 +55,25 @@ pub fn mark_ranges(
     at: u64,
     last: u64,
 ) -> usize
-    requires { ⌜ (0 < size) × (at ≤ last) × (n ≤ 16) × (length (now marks) ≡ 512) × (base + length (unitsFrom size 0 (take n ranges)) ≤ 32768) ⌝ }
-    ensures { λ r. ⌜ (r ≡ newly (writeTo at last) (unitsFrom size 0 (take n ranges)) (getShare (flat (now (marks .entry))) base (length (unitsFrom size 0 (take n ranges)))))
-        × (flat (now (marks .exit)) ≡ putShare (flat (now (marks .entry))) base (mark (writeTo at last) (unitsFrom size 0 (take n ranges)) (getShare (flat (now (marks .entry))) base (length (unitsFrom size 0 (take n ranges)))))) ⌝ }
+    requires { ⌜ (4096 ≤ size) × (at ≤ last) × (n ≤ 16) × (length (now marks) ≡ 512) × (base + length (unitsFrom size 0 [] (take n ranges)) ≤ 32768) × Laid size (take n ranges) ⌝ }
+    ensures { λ r. ⌜ (r ≡ newly (writeTo at last) (unitsFrom size 0 [] (take n ranges)) (getShare (flat (now (marks .entry))) base (length (unitsFrom size 0 [] (take n ranges)))))
+        × (flat (now (marks .exit)) ≡ putShare (flat (now (marks .entry))) base (mark (writeTo at last) (unitsFrom size 0 [] (take n ranges)) (getShare (flat (now (marks .entry))) base (length (unitsFrom size 0 [] (take n ranges)))))) ⌝ }
 {
     let mut count: usize = 0;
     let mut from = base;
-    let mut i: usize = 0;
-    while i < n {
-        let r = ranges[i];
+    let mut row: usize = 0;
+    let mut unit: u64 = 0;
+    loop {
+        let NextPiece::Is(piece) = pieces::next_piece(size, n, ranges, row, unit) else {
+            return count;
+        };
+        let r = piece.range;
         let t = touched(r, size, at, last);
         let a = from + t.from as usize;
         let e = from + t.to as usize;
         count += bits::mark_span(marks, a, e);
         from += r.length as usize;
-        i += 1;
+        row = piece.row;
+        unit = piece.next;
     }
-    count
 }

@@ -1,8 +1,8 @@
--- Laws of the range rules (9, 10 and 11) as the code asks them: one range, two ranges, each rule of the table, the answer; and what ranges that
+-- Laws of the range rules (9, 10 and 11) as the code asks them: one range, each rule of the table, the answer; and what ranges that
 -- pass are known by (`RowFacts`, `HeldFacts`). All of it is the library's interface. Assumes nothing.
-use Prim.Native.Nat.{ℕ, suc, _+_, _-_, _%_, _^_, _<_, _≤_}
-use mathlib.Core.Path.{_≡_, refl, _∙_}
-use mathlib.Core.Bool.{true, false, cond, and-true, and-false, or-comm}
+use Prim.Native.Nat.{ℕ, zero, suc, _+_, _-_, _%_, _^_, _<_, _≤_}
+use mathlib.Core.Path.{_≡_, refl, sym, _∙_}
+use mathlib.Core.Bool.{true, false, cond, and-true, and-false}
 use mathlib.Core.List.{List, [], _∷_, map}
 use native.Mathlib.Omega.{arith}
 use native.Mathlib.Nat.{mul-pos, lt-of-lt-of-le}
@@ -10,16 +10,17 @@ use lib.Dec.{leb, eqb}
 use lib.ListN.{length, getD}
 use lib.Pow.{pow-pos, pow-mono, shl-lt}
 use borrow.Author.Tests.{leb-true, le-leb, lt-leb, eqb-true, eq-eqb, ne-eqb}
-use Rattle.rules.specs.Lists.{all, every, pairs, sum}
+use Rattle.rules.specs.Lists.{all, every, sum}
 use Rattle.rules.specs.Refusals.{Test, _else_, passes, refusal}
 use Rattle.rules.specs.Settings.{granularityOk, unitSize, bytesOf}
 use Rattle.rules.specs.Units.{units}
-use Rattle.rules.specs.Ranges.{endOf, rowTests, rowsTests, apart, rangeTests, isPower, powersOk, unitsOk, listTests}
+use Rattle.rules.specs.Ranges.{endOf, rowTests, rowsTests, rangeTests, isPower, powersOk, unitsOk, listTests}
 use Rattle.rules.specs.declared.Range.{Range}
 use Rattle.rules.specs.declared.Settings.{Settings}
-use Rattle.rules.proofs.ListLaws.{All, All-map, All-append, or-intro-left, or-cases, bool-ext, every-not}
+use Rattle.rules.proofs.ListLaws.{All, All-map, All-append, and-left, and-right, bool-ext, every-not}
 use Rattle.rules.proofs.RefusalLaws.{Passed, Passed-left, Passed-right, refusal-alike, refusal-none, passes-all, passes-append, passes-Passed}
 use Rattle.rules.proofs.UnitLaws.{unitsFrom-length}
+use Rattle.pieces.specs.Pieces.{rowOf, Laid}
 use Rattle.settings.proofs.SettingsLaws.{granularityOk-greatest}
 
 -- ---- bytes
@@ -69,20 +70,6 @@ module _ (g : ℕ) (r : Range) where
         within = leb-true (endOf g r) (2 ^ 64) (p .1 .1 .0);
       }
 
--- ---- two ranges, by the distance of their starts
-
-pub apart-first : (g : ℕ) (r q : Range) (b : ℕ) → b ≡ bytesOf g (r .length) → 1 ≤ q .length → r .start ≤ q .start → leb b (q .start - r .start) ≡ apart g r q
-apart-first g r q b e h k =
-    let p = bytesOf-pos g (q .length) h in
-    bool-ext (leb b (q .start - r .start)) (apart g r q)
-    (λ t. let l = leb-true b (q .start - r .start) t in or-intro-left (leb (endOf g r) (q .start)) _ (le-leb (endOf g r) (q .start) (omega arith)))
-    (λ t. or-cases (leb (endOf g r) (q .start)) (leb (endOf g q) (r .start)) (leb b (q .start - r .start) ≡ true) t
-    (λ u. let l = leb-true (endOf g r) (q .start) u in le-leb b (q .start - r .start) (omega arith))
-    (λ u. let l = leb-true (endOf g q) (r .start) u in absurd (omega arith)))
-
-pub apart-last : (g : ℕ) (r q : Range) (b : ℕ) → b ≡ bytesOf g (q .length) → 1 ≤ r .length → q .start < r .start → leb b (r .start - q .start) ≡ apart g r q
-apart-last g r q b e h k = apart-first g q r b e h (omega arith) ∙ or-comm (leb (endOf g q) (r .start)) (leb (endOf g r) (q .start))
-
 -- ---- 10
 
 -- where the rule is off, and where it is on
@@ -102,8 +89,7 @@ rowsTests-number g row (r ∷ rs) = (refl, (refl, (refl, rowsTests-number g (suc
 
 pub rangeTests-number : (g n : ℕ) (rs : List Range) → All (λ (t : Test). t .number ≡ 9) (rangeTests g n rs)
 unfolding rangeTests
-rangeTests-number g n rs =
-    (refl, (refl, All-append (λ (t : Test). t .number ≡ 9) (rowsTests g 0 rs) ((pairs (apart g) rs else 9) ∷ []) (rowsTests-number g 0 rs) (refl, tt)))
+rangeTests-number g n rs = (refl, (refl, rowsTests-number g 0 rs))
 
 -- a row's tests are passed or not wherever it is listed
 pub rowsTests-passes : (g row : ℕ) (rs : List Range) → passes (rowsTests g row rs) ≡ all (λ r. passes (rowTests g 0 r)) rs
@@ -112,19 +98,23 @@ rowsTests-passes g row (r ∷ rs) = passes-append (rowTests g row r) (rowsTests 
 
 -- what 9 asks, rule by rule
 pub rangeTests-passes : (g n : ℕ) (rs : List Range)
-    → passes (rangeTests g n rs) ≡ every (leb 1 n ∷ leb n 16 ∷ all (λ r. passes (rowTests g 0 r)) rs ∷ pairs (apart g) rs ∷ [])
+    → passes (rangeTests g n rs) ≡ every (leb 1 n ∷ leb n 16 ∷ all (λ r. passes (rowTests g 0 r)) rs ∷ [])
 unfolding rangeTests
-rangeTests-passes g n rs = rw (passes-append (rowsTests g 0 rs) ((pairs (apart g) rs else 9) ∷ []), rowsTests-passes g 0 rs)
+rangeTests-passes g n rs = rw (rowsTests-passes g 0 rs, and-true (all (λ r. passes (rowTests g 0 r)) rs))
 
-pub rangeTests-passed : (g n : ℕ) (rs : List Range) → 1 ≤ n → n ≤ 16 → all (λ r. passes (rowTests g 0 r)) rs ≡ true → pairs (apart g) rs ≡ true → passes (rangeTests g n rs) ≡ true
-rangeTests-passed g n rs h k e f = rangeTests-passes g n rs ∙ rw (le-leb 1 n h, le-leb n 16 k, e, f)
+pub rangeTests-passed : (g n : ℕ) (rs : List Range) → 1 ≤ n → n ≤ 16 → all (λ r. passes (rowTests g 0 r)) rs ≡ true → passes (rangeTests g n rs) ≡ true
+rangeTests-passed g n rs h k e = rangeTests-passes g n rs ∙ rw (le-leb 1 n h, le-leb n 16 k, e)
 
 -- ---- 9, 10 and 11
 
--- 11 asks for the sum of the lengths
-pub unitsOk-sum : (g : ℕ) (rs : List Range) → unitsOk g rs ≡ leb (sum (map (λ (r : Range). r .length) rs)) 4096
+-- 11 is passed where the lengths together are few enough, and else by the count of different units
+pub unitsOk-few : (g : ℕ) (rs : List Range) → sum (map (λ (r : Range). r .length) rs) ≤ 4096 → true ≡ unitsOk g rs
 unfolding unitsOk
-unitsOk-sum g rs = rw (unitsFrom-length (unitSize g) 0 rs)
+unitsOk-few g rs h = sym (le-leb (length (units g rs)) 4096 (omega (arith, h, unitsFrom-length (unitSize g) 0 [] rs)))
+
+pub unitsOk-count : (g : ℕ) (rs : List Range) (n : ℕ) → n ≡ length (units g rs) → leb n 4096 ≡ unitsOk g rs
+unfolding unitsOk
+unitsOk-count g rs n e = rw e
 
 module _ (s : Settings) (g n : ℕ) (rs : List Range) where
   -- past 9 the answer is that of the other two
@@ -132,17 +122,17 @@ module _ (s : Settings) (g n : ℕ) (rs : List Range) where
   listTests-refusal = refusal-alike 9 (rangeTests g n rs) ((powersOk s rs else 10) ∷ (unitsOk g rs else 11) ∷ []) (rangeTests-number g n rs)
 
   -- 9 where one of its rules is broken, whichever
-  pub listTests-nine : (k : ℕ) → getD (leb 1 n ∷ leb n 16 ∷ all (λ r. passes (rowTests g 0 r)) rs ∷ pairs (apart g) rs ∷ []) k true ≡ false → refusal (listTests s g n rs) ≡ 9
+  pub listTests-nine : (k : ℕ) → getD (leb 1 n ∷ leb n 16 ∷ all (λ r. passes (rowTests g 0 r)) rs ∷ []) k true ≡ false → refusal (listTests s g n rs) ≡ 9
   listTests-nine k e = listTests-refusal ∙ rw (rangeTests-passes g n rs, every-not _ k e)
 
   pub listTests-ten : passes (rangeTests g n rs) ≡ true → powersOk s rs ≡ false → refusal (listTests s g n rs) ≡ 10
   listTests-ten e f = listTests-refusal ∙ rw (e, f)
 
-  pub listTests-eleven : passes (rangeTests g n rs) ≡ true → powersOk s rs ≡ true → 4096 < sum (map (λ (r : Range). r .length) rs) → refusal (listTests s g n rs) ≡ 11
-  listTests-eleven e f h = listTests-refusal ∙ rw (e, f, unitsOk-sum g rs, lt-leb (sum (map (λ (r : Range). r .length) rs)) 4096 h)
+  pub listTests-eleven : passes (rangeTests g n rs) ≡ true → powersOk s rs ≡ true → unitsOk g rs ≡ false → refusal (listTests s g n rs) ≡ 11
+  listTests-eleven e f h = listTests-refusal ∙ rw (e, f, h)
 
-  pub listTests-done : passes (rangeTests g n rs) ≡ true → powersOk s rs ≡ true → sum (map (λ (r : Range). r .length) rs) ≤ 4096 → refusal (listTests s g n rs) ≡ 0
-  listTests-done e f h = listTests-refusal ∙ rw (e, f, unitsOk-sum g rs, le-leb (sum (map (λ (r : Range). r .length) rs)) 4096 h)
+  pub listTests-done : passes (rangeTests g n rs) ≡ true → powersOk s rs ≡ true → unitsOk g rs ≡ true → refusal (listTests s g n rs) ≡ 0
+  listTests-done e f h = listTests-refusal ∙ rw (e, f, h)
 
   -- no test has the number 0
   pub listTests-numbers : All (λ (t : Test). 1 ≤ t .number) (listTests s g n rs)
@@ -156,20 +146,40 @@ module _ (s : Settings) (g n : ℕ) (rs : List Range) where
 
 -- ---- what ranges that pass 9, 10 and 11 at a granularity that passes 7 are known by
 
--- the granularity passes 7 and is small; there are some ranges, and few; each passes 9 by itself; no two share a unit; 10; 11
+-- the granularity passes 7 and is small; there are some ranges, and few; each passes 9 by itself; 10; 11
 pub record HeldFacts (s : Settings) (g n : ℕ) (rs : List Range) : Type 0 where
   pub granularity : granularityOk s g ≡ true
   pub small : g ≤ 20
   pub some : 1 ≤ n
   pub few : n ≤ 16
   pub rows : All (RowFacts g) rs
-  pub disjoint : pairs (apart g) rs ≡ true
   pub powers : powersOk s rs ≡ true
   pub total : length (units g rs) ≤ 4096
 
 rowsTests-facts : (g row : ℕ) (rs : List Range) → Passed (rowsTests g row rs) → All (RowFacts g) rs
 rowsTests-facts g row [] h = tt
 rowsTests-facts g row (r ∷ rs) h = (rowTests-facts g r (passes-all (rowTests g 0 r) (h .0, (h .1 .0, (h .1 .1 .0, tt)))), rowsTests-facts g (suc row) rs (h .1 .1 .1))
+
+-- a unit is 4 KiB at least
+pub unitSize-least : (g : ℕ) → 4096 ≤ unitSize g
+unitSize-least g = pow-mono {i = 12} {j = 12 + g} (omega arith)
+
+-- ranges of which each passes 9 by itself are laid
+pub rows-laid : (g : ℕ) (rs : List Range) → All (RowFacts g) rs → Laid (unitSize g) rs
+rows-laid g rs h = record { some = λ i k. at rs h i k .some; aligned = λ i k. at rs h i k .aligned; within = λ i k. at rs h i k .within }
+  where
+    at : (qs : List Range) → All (RowFacts g) qs → (i : ℕ) → i < length qs → RowFacts g (rowOf qs i)
+    at [] k i l = absurd (omega arith)
+    at (q ∷ qs) k zero l = k .0
+    at (q ∷ qs) k (suc i) l = at qs (k .1) i (omega arith)
+
+-- and so are those whose rows' tests are passed
+pub passes-laid : (g : ℕ) (rs : List Range) → all (λ r. passes (rowTests g 0 r)) rs ≡ true → Laid (unitSize g) rs
+passes-laid g rs e = rows-laid g rs (rows rs e)
+  where
+    rows : (qs : List Range) → all (λ r. passes (rowTests g 0 r)) qs ≡ true → All (RowFacts g) qs
+    rows [] e = tt
+    rows (q ∷ qs) e = (rowTests-facts g q (and-left (passes (rowTests g 0 q)) (all (λ r. passes (rowTests g 0 r)) qs) e), rows qs (and-right (passes (rowTests g 0 q)) (all (λ r. passes (rowTests g 0 r)) qs) e))
 
 module _ (s : Settings) (g n : ℕ) (rs : List Range) where
   pub listTests-facts : s .greatest ≤ 20 → granularityOk s g ≡ true → Passed (listTests s g n rs) → HeldFacts s g n rs
@@ -182,8 +192,7 @@ module _ (s : Settings) (g n : ℕ) (rs : List Range) where
         small = omega (arith, granularityOk-greatest s g e);
         some = leb-true 1 n (nine .0);
         few = leb-true n 16 (nine .1 .0);
-        rows = rowsTests-facts g 0 rs (Passed-left (rowsTests g 0 rs) ((pairs (apart g) rs else 9) ∷ []) (nine .1 .1));
-        disjoint = Passed-right (rowsTests g 0 rs) ((pairs (apart g) rs else 9) ∷ []) (nine .1 .1) .0;
+        rows = rowsTests-facts g 0 rs (nine .1 .1);
         powers = rest .0;
         total = leb-true (length (units g rs)) 4096 (rest .1 .0);
       }

@@ -1,18 +1,21 @@
 // Checks of listed ranges: refusals 9, 10 and 11, and the one function of the granularity that turns units into bytes.
 
+use pieces::NextPiece;
 use rules::Bytes;
 use rules::Range;
 use rules::Settings;
 use rules::Units;
 ghost use mathlib.Core.Path.{_≡_};
 ghost use mathlib.Core.Bool.{true};
-ghost use Prim.Native.Nat.{_<_, _≤_};
-ghost use lib.ListN.{take};
+ghost use Prim.Native.Nat.{_^_, _<_, _≤_};
+ghost use lib.ListN.{length, take};
 ghost use mathlib.Core.List.{map};
-ghost use Rattle.rules.specs.Lists.{all, pairs, sum};
+ghost use Rattle.rules.specs.Lists.{all, sum};
 ghost use Rattle.rules.specs.Refusals.{passes, refusal};
 ghost use Rattle.rules.specs.Settings.{unitSize, bytesOf};
-ghost use Rattle.rules.specs.Ranges.{rowTests, apart, isPower, powersOk, listTests};
+ghost use Rattle.rules.specs.Units.{units};
+ghost use Rattle.rules.specs.Ranges.{rowTests, isPower, powersOk, unitsOk, listTests};
+ghost use Rattle.pieces.specs.Pieces.{Laid};
 
 // The bytes of a unit: 2^g times 4 KiB.
 pub fn unit_size(g: u8) -> u64
@@ -74,35 +77,6 @@ fn ranges_ok(g: u8, n: usize, ranges: [Range; 16]) -> bool
     true
 }
 
-// Whether two ranges of some units share none: the one that starts first is no longer than the distance of the starts.
-fn are_apart(g: u8, r: Range, q: Range) -> bool
-    requires { ⌜ (g ≤ 20) × (1 ≤ r .length) × (1 ≤ q .length) ⌝ }
-    ensures { λ x. ⌜ x ≡ apart g r q ⌝ }
-{
-    if r.start <= q.start {
-        let b = bytes_in(g, r);
-        return b.0 <= q.start - r.start;
-    }
-    let b = bytes_in(g, q);
-    b.0 <= r.start - q.start
-}
-
-// Whether no two of the first n ranges share a unit. Each pair is compared once.
-fn all_apart(g: u8, n: usize, ranges: [Range; 16]) -> bool
-    requires { ⌜ (g ≤ 20) × (n ≤ 16) × (all (λ r. passes (rowTests g 0 r)) (take n ranges) ≡ true) ⌝ }
-    ensures { λ x. ⌜ x ≡ pairs (apart g) (take n ranges) ⌝ }
-{
-    for i in 0..n {
-        let r = ranges[i];
-        for j in i + 1..n {
-            if !are_apart(g, r, ranges[j]) {
-                return false;
-            }
-        }
-    }
-    true
-}
-
 // Whether a range's length is a power of two: its lowest set bit is all of it.
 fn is_power(r: Range) -> bool
     ensures { λ x. ⌜ x ≡ isPower (r .length) ⌝ }
@@ -130,10 +104,10 @@ fn powers_ok(s: Settings, n: usize, ranges: [Range; 16]) -> bool
     true
 }
 
-// How many units the first n ranges have.
-fn units_in(n: usize, ranges: [Range; 16]) -> Units
+// The lengths of the first n ranges, together.
+fn lengths(n: usize, ranges: [Range; 16]) -> Units
     requires { ⌜ n ≤ 16 ⌝ }
-    ensures { λ x. ⌜ x .0 ≡ sum (map (λ r. r .length) (take n ranges)) ⌝ }
+    ensures { λ x. ⌜ (x .0 ≡ sum (map (λ r. r .length) (take n ranges))) × (x .0 < 2 ^ 64) ⌝ }
 {
     let mut total: u64 = 0;
     for i in 0..n {
@@ -141,6 +115,39 @@ fn units_in(n: usize, ranges: [Range; 16]) -> Units
         total += u.0;
     }
     Units(total)
+}
+
+// How many different units the first n ranges have, piece by piece.
+fn units_in(g: u8, n: usize, ranges: [Range; 16]) -> Units
+    requires { ⌜ (g ≤ 20) × (n ≤ 16) × Laid (unitSize g) (take n ranges) × (sum (map (λ r. r .length) (take n ranges)) < 2 ^ 64) ⌝ }
+    ensures { λ x. ⌜ x .0 ≡ length (units g (take n ranges)) ⌝ }
+{
+    let size = unit_size(g);
+    let mut total: u64 = 0;
+    let mut row: usize = 0;
+    let mut unit: u64 = 0;
+    loop {
+        let NextPiece::Is(piece) = pieces::next_piece(size, n, ranges, row, unit) else {
+            return Units(total);
+        };
+        let r = piece.range;
+        total += r.length as u64;
+        row = piece.row;
+        unit = piece.next;
+    }
+}
+
+// Whether the first n ranges pass 11. There are no more different units than the lengths say, so these are mostly enough.
+fn units_ok(g: u8, n: usize, ranges: [Range; 16]) -> bool
+    requires { ⌜ (g ≤ 20) × (n ≤ 16) × Laid (unitSize g) (take n ranges) ⌝ }
+    ensures { λ x. ⌜ x ≡ unitsOk g (take n ranges) ⌝ }
+{
+    let most = lengths(n, ranges);
+    if most.0 <= 4096 {
+        return true;
+    }
+    let total = units_in(g, n, ranges);
+    total.0 <= 4096
 }
 
 // The refusal of n listed ranges: the first of 9, 10 and 11 that they break, or 0. Ranges past the first n are not looked at.
@@ -158,14 +165,10 @@ pub fn list_refusal(s: Settings, g: u8, n: u8, ranges: [Range; 16]) -> u8
     if !ranges_ok(g, m, ranges) {
         return 9;
     }
-    if !all_apart(g, m, ranges) {
-        return 9;
-    }
     if !powers_ok(s, m, ranges) {
         return 10;
     }
-    let total = units_in(m, ranges);
-    if total.0 > 4096 {
+    if !units_ok(g, m, ranges) {
         return 11;
     }
     0

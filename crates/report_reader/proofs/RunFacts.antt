@@ -7,14 +7,14 @@ use native.Mathlib.Omega.{arith}
 use native.Mathlib.Nat.{add-mod-right, zero-mul, suc-mul}
 use lib.ListN.{length, take, length-append}
 use borrow.Author.Tests.{le-leb, eq-eqb}
-use Rattle.rules.specs.Lists.{join}
+use Rattle.rules.specs.Lists.{keep, join}
 use Rattle.rules.specs.Settings.{unitSize}
-use Rattle.rules.specs.Units.{Unit, unitsOfRow, unitsFrom, units, pending}
+use Rattle.rules.specs.Units.{Unit, unitsOfRow, uncovered, unitsFrom, units, pending}
 use Rattle.rules.specs.Ranges.{rowTests}
 use Rattle.rules.specs.Report.{runs, Descriptor, descriptor, reportedRuns}
 use Rattle.rules.specs.ReportReader.{goodDescriptor}
 use Rattle.rules.specs.declared.Range.{Range}
-use Rattle.rules.proofs.ListLaws.{All, All-map, All-both, All-append, All-left, All-right, All-take}
+use Rattle.rules.proofs.ListLaws.{All, All-map, All-both, All-append, All-keep, All-left, All-right, All-take}
 use Rattle.rules.proofs.RefusalLaws.{passes-all}
 use Rattle.rules.proofs.UnitLaws.{Chain, unitsFrom-sized, unitSize-pos, All-pending}
 use Rattle.rules.proofs.RunLaws.{Run, runs-join, runs-run, runs-length-le, pending-length-le}
@@ -33,11 +33,12 @@ row-within s row a (suc n) e h = (
   row-within s row (a + s) n (add-mod-right a s ∙ e) (omega (arith, h, suc-mul n s)),
 )
 
-ranges-within : (g row : ℕ) (rs : List Range) → All (RowFacts g) rs → All (Within (unitSize g)) (unitsFrom (unitSize g) row rs)
-ranges-within g row [] h = tt
-ranges-within g row (r ∷ rs) h =
-    All-append (Within (unitSize g)) (unitsOfRow row (unitSize g) (r .start) (r .length)) (unitsFrom (unitSize g) (suc row) rs)
-    (row-within (unitSize g) row (r .start) (r .length) (h .0 .aligned) (h .0 .within)) (ranges-within g (suc row) rs (h .1))
+ranges-within : (g row : ℕ) (before rs : List Range) → All (RowFacts g) rs → All (Within (unitSize g)) (unitsFrom (unitSize g) row before rs)
+ranges-within g row before [] h = tt
+ranges-within g row before (r ∷ rs) h =
+    All-append (Within (unitSize g)) (keep (uncovered (unitSize g) before) (unitsOfRow row (unitSize g) (r .start) (r .length))) (unitsFrom (unitSize g) (suc row) (before ++ r ∷ []) rs)
+    (All-keep (Within (unitSize g)) (uncovered (unitSize g) before) (unitsOfRow row (unitSize g) (r .start) (r .length)) (row-within (unitSize g) row (r .start) (r .length) (h .0 .aligned) (h .0 .within)))
+    (ranges-within g (suc row) (before ++ r ∷ []) rs (h .1))
 
 -- ---- runs
 
@@ -84,9 +85,9 @@ module _ (g : ℕ) (rs : List Range) (rows : All (RowFacts g) rs) (total : lengt
   all-runs =
       All-map (λ r h. run-fits g r (h .0) (h .1 .0) (omega (arith, h .1 .1, few, ap length (runs-join us)))) (runs us)
       (All-both (Run (unitSize g)) (λ r. All (Within (unitSize g)) r × (length r ≤ length (join (runs us)))) (runs us)
-      (runs-run (unitSize g) us (All-pending (λ u. u .size ≡ unitSize g) (units g rs) p (unitsFrom-sized (unitSize g) 0 rs)))
+      (runs-run (unitSize g) us (All-pending (λ u. u .size ≡ unitSize g) (units g rs) p (unitsFrom-sized (unitSize g) 0 [] rs)))
       (All-both (All (Within (unitSize g))) (λ r. length r ≤ length (join (runs us))) (runs us)
-      (All-join (Within (unitSize g)) (runs us) (subst (All (Within (unitSize g))) (sym (runs-join us)) (All-pending (Within (unitSize g)) (units g rs) p (ranges-within g 0 rs rows))))
+      (All-join (Within (unitSize g)) (runs us) (subst (All (Within (unitSize g))) (sym (runs-join us)) (All-pending (Within (unitSize g)) (units g rs) p (ranges-within g 0 [] rs rows))))
       (join-length (runs us))))
 
   pub listed-fit : All (Fitting g) (map descriptor (reportedRuns k (units g rs) p))

@@ -10,7 +10,7 @@ use lib.Dec.{eqb}
 use lib.ListN.{length, take, drop, getD, getElem?, set, length-take, drop-of-length-le}
 use lib.Seq.{take-append-seam, drop-append-seam, drop-cons, getD-take}
 use borrow.Author.Tests.{eqb-true, eq-eqb}
-use Rattle.rules.specs.Lists.{all, every, member, join, placeFrom}
+use Rattle.rules.specs.Lists.{all, any, keep, every, member, join, placeFrom}
 
 -- ---- Bools
 
@@ -90,6 +90,22 @@ pub All-drop : {A : Type 0} (P : A → Type 0) (k : ℕ) (xs : List A) → All P
 All-drop P zero xs h = h
 All-drop P (suc k) [] h = tt
 All-drop P (suc k) (x ∷ xs) h = All-drop P k xs (h .1)
+
+pub All-keep : {A : Type 0} (P : A → Type 0) (f : A → Bool) (xs : List A) → All P xs → All P (keep f xs)
+All-keep P f [] h = tt
+All-keep P f (x ∷ xs) h = go (All-keep P f xs (h .1)) (f x)
+  where
+    go : All P (keep f xs) → (b : Bool) → All P (cond b (x ∷ keep f xs) (keep f xs))
+    go k true = (h .0, k)
+    go k false = k
+
+pub All-kept : {A : Type 0} (f : A → Bool) (xs : List A) → All (λ x. f x ≡ true) (keep f xs)
+All-kept f [] = tt
+All-kept f (x ∷ xs) = go (All-kept f xs) (f x) refl
+  where
+    go : All (λ y. f y ≡ true) (keep f xs) → (b : Bool) → f x ≡ b → All (λ y. f y ≡ true) (cond b (x ∷ keep f xs) (keep f xs))
+    go k true e = (e, k)
+    go k false e = k
 
 pub All-always : {A : Type 0} {P : A → Type 0} → ((x : A) → P x) → (xs : List A) → All P xs
 All-always f [] = tt
@@ -215,3 +231,29 @@ module _ {A : Type 0} (xs : List A) (n i : ℕ) where
 
   pub front-end : min n (length xs) ≤ i → drop i (take n xs) ≡ []
   front-end h = drop-of-length-le (take n xs) {i = i} (simp length-take (omega arith))
+
+-- ---- any and keep
+
+or-left-false : (a b : Bool) → (a || b) ≡ false → a ≡ false
+or-left-false true b e = e
+or-left-false false b e = refl
+
+or-right-false : (a b : Bool) → (a || b) ≡ false → b ≡ false
+or-right-false true b e = absurd (true≢false e)
+or-right-false false b e = e
+
+pub any-left : {A : Type 0} (p : A → Bool) (xs ys : List A) → any p (xs ++ ys) ≡ false → any p xs ≡ false
+any-left p [] ys e = refl
+any-left p (x ∷ xs) ys e = or-neither (p x) (any p xs) (or-left-false (p x) (any p (xs ++ ys)) e) (any-left p xs ys (or-right-false (p x) (any p (xs ++ ys)) e))
+
+pub any-last : {A : Type 0} (p : A → Bool) (xs : List A) (y : A) → any p (xs ++ y ∷ []) ≡ false → p y ≡ false
+any-last p [] y e = or-left-false (p y) false e
+any-last p (x ∷ xs) y e = any-last p xs y (or-right-false (p x) (any p (xs ++ y ∷ [])) e)
+
+pub keep-length : {A : Type 0} (f : A → Bool) (xs : List A) → length (keep f xs) ≤ length xs
+keep-length f [] = omega arith
+keep-length f (x ∷ xs) = go (keep-length f xs) (f x)
+  where
+    go : length (keep f xs) ≤ length xs → (b : Bool) → length (cond b (x ∷ keep f xs) (keep f xs)) ≤ suc (length xs)
+    go k true = omega (arith, k)
+    go k false = omega (arith, k)

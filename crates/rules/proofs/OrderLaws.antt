@@ -2,25 +2,29 @@
 use mathlib.Core.Path.{_≡_}
 use mathlib.Core.Bool.{true, not}
 use mathlib.Core.List.{List, [], _∷_, _++_}
-use Prim.Native.Nat.{ℕ, _+_, _≤_}
+use Prim.Native.Nat.{ℕ, suc, _+_, _%_, _≤_}
 use lib.Dec.{leb}
-use borrow.Author.Tests.{leb-true}
-use Rattle.rules.specs.Lists.{pairs}
+use borrow.Author.Tests.{leb-true, eqb-true}
 use Rattle.rules.specs.Refusals.{Test, _else_}
-use Rattle.rules.specs.Settings.{granularityOk}
-use Rattle.rules.specs.Ranges.{apart, rowsTests, rangeTests, listTests, powersOk, unitsOk}
+use Rattle.rules.specs.Settings.{granularityOk, unitSize}
+use Rattle.rules.specs.Ranges.{rowsTests, rangeTests, listTests, powersOk, unitsOk}
 use Rattle.rules.specs.StartData.{granularityOf, countOf, rangesOf}
 use Rattle.rules.specs.Order.{Seen, startOrder}
 use Rattle.rules.specs.declared.Range.{Range}
 use Rattle.rules.specs.declared.Settings.{Settings}
-use Rattle.rules.proofs.ListLaws.{All-left, All-right}
+use Rattle.rules.proofs.ListLaws.{All, All-left, All-right}
+use Rattle.rules.proofs.UnitLaws.{Aligned}
 use Rattle.rules.proofs.RefusalLaws.{Passed}
 
 -- ---- ranges
 
-pub rangeTests-apart : (g n : ℕ) (rs : List Range) → Passed (rangeTests g n rs) → pairs (apart g) rs ≡ true
+rowsTests-aligned : (g row : ℕ) (rs : List Range) → Passed (rowsTests g row rs) → All (Aligned (unitSize g)) rs
+rowsTests-aligned g row [] h = tt
+rowsTests-aligned g row (r ∷ rs) h = (eqb-true (r .start % unitSize g) 0 (h .1 .0), rowsTests-aligned g (suc row) rs (h .1 .1 .1))
+
+rangeTests-aligned : (g n : ℕ) (rs : List Range) → Passed (rangeTests g n rs) → All (Aligned (unitSize g)) rs
 unfolding rangeTests
-rangeTests-apart g n rs h = All-right (λ (t : Test). t .ok ≡ true) (rowsTests g 0 rs) ((pairs (apart g) rs else 9) ∷ []) (h .1 .1) .0
+rangeTests-aligned g n rs h = rowsTests-aligned g 0 rs (h .1 .1)
 
 -- ---- a start
 
@@ -49,6 +53,6 @@ startOrder-passed s v x h =
     rest : Passed (tests ++ last)
     rest = h .1 .1 .1 .1 .1 .1 .1 .1
 
-pub listTests-apart : (s : Settings) (g n : ℕ) (rs : List Range) → Passed (listTests s g n rs) → pairs (apart g) rs ≡ true
-listTests-apart s g n rs h =
-    rangeTests-apart g n rs (All-left (λ (t : Test). t .ok ≡ true) (rangeTests g n rs) ((powersOk s rs else 10) ∷ (unitsOk g rs else 11) ∷ []) h)
+pub listTests-aligned : (s : Settings) (g n : ℕ) (rs : List Range) → Passed (listTests s g n rs) → All (Aligned (unitSize g)) rs
+listTests-aligned s g n rs h =
+    rangeTests-aligned g n rs (All-left (λ (t : Test). t .ok ≡ true) (rangeTests g n rs) ((powersOk s rs else 10) ∷ (unitsOk g rs else 11) ∷ []) h)

@@ -5,14 +5,13 @@ use mathlib.Core.Bool.{Bool, true, false, _&&_, cond}
 use mathlib.Core.List.{List, [], _∷_, _++_, map}
 use Prim.Native.Nat.{ℕ, zero, suc, _+_, _-_, _*_, _≤_, _<_}
 use native.Mathlib.Omega.{arith}
-use native.Mathlib.Nat.{add-zero, suc-mul, zero-mul}
+use native.Mathlib.Nat.{add-zero, suc-mul, zero-mul, mul-le-mul-right}
 use lib.Dec.{eqb}
 use lib.ListN.{length, take, drop, getD, length-append, length-take}
 use lib.Seq.{drop-drop, take-append-le, drop-append-le, drop-cons}
-use borrow.Author.Tests.{eq-eqb, ne-eqb}
-use Rattle.rules.specs.Units.{Unit, unitsOfRow, unitsFrom, pending}
+use borrow.Author.Tests.{eq-eqb, ne-eqb, eqb-true}
+use Rattle.rules.specs.Units.{Unit, unitsOfRow, pending}
 use Rattle.rules.specs.Report.{follows, withFirst, runs, descriptor, clearFirst}
-use Rattle.rules.specs.declared.Range.{Range}
 use Rattle.rules.proofs.ListLaws.{All, All-map, All-append}
 use Rattle.rules.proofs.UnitLaws.{All-pending, chain-within, unitsOfRow-chain, unitsOfRow-row, unitsOfRow-length}
 
@@ -87,15 +86,26 @@ runs-peel u [] [] h = refl
 runs-peel u [] (y ∷ ys) h = let w = runs-first y (runs ys) in rw (w .2, h .0)
 runs-peel u (v ∷ vs) ys h = ap (withFirst u) (runs-peel v vs ys (h .1)) ∙ rw (h .0)
 
--- ---- units of one row, and of later rows
+-- ---- units of one row, and those beyond it
 
--- a later row's units follow none of an earlier row
-rows-unfollowed : (u : Unit) (size row : ℕ) (rs : List Range) → u .row < row → Unfollowed u (unitsFrom size row rs)
-rows-unfollowed u size row [] h = tt
-rows-unfollowed u size row (r ∷ rs) h =
-    All-append (λ y. follows u y ≡ false) (unitsOfRow row size (r .start) (r .length)) (unitsFrom size (suc row) rs)
-    (All-map (λ y e. rw (ne-eqb (u .row) (y .row) (λ q. omega (arith, e)))) (unitsOfRow row size (r .start) (r .length)) (unitsOfRow-row row size (r .start) (r .length)))
-    (rows-unfollowed u size (suc row) rs (omega arith))
+-- no unit of a list is of a row and begins before some byte, or at it
+abbrev pub Beyond : ℕ → ℕ → List Unit → Type 0
+Beyond row e ys = All (λ y. y .row ≡ row → e < y .address) ys
+
+and-false-right : (b : Bool) → (b && false) ≡ false
+and-false-right true = refl
+and-false-right false = refl
+
+-- such units follow none that ends there or before
+beyond-unfollowed : (u : Unit) (row e : ℕ) (ys : List Unit) → u .row ≡ row → u .address + u .size ≤ e → Beyond row e ys → Unfollowed u ys
+beyond-unfollowed u row e ys q h b = All-map one ys b
+  where
+    one : (y : Unit) → (y .row ≡ row → e < y .address) → follows u y ≡ false
+    one y f = go (eqb (u .row) (y .row)) refl
+      where
+        go : (b : Bool) → eqb (u .row) (y .row) ≡ b → (b && eqb (u .address + u .size) (y .address)) ≡ false
+        go true s = ne-eqb (u .address + u .size) (y .address) (λ z. absurd (omega (arith, f (sym (eqb-true (u .row) (y .row) s) ∙ q), z, h)))
+        go false s = refl
 
 -- units of its own row that begin further on than it ends do not follow it
 further-unfollowed : (u : Unit) (row size a n : ℕ) → u .row ≡ row → u .address + u .size < a → Unfollowed u (unitsOfRow row size a n)
@@ -103,10 +113,6 @@ further-unfollowed u row size a n e h =
     All-map eq-not (unitsOfRow row size a n)
     (chain-within size a a (a + length (unitsOfRow row size a n) * size) (unitsOfRow row size a n) (unitsOfRow-chain row size a n) (omega arith) (omega arith))
   where
-    and-false-right : (b : Bool) → (b && false) ≡ false
-    and-false-right true = refl
-    and-false-right false = refl
-
     eq-not : (y : Unit) → (a ≤ y .address) × (y .address + y .size ≤ a + length (unitsOfRow row size a n) * size) × (y .size ≡ size) → follows u y ≡ false
     eq-not y w = rw (ne-eqb (u .address + u .size) (y .address) (λ q. omega (arith, w .0))) (and-false-right (eqb (u .row) (y .row)))
 
@@ -120,10 +126,10 @@ row-linked row size a (suc m) ys h =
     let f : Unfollowed (record { row = row; address = a + size + m * size; size = size }) ys = rw e at h in
     (rw (eq-eqb row row refl, eq-eqb (a + size) (a + size) refl), row-linked row size (a + size) m ys f)
 
--- ---- where a scan stands: what is left are k units of a row from an address on, and the rows after it
+-- ---- where a scan stands: what is left are k units of a row from an address on, and others
 
-abbrev pub Left : List Unit → ℕ → ℕ → ℕ → ℕ → ℕ → List Range → Type 0
-Left us pos row size a k rs = drop pos us ≡ unitsOfRow row size a k ++ unitsFrom size (suc row) rs
+abbrev pub Left : List Unit → ℕ → ℕ → ℕ → ℕ → ℕ → List Unit → Type 0
+Left us pos row size a k rest = drop pos us ≡ unitsOfRow row size a k ++ rest
 
 unitsOfRow-drop : (row size a k m : ℕ) → m ≤ k → drop m (unitsOfRow row size a k) ≡ unitsOfRow row size (a + m * size) (k - m)
 unitsOfRow-drop row size a k zero h =
@@ -141,29 +147,29 @@ unitsOfRow-take row size a k zero h = refl
 unitsOfRow-take row size a zero (suc m) h = absurd (omega arith)
 unitsOfRow-take row size a (suc k) (suc m) h = ap (λ r. record { row = row; address = a; size = size } ∷ r) (unitsOfRow-take row size (a + size) k m (omega arith))
 
-module _ (us : List Unit) (row size : ℕ) (rs : List Range) where
+module _ (us : List Unit) (row size : ℕ) (tail : List Unit) where
   -- m units further in the row
-  pub left-on : (pos a k m : ℕ) → m ≤ k → Left us pos row size a k rs → Left us (pos + m) row size (a + m * size) (k - m) rs
+  pub left-on : (pos a k m : ℕ) → m ≤ k → Left us pos row size a k tail → Left us (pos + m) row size (a + m * size) (k - m) tail
   left-on pos a k m h e =
       sym (drop-drop m pos us) ∙ ap (drop m) e
-      ∙ drop-append-le m (unitsOfRow row size a k) (unitsFrom size (suc row) rs) (rw (unitsOfRow-length row size a k) h)
-      ∙ ap (λ l. l ++ unitsFrom size (suc row) rs) (unitsOfRow-drop row size a k m h)
+      ∙ drop-append-le m (unitsOfRow row size a k) tail (rw (unitsOfRow-length row size a k) h)
+      ∙ ap (λ l. l ++ tail) (unitsOfRow-drop row size a k m h)
 
   -- so many are left
-  pub left-length : (pos a k : ℕ) → Left us pos row size a k rs → length (drop pos us) ≡ k + length (unitsFrom size (suc row) rs)
+  pub left-length : (pos a k : ℕ) → Left us pos row size a k tail → length (drop pos us) ≡ k + length tail
   left-length pos a k e = ap length e ∙ rw (length-append, unitsOfRow-length row size a k)
 
-  left-take : (pos a k m : ℕ) → m ≤ k → Left us pos row size a k rs → take m (drop pos us) ≡ unitsOfRow row size a m
+  left-take : (pos a k m : ℕ) → m ≤ k → Left us pos row size a k tail → take m (drop pos us) ≡ unitsOfRow row size a m
   left-take pos a k m h e =
       ap (take m) e
-      ∙ take-append-le m (unitsOfRow row size a k) (unitsFrom size (suc row) rs) (rw (unitsOfRow-length row size a k) h)
+      ∙ take-append-le m (unitsOfRow row size a k) tail (rw (unitsOfRow-length row size a k) h)
       ∙ unitsOfRow-take row size a k m h
 
   -- the next run: m set marks, after which the row ends or a mark is clear
-  pub run-next : (p : List Bool) (pos a k m : ℕ) → 0 < size → suc m ≤ k → pos + suc m ≤ length us → Left us pos row size a k rs
+  pub run-next : (p : List Bool) (pos a k m : ℕ) → 0 < size → suc m ≤ k → pos + suc m ≤ length us → Left us pos row size a k tail → Beyond row (a + k * size) tail
       → ((i : ℕ) → pos ≤ i → i < pos + suc m → getD p i false ≡ true) → (suc m < k → getD p (pos + suc m) false ≡ false)
       → runs (pending (drop pos us) (drop pos p)) ≡ unitsOfRow row size a (suc m) ∷ runs (pending (drop (pos + suc m) us) (drop (pos + suc m) p))
-  run-next p pos a k m z h fits e set clear =
+  run-next p pos a k m z h fits e cut set clear =
       ap runs (pending-row us p pos (suc m) fits set ∙ ap (λ l. l ++ rest) (left-take pos a k (suc m) h e))
       ∙ runs-peel (record { row = row; address = a; size = size }) (unitsOfRow row size (a + size) m) rest (row-linked row size a m rest (after (k - suc m) refl))
     where
@@ -173,24 +179,27 @@ module _ (us : List Unit) (row size : ℕ) (rs : List Range) where
       rest : List Unit
       rest = pending (drop (pos + suc m) us) (drop (pos + suc m) p)
 
-      there : Left us (pos + suc m) row size (a + suc m * size) (k - suc m) rs
+      unfollowed : Unfollowed last tail
+      unfollowed = beyond-unfollowed last row (a + k * size) tail refl (omega (arith, suc-mul m size, mul-le-mul-right {m = suc m} {n = k} size h)) cut
+
+      there : Left us (pos + suc m) row size (a + suc m * size) (k - suc m) tail
       there = left-on pos a k (suc m) h e
 
       after : (n : ℕ) → k - suc m ≡ n → Unfollowed last rest
       after zero q =
           All-pending (λ y. follows last y ≡ false) (drop (pos + suc m) us) (drop (pos + suc m) p)
-          (subst (Unfollowed last) (sym (there ∙ ap (λ n. unitsOfRow row size (a + suc m * size) n ++ unitsFrom size (suc row) rs) q)) (rows-unfollowed last size (suc row) rs (omega arith)))
+          (subst (Unfollowed last) (sym (there ∙ ap (λ n. unitsOfRow row size (a + suc m * size) n ++ tail) q)) unfollowed)
       after (suc n) q =
           let one : 1 ≤ k - suc m = omega arith in
-          let beyond : Left us (pos + suc m + 1) row size (a + suc m * size + 1 * size) (k - suc m - 1) rs = left-on (pos + suc m) (a + suc m * size) (k - suc m) 1 one there in
+          let beyond : Left us (pos + suc m + 1) row size (a + suc m * size + 1 * size) (k - suc m - 1) tail = left-on (pos + suc m) (a + suc m * size) (k - suc m) 1 one there in
           let passed : rest ≡ pending (drop (pos + suc m + 1) us) (drop (pos + suc m + 1) p) =
           pending-skip us p (pos + suc m) 1 (λ i l g. let x : i ≡ pos + suc m = omega arith in rw x (clear (omega arith))) in
           rw passed
           (All-pending (λ y. follows last y ≡ false) (drop (pos + suc m + 1) us) (drop (pos + suc m + 1) p)
           (subst (Unfollowed last) (sym beyond)
-          (All-append (λ y. follows last y ≡ false) (unitsOfRow row size (a + suc m * size + 1 * size) (k - suc m - 1)) (unitsFrom size (suc row) rs)
+          (All-append (λ y. follows last y ≡ false) (unitsOfRow row size (a + suc m * size + 1 * size) (k - suc m - 1)) tail
           (further-unfollowed last row size (a + suc m * size + 1 * size) (k - suc m - 1) refl (omega (arith, suc-mul m size)))
-          (rows-unfollowed last size (suc row) rs (omega arith)))))
+          unfollowed)))
 
 -- the run's descriptor
 pub descriptor-row : (row size a m : ℕ) → descriptor (unitsOfRow row size a (suc m)) ≡ record { address = a; length = suc m }

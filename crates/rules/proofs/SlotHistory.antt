@@ -19,8 +19,8 @@ use Rattle.rules.specs.declared.Range.{Range}
 use Rattle.rules.specs.declared.Settings.{Settings}
 use Rattle.rules.proofs.ListLaws.{map-same}
 use Rattle.rules.proofs.RefusalLaws.{Passed, verdict-has}
-use Rattle.rules.proofs.OrderLaws.{startOrder-passed, listTests-apart}
-use Rattle.rules.proofs.UnitLaws.{Apart, unitsFrom-apart, unitsFrom-sized, mark-map}
+use Rattle.rules.proofs.OrderLaws.{startOrder-passed, listTests-aligned}
+use Rattle.rules.proofs.UnitLaws.{Apart, unitSize-pos, unitsFrom-apart, unitsFrom-sized, mark-map}
 use Rattle.rules.proofs.RunLaws.{marksLeft-map}
 
 -- ---- pendingBy: as a statement, and with one event more
@@ -162,12 +162,12 @@ told-receive h x b g rs p k i = (left ∙ map-same same us, i .1)
     left : marksLeft k us p ≡ map (λ u. pendingBy h u && not (reportedBy d u)) us
     left =
         subst (λ (q : List Bool). marksLeft k us q ≡ map (λ u. pendingBy h u && not (reportedBy (did (receive x) (reported (reportOn b g k us q))) u)) us) (sym (i .0))
-        (marksLeft-map (pendingBy h) g k us (unitsFrom-sized (unitSize g) 0 rs) (i .1))
+        (marksLeft-map (pendingBy h) g k us (unitsFrom-sized (unitSize g) 0 [] rs) (i .1))
 
     same : (u : Unit) → (pendingBy h u && not (reportedBy d u)) ≡ pendingBy (h ++ d ∷ []) u
     same u = sym (pendingBy-snoc h d u ∙ or-false (pendingBy h u && not (reportedBy d u)))
 
--- what the tests of a call give its slot: the ranges of a start are apart
+-- what the tests of a call give its slot: the units of a start are apart
 abbrev Allowed : Op → Type 0
 Allowed (start x) = Apart (units (granularityOf x) (rangesOf x))
 Allowed stop = Prim.Unit {0}
@@ -178,7 +178,8 @@ Allowed resume = Prim.Unit {0}
 
 allowed : (s : Settings) (v : Seen) (o : Op) → Passed (order s v o) → Allowed o
 unfolding order
-allowed s v (start x) h = unitsFrom-apart (granularityOf x) 0 (rangesOf x) (listTests-apart s (granularityOf x) (countOf x) (rangesOf x) (startOrder-passed s v x h .list))
+allowed s v (start x) h =
+    unitsFrom-apart (unitSize (granularityOf x)) 0 [] (rangesOf x) (unitSize-pos (granularityOf x)) (listTests-aligned s (granularityOf x) (countOf x) (rangesOf x) (startOrder-passed s v x h .list))
 allowed s v stop h = tt
 allowed s v (write w) h = tt
 allowed s v (receive x) h = tt

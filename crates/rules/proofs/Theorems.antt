@@ -104,7 +104,7 @@ demand-2 =
       reports = λ s ks a b g rs p e k.
           let h : List Did = sessionHistory s ks a in
           let w : Known h b (on g rs p) = rw e at (known-session s a ks) in
-          rw (w .marks .0) (reports-map b (pendingBy h) g k (units g rs) (unitsFrom-sized (unitSize g) 0 rs) (w .marks .1));
+          rw (w .marks .0) (reports-map b (pendingBy h) g k (units g rs) (unitsFrom-sized (unitSize g) 0 [] rs) (w .marks .1));
       touches = λ w u. record { exactly = λ z. shares-a-byte w u z; none = λ e. rw e };
       writes = λ s ks a b g rs p e w. writes-always w (units g rs) p;
     }

@@ -2,21 +2,21 @@
 -- Assumes nothing.
 use mathlib.Core.Path.{_≡_, refl, sym, ap, _∙_}
 use mathlib.Core.Logic.{_↔_}
-use mathlib.Core.Bool.{Bool, true, false, _&&_, _||_, not, cond}
+use mathlib.Core.Bool.{Bool, true, false, _&&_, _||_, not, cond, true≢false}
 use mathlib.Core.List.{List, [], _∷_, _++_, map}
-use Prim.Native.Nat.{ℕ, zero, suc, _+_, _*_, _≤_, _<_, max}
+use Prim.Native.Nat.{ℕ, zero, suc, _+_, _*_, _/_, _%_, _≤_, _<_, max}
 use native.Mathlib.Omega.{arith}
-use native.Mathlib.Nat.{zero-add, add-assoc, zero-mul, suc-mul}
+use native.Mathlib.Nat.{zero-add, add-assoc, zero-mul, suc-mul, add-mod-right, div-add-mod', mul-le-mul-right}
+use native.Mathlib.Decide.{decLe, decLt}
 use lib.Dec.{leb, ltb}
 use lib.ListN.{length, getD, length-append}
 use lib.Pow.{pow-pos}
-use borrow.Author.Tests.{leb-true, ltb-true, lt-ltb}
-use Rattle.rules.specs.Lists.{all, pairs, sum}
+use borrow.Author.Tests.{leb-true, ltb-true, le-leb, lt-ltb, not-true}
+use Rattle.rules.specs.Lists.{any, keep, sum}
 use Rattle.rules.specs.Settings.{unitSize}
-use Rattle.rules.specs.Units.{Unit, unitsOfRow, unitsFrom, Write, touches, mark, newly, pending}
-use Rattle.rules.specs.Ranges.{endOf, apart}
+use Rattle.rules.specs.Units.{Unit, unitsOfRow, covers, uncovered, unitsFrom, Write, touches, mark, newly, pending}
 use Rattle.rules.specs.declared.Range.{Range}
-use Rattle.rules.proofs.ListLaws.{All, All-map, All-append, and-left, and-right, and-intro, or-cases}
+use Rattle.rules.proofs.ListLaws.{All, All-map, All-both, All-append, All-keep, All-kept, and-left, and-right, and-intro, any-left, any-last, keep-length}
 
 -- ---- bytes of units
 
@@ -94,42 +94,98 @@ unitsOfRow-within row s r =
 pub unitSize-pos : (g : ℕ) → 0 < unitSize g
 unitSize-pos g = pow-pos (12 + g)
 
-pub unitsFrom-sized : (s row : ℕ) (rs : List Range) → Sized s (unitsFrom s row rs)
-unitsFrom-sized s row [] = tt
-unitsFrom-sized s row (r ∷ rs) =
-    All-append (λ u. u .size ≡ s) (unitsOfRow row s (r .start) (r .length)) (unitsFrom s (suc row) rs)
-    (All-map (λ u w. w .2) (unitsOfRow row s (r .start) (r .length)) (unitsOfRow-within row s r))
-    (unitsFrom-sized s (suc row) rs)
+pub unitsFrom-sized : (s row : ℕ) (before rs : List Range) → Sized s (unitsFrom s row before rs)
+unitsFrom-sized s row before [] = tt
+unitsFrom-sized s row before (r ∷ rs) =
+    All-append (λ u. u .size ≡ s) (keep (uncovered s before) (unitsOfRow row s (r .start) (r .length))) (unitsFrom s (suc row) (before ++ r ∷ []) rs)
+    (All-keep (λ u. u .size ≡ s) (uncovered s before) (unitsOfRow row s (r .start) (r .length)) (All-map (λ u w. w .2) (unitsOfRow row s (r .start) (r .length)) (unitsOfRow-within row s r)))
+    (unitsFrom-sized s (suc row) (before ++ r ∷ []) rs)
 
--- there are as many as the lengths say
-pub unitsFrom-length : (s row : ℕ) (rs : List Range) → length (unitsFrom s row rs) ≡ sum (map (λ (r : Range). r .length) rs)
-unitsFrom-length s row [] = refl
-unitsFrom-length s row (r ∷ rs) = rw (length-append, unitsOfRow-length row s (r .start) (r .length), unitsFrom-length s (suc row) rs)
+-- there are at most as many as the lengths say
+pub unitsFrom-length : (s row : ℕ) (before rs : List Range) → length (unitsFrom s row before rs) ≤ sum (map (λ (r : Range). r .length) rs)
+unitsFrom-length s row before [] = omega arith
+unitsFrom-length s row before (r ∷ rs) =
+    rw length-append
+    (omega (arith, keep-length (uncovered s before) (unitsOfRow row s (r .start) (r .length)), unitsOfRow-length row s (r .start) (r .length), unitsFrom-length s (suc row) (before ++ r ∷ []) rs))
 
--- a range that is apart from others shares no byte with their units
-unitsFrom-beside : (g row : ℕ) (r : Range) (rs : List Range) → all (apart g r) rs ≡ true
-    → All (λ v. (v .address + v .size ≤ r .start → ⊥) → endOf g r ≤ v .address) (unitsFrom (unitSize g) row rs)
-unitsFrom-beside g row r [] h = tt
-unitsFrom-beside g row r (q ∷ rs) h =
-    All-append (λ v. (v .address + v .size ≤ r .start → ⊥) → endOf g r ≤ v .address) (unitsOfRow row (unitSize g) (q .start) (q .length)) (unitsFrom (unitSize g) (suc row) rs)
-    (All-map one (unitsOfRow row (unitSize g) (q .start) (q .length)) (unitsOfRow-within row (unitSize g) q))
-    (unitsFrom-beside g (suc row) r rs (and-right (apart g r q) (all (apart g r) rs) h))
+-- ---- each unit is there once: the units of ranges that begin at multiples of the unit share no byte
+
+-- a unit of a later range is covered by none of the ranges before
+unitsFrom-free : (s row : ℕ) (before rs : List Range) → All (λ v. any (λ q. covers s q (v .address)) before ≡ false) (unitsFrom s row before rs)
+unitsFrom-free s row before [] = tt
+unitsFrom-free s row before (r ∷ rs) =
+    All-append (λ v. any (λ q. covers s q (v .address)) before ≡ false) (keep (uncovered s before) (unitsOfRow row s (r .start) (r .length))) (unitsFrom s (suc row) (before ++ r ∷ []) rs)
+    (All-map (λ v e. not-true (any (λ q. covers s q (v .address)) before) e) (keep (uncovered s before) (unitsOfRow row s (r .start) (r .length))) (All-kept (uncovered s before) (unitsOfRow row s (r .start) (r .length))))
+    (All-map (λ v e. any-left (λ q. covers s q (v .address)) before (r ∷ []) e) (unitsFrom s (suc row) (before ++ r ∷ []) rs) (unitsFrom-free s (suc row) (before ++ r ∷ []) rs))
+
+abbrev pub Aligned : ℕ → Range → Type 0
+Aligned s r = r .start % s ≡ 0
+
+unitsOfRow-aligned : (row s a n : ℕ) → a % s ≡ 0 → All (λ u. u .address % s ≡ 0) (unitsOfRow row s a n)
+unitsOfRow-aligned row s a zero e = tt
+unitsOfRow-aligned row s a (suc n) e = (e, unitsOfRow-aligned row s (a + s) n (add-mod-right a s ∙ e))
+
+unitsFrom-aligned : (s row : ℕ) (before rs : List Range) → All (Aligned s) rs → All (λ u. u .address % s ≡ 0) (unitsFrom s row before rs)
+unitsFrom-aligned s row before [] h = tt
+unitsFrom-aligned s row before (r ∷ rs) h =
+    All-append (λ u. u .address % s ≡ 0) (keep (uncovered s before) (unitsOfRow row s (r .start) (r .length))) (unitsFrom s (suc row) (before ++ r ∷ []) rs)
+    (All-keep (λ u. u .address % s ≡ 0) (uncovered s before) (unitsOfRow row s (r .start) (r .length)) (unitsOfRow-aligned row s (r .start) (r .length) (h .0)))
+    (unitsFrom-aligned s (suc row) (before ++ r ∷ []) rs (h .1))
+
+-- between a multiple of s and a greater one lies s
+aligned-gap : (s x y : ℕ) → 0 < s → x % s ≡ 0 → y % s ≡ 0 → x < y → x + s ≤ y
+aligned-gap s x y z e f h = go (decLe (y / s) (x / s))
   where
-    one : (v : Unit) → (q .start ≤ v .address) × (v .address + v .size ≤ q .start + q .length * unitSize g) × (v .size ≡ unitSize g) → (v .address + v .size ≤ r .start → ⊥) → endOf g r ≤ v .address
-    one v w f =
-        or-cases (leb (endOf g r) (q .start)) (leb (endOf g q) (r .start)) (endOf g r ≤ v .address) (and-left (apart g r q) (all (apart g r) rs) h)
-        (λ e. let l = leb-true (endOf g r) (q .start) e in omega (arith, w .0))
-        (λ e. let l = leb-true (endOf g q) (r .start) e in absurd (f (omega (arith, w .1))))
+    low : x / s * s ≡ x
+    low = omega (arith, div-add-mod' x s, e)
 
-pub unitsFrom-apart : (g row : ℕ) (rs : List Range) → pairs (apart g) rs ≡ true → Apart (unitsFrom (unitSize g) row rs)
-unitsFrom-apart g row [] h = tt
-unitsFrom-apart g row (r ∷ rs) h =
-    Apart-append (unitsOfRow row (unitSize g) (r .start) (r .length)) (unitsFrom (unitSize g) (suc row) rs)
-    (chain-apart (unitSize g) (r .start) (unitsOfRow row (unitSize g) (r .start) (r .length)) (unitsOfRow-chain row (unitSize g) (r .start) (r .length)))
-    (unitsFrom-apart g (suc row) rs (and-right (all (apart g r) rs) (pairs (apart g) rs) h))
-    (All-map (λ u w. All-map (λ v f x i j. let l : endOf g r ≤ v .address = f (λ m. omega arith) in omega arith) (unitsFrom (unitSize g) (suc row) rs)
-    (unitsFrom-beside g (suc row) r rs (and-left (all (apart g r) rs) (pairs (apart g) rs) h)))
-    (unitsOfRow row (unitSize g) (r .start) (r .length)) (unitsOfRow-within row (unitSize g) r))
+    high : y / s * s ≡ y
+    high = omega (arith, div-add-mod' y s, f)
+
+    go : Dec (y / s ≤ x / s) → x + s ≤ y
+    go (yes a) = absurd (omega (arith, low, high, h, mul-le-mul-right {m = y / s} {n = x / s} s a))
+    go (no a) = omega (arith, low, high, suc-mul (x / s) s, mul-le-mul-right {m = suc (x / s)} {n = y / s} s (omega arith))
+
+Apart-keep : (f : Unit → Bool) (us : List Unit) → Apart us → Apart (keep f us)
+Apart-keep f [] h = tt
+Apart-keep f (u ∷ us) h = go (Apart-keep f us (h .1)) (f u)
+  where
+    go : Apart (keep f us) → (b : Bool) → Apart (cond b (u ∷ keep f us) (keep f us))
+    go k true = (All-keep (Free u) f us (h .0), k)
+    go k false = k
+
+-- a unit of a range, and one that begins at a multiple of the unit and that the range does not cover
+covered-not : (s : ℕ) (r : Range) (u v : Unit) → 0 < s → Aligned s r → (r .start ≤ u .address) × (u .address + u .size ≤ r .start + r .length * s) × (u .size ≡ s)
+    → covers s r (v .address) ≡ false → v .address % s ≡ 0 → v .size ≡ s → Free u v
+covered-not s r u v z e w c d n x i j = go (decLe (r .start) (v .address)) (decLt (v .address) (r .start + r .length * s))
+  where
+    go : Dec (r .start ≤ v .address) → Dec (v .address < r .start + r .length * s) → ⊥
+    go (yes a) (yes b) =
+        true≢false (sym (and-intro (leb (r .start) (v .address)) (ltb (v .address) (r .start + r .length * s)) (le-leb (r .start) (v .address) a) (lt-ltb (v .address) (r .start + r .length * s) b)) ∙ c)
+    go (yes a) (no b) = absurd (omega (arith, w .1, i .1, j .0))
+    go (no a) b = absurd (omega (arith, aligned-gap s (v .address) (r .start) z d e (omega arith), w .0, i .0, j .1, n))
+
+pub unitsFrom-apart : (s row : ℕ) (before rs : List Range) → 0 < s → All (Aligned s) rs → Apart (unitsFrom s row before rs)
+unitsFrom-apart s row before [] z h = tt
+unitsFrom-apart s row before (r ∷ rs) z h =
+    Apart-append (keep (uncovered s before) own) later
+    (Apart-keep (uncovered s before) own (chain-apart s (r .start) own (unitsOfRow-chain row s (r .start) (r .length))))
+    (unitsFrom-apart s (suc row) (before ++ r ∷ []) rs z (h .1))
+    (All-map (λ u w. All-map (λ v q. covered-not s r u v z (h .0) w (any-last (λ q. covers s q (v .address)) before r (q .0)) (q .1 .0) (q .1 .1)) later known)
+    (keep (uncovered s before) own)
+    (All-keep (λ u. (r .start ≤ u .address) × (u .address + u .size ≤ r .start + r .length * s) × (u .size ≡ s)) (uncovered s before) own (unitsOfRow-within row s r)))
+  where
+    own : List Unit
+    own = unitsOfRow row s (r .start) (r .length)
+
+    later : List Unit
+    later = unitsFrom s (suc row) (before ++ r ∷ []) rs
+
+    known : All (λ v. (any (λ q. covers s q (v .address)) (before ++ r ∷ []) ≡ false) × ((v .address % s ≡ 0) × (v .size ≡ s))) later
+    known =
+        All-both (λ v. any (λ q. covers s q (v .address)) (before ++ r ∷ []) ≡ false) (λ v. (v .address % s ≡ 0) × (v .size ≡ s)) later
+        (unitsFrom-free s (suc row) (before ++ r ∷ []) rs)
+        (All-both (λ v. v .address % s ≡ 0) (λ v. v .size ≡ s) later (unitsFrom-aligned s (suc row) (before ++ r ∷ []) rs (h .1)) (unitsFrom-sized s (suc row) (before ++ r ∷ []) rs))
 
 -- ---- touches: some byte lies in both
 

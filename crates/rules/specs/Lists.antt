@@ -10,6 +10,11 @@ abbrev pub all : {A : Type 0} → (A → Bool) → List A → Bool
 all p [] = true
 all p (x ∷ xs) = p x && all p xs
 
+-- the elements of which a test holds
+abbrev pub keep : {A : Type 0} → (A → Bool) → List A → List A
+keep p [] = []
+keep p (x ∷ xs) = cond (p x) (x ∷ keep p xs) (keep p xs)
+
 -- whether a test holds of some element
 abbrev pub any : {A : Type 0} → (A → Bool) → List A → Bool
 any p [] = false

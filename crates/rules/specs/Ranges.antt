@@ -5,7 +5,7 @@ use mathlib.Core.Bool.{Bool, _||_, not}
 use mathlib.Core.List.{List, [], _∷_, _++_}
 use lib.Dec.{leb, eqb}
 use lib.ListN.{length}
-use Rattle.rules.specs.Lists.{all, pairs, someBelow}
+use Rattle.rules.specs.Lists.{all, someBelow}
 use Rattle.rules.specs.Refusals.{Test, _else_, _place_}
 use Rattle.rules.specs.Settings.{unitSize, bytesOf}
 use Rattle.rules.specs.Units.{units}
@@ -29,16 +29,12 @@ abbrev pub rowsTests : ℕ → ℕ → List Range → List Test
 rowsTests g row [] = []
 rowsTests g row (r ∷ rs) = rowTests g row r ++ rowsTests g (suc row) rs
 
--- whether two ranges share no unit: one ends before the other starts
-abbrev pub apart : ℕ → Range → Range → Bool
-apart g r q = leb (endOf g r) (q .start) || leb (endOf g q) (r .start)
-
--- 9 for n ranges: the count is 1 to 16; each range by itself; no two share a unit
+-- 9 for n ranges: the count is 1 to 16; each range by itself. They may overlap (W2)
 unfoldable pub rangeTests : ℕ → ℕ → List Range → List Test
 rangeTests g n rs =
     (leb 1 n else 9)
     ∷ (leb n 16 else 9)
-    ∷ (rowsTests g 0 rs ++ (pairs (apart g) rs else 9) ∷ [])
+    ∷ rowsTests g 0 rs
 
 -- whether a length is a power of two
 abbrev pub isPower : ℕ → Bool
@@ -48,7 +44,7 @@ isPower n = someBelow 32 (λ k. eqb n (2 ^ k))
 unfoldable pub powersOk : Settings → List Range → Bool
 powersOk s rs = not (s .powers) || all (λ (r : Range). isPower (r .length)) rs
 
--- 11: at most 4,096 units
+-- 11: at most 4,096 different units
 unfoldable pub unitsOk : ℕ → List Range → Bool
 unitsOk g rs = leb (length (units g rs)) 4096
 

@@ -1,9 +1,10 @@
--- Document 01, "Settings and sizes" and "Starting, writing, stopping": the units of a list of ranges and their marks, which units a written
+-- Document 01, "Settings and sizes" and "Starting, writing, stopping", and document 02, W2: the units of a list of ranges and their marks, which units a written
 -- range touches, and what an accepted write makes pending. One mark a unit, a Bool, in the order of the units.
-use Prim.Native.Nat.{ℕ, zero, suc, _+_}
+use Prim.Native.Nat.{ℕ, zero, suc, _+_, _*_}
 use mathlib.Core.Bool.{Bool, true, false, _&&_, _||_, not, cond}
 use mathlib.Core.List.{List, [], _∷_, _++_, map}
-use lib.Dec.{ltb}
+use lib.Dec.{leb, ltb}
+use Rattle.rules.specs.Lists.{keep, any}
 use Rattle.rules.specs.Settings.{unitSize}
 use Rattle.rules.specs.declared.Range.{Range}
 
@@ -18,14 +19,23 @@ abbrev pub unitsOfRow : ℕ → ℕ → ℕ → ℕ → List Unit
 unitsOfRow row size address zero = []
 unitsOfRow row size address (suc n) = record { row = row; address = address; size = size } ∷ unitsOfRow row size (address + size) n
 
--- the units of ranges, the first of which is listed in a row
-abbrev pub unitsFrom : ℕ → ℕ → List Range → List Unit
-unitsFrom size row [] = []
-unitsFrom size row (r ∷ rs) = unitsOfRow row size (r .start) (r .length) ++ unitsFrom size (suc row) rs
+-- whether a range covers the byte at an address
+abbrev pub covers : ℕ → Range → ℕ → Bool
+covers size r a = leb (r .start) a && ltb a (r .start + r .length * size)
 
--- the units of a list of ranges: in the order of the ranges as listed, and by address within a range
+-- whether a unit is covered by none of some ranges
+abbrev pub uncovered : ℕ → List Range → Unit → Bool
+uncovered size rs u = not (any (λ r. covers size r (u .address)) rs)
+
+-- the units of ranges, the first of which is listed in a row, after some others. A unit that several ranges cover belongs to the earliest listed
+abbrev pub unitsFrom : ℕ → ℕ → List Range → List Range → List Unit
+unitsFrom size row before [] = []
+unitsFrom size row before (r ∷ rs) =
+    keep (uncovered size before) (unitsOfRow row size (r .start) (r .length)) ++ unitsFrom size (suc row) (before ++ r ∷ []) rs
+
+-- the units of a list of ranges, each once: in the order of the ranges as listed, and by address within a range
 abbrev pub units : ℕ → List Range → List Unit
-units g rs = unitsFrom (unitSize g) 0 rs
+units g rs = unitsFrom (unitSize g) 0 [] rs
 
 -- a written range: an address and a length in bytes
 pub record Write : Type 0 where

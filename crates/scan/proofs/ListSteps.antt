@@ -26,7 +26,8 @@ use Rattle.rules.specs.declared.Range.{Range}
 use Rattle.rules.proofs.ListLaws.{join-take-drop}
 use Rattle.rules.proofs.RunLaws.{runs-join}
 use Rattle.rules.proofs.ScanLaws.{clearBefore, clearFirst-clearBefore, descriptor-row}
-use Rattle.scan.specs.Scan.{rowOf, addressAt, Stands, RunFound, RangesEnd, Lists}
+use Rattle.scan.specs.Scan.{Stands, RunFound, Lists}
+use Rattle.scan.specs.declared.Run.{Run}
 use Rattle.scan.proofs.ScanSteps.{stands-start}
 
 -- ---- the marks with all before a place clear
@@ -96,7 +97,7 @@ drop-none j xs e = let l : length xs - j ≡ 0 = sym (length-drop j xs) ∙ ap l
 
 -- the controller's units, its marks at the start, and their runs
 abbrev unitsIn : ℕ → List Range → List Unit
-unitsIn size rs = unitsFrom size 0 rs
+unitsIn size rs = unitsFrom size 0 [] rs
 
 abbrev marksIn : ℕ → List Range → List Bool → ℕ → List Bool
 marksIn size rs l base = getShare l base (length (unitsIn size rs))
@@ -105,15 +106,15 @@ abbrev runsIn : ℕ → List Range → List Bool → ℕ → List (List Unit)
 runsIn size rs l base = runs (pending (unitsIn size rs) (marksIn size rs l base))
 
 -- j runs are listed, and the scan stands at unit `pos`
-pub record Listing (size : ℕ) (rs : List Range) (l : List Bool) (base : ℕ) (x : List ℕ) (room : ℕ) (l′ : List Bool) (x′ : List ℕ) (j row begin pos : ℕ) : Type 0 where
-  pub stands : Stands size rs row begin pos
+pub record Listing (size : ℕ) (rs : List Range) (l : List Bool) (base : ℕ) (x : List ℕ) (room : ℕ) (l′ : List Bool) (x′ : List ℕ) (j row unit pos : ℕ) : Type 0 where
+  pub stands : Stands size rs row unit pos
   pub few : j ≤ room
   pub there : j ≤ length (runsIn size rs l base)
   pub bits : l′ ≡ putShare l base (clearBefore pos (marksIn size rs l base))
   pub bytes : x′ ≡ put x 16 (records descriptorBytes (map descriptor (take j (runsIn size rs l base))))
   pub later : drop j (runsIn size rs l base) ≡ runs (pending (drop pos (unitsIn size rs)) (drop pos (marksIn size rs l base)))
 
-module _ (size : ℕ) (rs : List Range) (l : List Bool) (base : ℕ) (x : List ℕ) (room : ℕ) (fits : base + length (unitsFrom size 0 rs) ≤ length l) where
+module _ (size : ℕ) (rs : List Range) (l : List Bool) (base : ℕ) (x : List ℕ) (room : ℕ) (fits : base + length (unitsFrom size 0 [] rs) ≤ length l) where
   abbrev us : List Unit
   us = unitsIn size rs
 
@@ -137,7 +138,7 @@ module _ (size : ℕ) (rs : List Range) (l : List Bool) (base : ℕ) (x : List �
         later = refl;
       }
 
-  module _ (l′ : List Bool) (x′ : List ℕ) (j row begin pos : ℕ) (s : Listing size rs l base x room l′ x′ j row begin pos) where
+  module _ (l′ : List Bool) (x′ : List ℕ) (j row unit pos : ℕ) (s : Listing size rs l base x room l′ x′ j row unit pos) where
     inside : pos ≤ length p
     inside = omega (arith, s .stands .inside, p-length)
 
@@ -191,9 +192,15 @@ module _ (size : ℕ) (rs : List Range) (l : List Bool) (base : ℕ) (x : List �
 
     -- ---- a run is found
 
-    module _ (row′ begin′ from to : ℕ) (f : RunFound size rs (getShare l′ base (length us)) pos row′ begin′ from to) where
+    module _ (r : Run) (f : RunFound size rs (getShare l′ base (length us)) pos r) where
+      abbrev from : ℕ
+      from = r .from
+
+      abbrev to : ℕ
+      to = r .to
+
       abbrev run : List Unit
-      run = unitsOfRow row′ size (addressAt size rs row′ begin′ from) (to - from)
+      run = unitsOfRow (r .row) size (r .start) (to - from)
 
       order : (pos ≤ from) × (from < to) × (to ≤ length us)
       order = (f .past, f .some, f .stands .inside)
@@ -228,18 +235,18 @@ module _ (size : ℕ) (rs : List Range) (l : List Bool) (base : ℕ) (x : List �
       map-snoc [] y = refl
       map-snoc (z ∷ xs) y = ap (λ r. descriptor z ∷ r) (map-snoc xs y)
 
-      described : descriptor run ≡ record { address = addressAt size rs row′ begin′ from; length = to - from }
+      described : descriptor run ≡ record { address = r .start; length = to - from }
       described =
           let e : to - from ≡ suc (to - from - 1) = omega (arith, order .1) in
-          ap (λ n. descriptor (unitsOfRow row′ size (addressAt size rs row′ begin′ from) n)) e
-          ∙ descriptor-row row′ size (addressAt size rs row′ begin′ from) (to - from - 1)
-          ∙ ap (λ n. record { address = addressAt size rs row′ begin′ from; length = n }) (sym e)
+          ap (λ n. descriptor (unitsOfRow (r .row) size (r .start) n)) e
+          ∙ descriptor-row (r .row) size (r .start) (to - from - 1)
+          ∙ ap (λ n. record { address = r .start; length = n }) (sym e)
 
       -- it is listed and made clear
-      pub listing-next : (l″ : List Bool) (x″ : List ℕ) (address : ℕ) → j < room → l″ ≡ fill false l′ (base + from) (base + to - (base + from))
-          → address ≡ addressAt size rs row′ begin′ from → x″ ≡ put x′ (16 + 16 * j) (descriptorBytes (record { address = address; length = to - from }))
-          → Listing size rs l base x room l″ x″ (j + 1) row′ begin′ to
-      listing-next l″ x″ address h e a e′ =
+      pub listing-next : (l″ : List Bool) (x″ : List ℕ) → j < room → l″ ≡ fill false l′ (base + from) (base + to - (base + from))
+          → x″ ≡ put x′ (16 + 16 * j) (descriptorBytes (record { address = r .start; length = to - from }))
+          → Listing size rs l base x room l″ x″ (j + 1) (r .row) (r .next) to
+      listing-next l″ x″ h e e′ =
           record {
             stands = f .stands;
             few = omega arith;
@@ -248,7 +255,7 @@ module _ (size : ℕ) (rs : List Range) (l : List Bool) (base : ℕ) (x : List �
             bytes =
                 records-snoc-again descriptorBytes 16 descriptorBytes-length (map descriptor (take j every)) (descriptor run) x x′ x″ 16 (16 + 16 * j)
                 (ap (λ n. 16 + 16 * n) (sym listed-length)) (s .bytes)
-                (e′ ∙ ap (λ d. put x′ (16 + 16 * j) (descriptorBytes d)) (ap (λ b. record { address = b; length = to - from }) a ∙ sym described))
+                (e′ ∙ ap (λ d. put x′ (16 + 16 * j) (descriptorBytes d)) (sym described))
                 ∙ ap (λ r. put x 16 (records descriptorBytes r)) (sym (map-snoc (take j every) run) ∙ ap (map descriptor) (sym (parts .1)))
                 ∙ ap (λ n. put x 16 (records descriptorBytes (map descriptor (take n every)))) (sym (add-one j));
             later = ap (λ n. drop n every) (add-one j) ∙ parts .2;
@@ -274,23 +281,3 @@ module _ (size : ℕ) (rs : List Range) (l : List Bool) (base : ℕ) (x : List �
               ∙ ap (λ b. putShare b base (clearBefore to p)) (s .bits)
               ∙ putShare-putShare l base (clearBefore pos p) (clearBefore to p) cleared-fits
               (clearBefore-length to p (omega (arith, order .2, p-length)) ∙ sym (clearBefore-length pos p inside))
-
--- a run's first address is one of its range's
-pub found-address : (size : ℕ) (ranges : List Range) (n : ℕ) (q : List Bool) (pos row begin from to : ℕ) → RangesEnd size (take n ranges) → 0 < size
-    → RunFound size (take n ranges) q pos row begin from to
-    → (row < length ranges) × (begin ≤ from) × (addressAt size (take n ranges) row begin from ≡ getD ranges row noRange .start + (from - begin) * size) × (getD ranges row noRange .start + (from - begin) * size < 2 ^ 64)
-found-address size ranges n q pos row begin from to e z f =
-    let low = f .row-in in
-    let short = length-take n ranges in
-    let same : rowOf (take n ranges) row ≡ getD ranges row noRange = getD-take n ranges row noRange (omega arith) in
-    let begins = f .begins in
-    let some = f .some in
-    let ends = f .ends in
-    let m : suc (from - begin) * size ≤ rowOf (take n ranges) row .length * size = mul-le-mul-right size (omega arith) in
-    let end = e row low in
-    let s : rowOf (take n ranges) row .start ≡ getD ranges row noRange .start = ap (λ (r : Range). r .start) same in (
-      omega arith,
-      begins,
-      ap (λ (r : Range). r .start + (from - begin) * size) same,
-      omega (arith, suc-mul (from - begin) size),
-    )

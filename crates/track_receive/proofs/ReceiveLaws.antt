@@ -26,7 +26,7 @@ use Rattle.record.specs.declared.Place.the-variants.{At, Refused}
 use Rattle.record.proofs.RecordLaws.{Located, whereIs-at, whereIs-refused}
 use Rattle.ranges.proofs.RangeLaws.{RowFacts}
 use Rattle.calls.specs.Calls.{shareAt, withMarks, marksAt, Receipt, received, reportIn, receiveDone, receiveReceipt}
-use Rattle.scan.specs.Scan.{RangesEnd, Lists}
+use Rattle.scan.specs.Scan.{Lists}
 use Rattle.calls.specs.declared.Received.{Received}
 
 -- ---- a promise met
@@ -38,17 +38,11 @@ pub receives-nothing : (c : Receipt) (n : ℕ) (ws x : List ℕ) (r : Received) 
     → r ≡ record { number = n; suspended = false; more = false; granularity = 0; runs = 0 } → Receives c r ws x
 receives-nothing c n ws x r e f = (f ∙ sym (ap (λ (y : Receipt). y .answer) e), sym (ap (λ (y : Receipt). y .marks) e), sym (ap (λ (y : Receipt). y .buffer) e))
 
--- ranges of a sound record end at most at 2^64
-pub rows-end : (g : ℕ) (rs : List Range) → All (RowFacts g) rs → RangesEnd (unitSize g) rs
-rows-end g [] h i l = absurd (omega arith)
-rows-end g (r ∷ rs) h zero l = h .0 .within
-rows-end g (r ∷ rs) h (suc i) l = rows-end g rs (h .1) i (omega arith)
-
 -- no more runs are listed than there are units
 pub lists-few : (size : ℕ) (rs : List Range) (l : List Bool) (base : ℕ) (x : List ℕ) (room count : ℕ) (more : Bool) (l′ : List Bool) (x′ : List ℕ)
-    → Lists size rs l base x room count more l′ x′ → count ≤ length (unitsFrom size 0 rs)
+    → Lists size rs l base x room count more l′ x′ → count ≤ length (unitsFrom size 0 [] rs)
 lists-few size rs l base x room count more l′ x′ s =
-    let us : List Unit = unitsFrom size 0 rs in
+    let us : List Unit = unitsFrom size 0 [] rs in
     let p : List Bool = getShare l base (length us) in
     omega (arith, s .count-is, length-take room (runs (pending us p)), runs-length-le (pending us p), pending-length-le us p)
 

@@ -1,135 +1,117 @@
--- `marking::mark_ranges` is right: in each range the touched units are a span, which is marked. The loop's invariant (`Marking`): what is still to be
--- marked makes of the marks and the count as they are now what is promised. The measure is the ranges that are left. Assumes nothing.
-use mathlib.Core.Path.{_≡_, refl}
-use Prim.Native.Nat.{_≤_, _-_}
+-- `marking::mark_ranges` is right: in each piece the touched units are a span, which is marked. The loop's invariant (`Marking`): what is still to be
+-- marked makes of the marks and the count as they are now what is promised. The measure is the units that are left. Assumes nothing.
+use mathlib.Core.Path.{_≡_, refl, sym, subst}
+use mathlib.Core.List.{[]}
+use Prim.Native.Nat.{_+_, _≤_, _-_}
 use native.Mathlib.Omega.{arith}
 use denote.Ref.{now}
-use lib.ListN.{length}
+use lib.ListN.{length, take}
 use borrow.Author.Needs.{needs}
 use Rattle.bits.specs.Flat.{flat}
 use Rattle.bits.specs.Share.{getShare, putShare}
 use Rattle.bits.proofs.Flat.{flat-length}
-use Rattle.rules.specs.Units.{mark, newly}
+use Rattle.rules.specs.Units.{unitsFrom, mark, newly}
 use Rattle.rules.proofs.UnitLaws.{newly-le}
+use Rattle.pieces.specs.Pieces.{rowOf, unitsLeft, PieceFound, NextIs}
 use Rattle.marking.specs.Note.{writeTo}
-use Rattle.marking.proofs.NoteLaws.{Marking, unitsLeft, marking-fits, marking-next, marking-bits, marking-count}
+use Rattle.marking.proofs.NoteLaws.{Marking, marking-start, left-length, marking-fits, marking-next, marking-bits, marking-count}
 use Rattle.marking.proofs.mark_ranges.Statement.{statement}
 use Rattle.marking.proofs.mark_ranges.Tie as tie
-use Rattle.marking.proofs.mark_ranges.Reads as reads
-use Rattle.marking.proofs.mark_ranges.Lts as lts
-use Rattle.bits.proofs.mark_span.Reads as mark-span-reads
-use Rattle.marking.proofs.touched.Reads as touched-reads
 
 abbrev Inv-loop : tie.InvT-loop
-Inv-loop marks₀ base size n at last ranges count₀ from₀ i₀ marks count from i =
-    (i ≤ n) × (length marks ≡ 512)
-    × Marking (writeTo at last) size ranges n (flat marks) from i count
-    (putShare (flat marks₀) base (mark (writeTo at last) (unitsLeft size ranges n 0) (getShare (flat marks₀) base (length (unitsLeft size ranges n 0)))))
-    (newly (writeTo at last) (unitsLeft size ranges n 0) (getShare (flat marks₀) base (length (unitsLeft size ranges n 0))))
+Inv-loop marks₀ base size n ranges at last count₀ from₀ row₀ unit₀ marks count from row unit =
+    (length marks ≡ 512) × (unit ≤ rowOf (take n ranges) row .length)
+    × Marking (writeTo at last) size (take n ranges) (flat marks) from row unit count
+    (putShare (flat marks₀) base (mark (writeTo at last) (unitsFrom size 0 [] (take n ranges)) (getShare (flat marks₀) base (length (unitsFrom size 0 [] (take n ranges))))))
+    (newly (writeTo at last) (unitsFrom size 0 [] (take n ranges)) (getShare (flat marks₀) base (length (unitsFrom size 0 [] (take n ranges)))))
 
 abbrev μ-loop : tie.MeasureT-loop
-μ-loop marks₀ base size n at last ranges count₀ from₀ i₀ marks count from i = n - i
+μ-loop marks₀ base size n ranges at last count₀ from₀ row₀ unit₀ marks count from row unit = length (unitsLeft size (take n ranges) row unit)
 
--- src/note.rt:57:5
+-- what the piece that was found is
+found : (c : tie.After-known-told Inv-loop μ-loop)
+    → let a = c .before .before .before .before .before .before .args in
+    let l = c .before .before .before .before .loop in
+    PieceFound (a .size) (take (a .n) (a .ranges)) (l .row) (l .unit) (c .before .piece .given .0 .0)
+found c =
+    let a = c .before .before .before .before .before .before .args in
+    let l = c .before .before .before .before .loop in
+    subst (NextIs (a .size) (take (a .n) (a .ranges)) (l .row) (l .unit)) (c .before .piece .given .1) (c .before .before .before .next-piece .ensures)
+
 loop-holds : tie.Need-loop-holds Inv-loop μ-loop
-loop-holds c = (
-  search needs,
-  search needs,
-  record { fits = omega (arith, flat-length (now (c .before .args .marks))); marked = refl; counted = omega arith },
-)
+loop-holds c = (search needs, omega arith, marking-start _ _ _ _ _ (omega (arith, flat-length (now (c .before .args .marks)))))
 
--- src/note.rt:58:17
-mul-r : tie.Need-mul-r Inv-loop μ-loop
-mul-r c = search needs
+next-piece-requires : tie.Need-next-piece-requires Inv-loop μ-loop
+next-piece-requires c κs =
+    let f = c .before .before in
+    (f .pre .0, f .pre .2, f .pre .5, c .loop .inv .1)
 
--- src/note.rt:58:17
-array-copy-out-r : tie.Need-array-copy-out-r Inv-loop μ-loop
-array-copy-out-r c = search needs
+enum-known-piece : tie.Need-enum-known-piece Inv-loop μ-loop
+enum-known-piece c = search needs
 
--- src/note.rt:59:13
-touched-requires : tie.Need-touched-requires Inv-loop μ-loop
-touched-requires c κs = search needs
+enum-told : tie.Need-enum-told Inv-loop μ-loop
+enum-told c = search needs
 
--- src/note.rt:60:17
-add-a : tie.Need-add-a Inv-loop μ-loop
-add-a c =
-    let l = c .before .before .before .loop in
-    let m = l .inv .2 in
-    omega (
-      arith,
-      flat-length (l .marks),
-      c .touched .ensures .within,
-      c .touched .ensures .order,
-      marking-fits _ _ _ _ _ _ _ _ _ _ m (omega arith) (search needs) _ _ (c .touched .ensures),
-    )
-
--- src/note.rt:61:17
-add-e : tie.Need-add-e Inv-loop μ-loop
-add-e c =
-    let l = c .before .before .before .loop in
-    let m = l .inv .2 in
-    omega (
-      arith,
-      flat-length (l .marks),
-      c .touched .ensures .within,
-      marking-fits _ _ _ _ _ _ _ _ _ _ m (omega arith) (search needs) _ _ (c .touched .ensures),
-    )
-
--- src/note.rt:62:18
-mark-span-requires : tie.Need-mark-span-requires Inv-loop μ-loop
-mark-span-requires c κs = search needs
-
--- src/note.rt:62:9
-add-count : tie.Need-add-count Inv-loop μ-loop
-add-count c =
-    let l = c .before .before .before .before .before .before .before .loop in
-    let e = c .before .before .mark-span .ensures in
-    let m = marking-next _ _ _ _ _ _ _ _ _ _ (l .inv .2) (omega arith) (search needs) _ _ (c .before .before .before .before .touched .ensures) _ _ (e .0) (e .1) in
-    let a = c .before .before .before .before .before .before .before .before .before .args in
-    omega (arith, m .counted, newly-le (writeTo (a .at) (a .last)) (unitsLeft (a .size) (a .t5) (a .n) 0) (getShare (flat (now (a .marks))) (a .base) (length (unitsLeft (a .size) (a .t5) (a .n) 0))))
-
--- src/note.rt:63:17
-cast-from : tie.Need-cast-from Inv-loop μ-loop
-cast-from c = search needs
-
--- src/note.rt:63:9
-add-from : tie.Need-add-from Inv-loop μ-loop
-add-from c =
-    let l = c .before .before .before .before .before .before .before .before .loop in
-    let m = l .inv .2 in
-    omega (
-      arith,
-      flat-length (l .marks),
-      marking-fits _ _ _ _ _ _ _ _ _ _ m (omega arith) (search needs) _ _ (c .before .before .before .before .before .touched .ensures),
-    )
-
--- src/note.rt:64:9
-add-i : tie.Need-add-i Inv-loop μ-loop
-add-i c = search needs
-
--- src/note.rt:57:5
-loop-less : tie.Need-loop-less Inv-loop μ-loop
-loop-less c = search needs
-
--- src/note.rt:57:5
-loop-again : tie.Need-loop-again Inv-loop μ-loop
-loop-again c =
-    let l = c .before .before .before .before .before .before .before .before .loop in
-    let e = c .before .before .before .mark-span .ensures in (
-      omega arith,
-      search needs,
-      marking-next _ _ _ _ _ _ _ _ _ _ (l .inv .2) (omega arith) (search needs) _ _ (c .before .before .before .before .before .touched .ensures) _ _ (e .0) (e .1),
-    )
-
--- src/note.rt:49:1
 same-length : tie.Need-same-length Inv-loop μ-loop
 same-length c = search needs
 
--- src/note.rt:49:1
 returns : tie.Need-returns Inv-loop μ-loop
 returns c =
-    let l = c .before .loop in
-    (marking-count _ _ _ _ _ _ _ _ _ _ (l .inv .2) (omega arith), marking-bits _ _ _ _ _ _ _ _ _ _ (l .inv .2) (omega arith))
+    let l = c .before .before .before .loop in
+    let q = subst (NextIs _ _ _ _) (c .enum-told .given .1) (c .before .before .next-piece .ensures) in
+    (marking-count _ _ _ _ _ _ _ _ _ _ (l .inv .2) q, marking-bits _ _ _ _ _ _ _ _ _ _ (l .inv .2) q)
+
+touched-requires : tie.Need-touched-requires Inv-loop μ-loop
+touched-requires c κs = search needs
+
+add-a : tie.Need-add-a Inv-loop μ-loop
+add-a c =
+    let k = c .before .before in
+    let l = k .before .before .before .before .loop in
+    omega (arith, flat-length (l .marks), c .touched .ensures .within, c .touched .ensures .order, marking-fits _ _ _ _ _ _ _ _ _ _ (l .inv .2) _ (found k) _ _ (c .touched .ensures))
+
+add-e : tie.Need-add-e Inv-loop μ-loop
+add-e c =
+    let k = c .before .before in
+    let l = k .before .before .before .before .loop in
+    omega (arith, flat-length (l .marks), c .touched .ensures .within, marking-fits _ _ _ _ _ _ _ _ _ _ (l .inv .2) _ (found k) _ _ (c .touched .ensures))
+
+mark-span-requires : tie.Need-mark-span-requires Inv-loop μ-loop
+mark-span-requires c κs = tt
+
+add-count : tie.Need-add-count Inv-loop μ-loop
+add-count c =
+    let k = c .before .before .before .before .before .before in
+    let l = k .before .before .before .before .loop in
+    let a = k .before .before .before .before .before .before .args in
+    let e = c .before .before .mark-span .ensures in
+    let m = marking-next _ _ _ _ _ _ _ _ _ _ (l .inv .2) _ (found k) _ _ (c .before .before .before .before .touched .ensures) _ _ (e .0) (e .1) in
+    omega (arith, m .counted, newly-le (writeTo (a .at) (a .last)) (unitsFrom (a .size) 0 [] (take (a .n) (a .ranges))) (getShare (flat (now (a .marks))) (a .base) (length (unitsFrom (a .size) 0 [] (take (a .n) (a .ranges))))))
+
+cast-from : tie.Need-cast-from Inv-loop μ-loop
+cast-from c = search needs
+
+add-from : tie.Need-add-from Inv-loop μ-loop
+add-from c =
+    let k = c .before .before .before .before .before .before .before in
+    let l = k .before .before .before .before .loop in
+    omega (arith, flat-length (l .marks), marking-fits _ _ _ _ _ _ _ _ _ _ (l .inv .2) _ (found k) _ _ (c .before .before .before .before .before .touched .ensures))
+
+loop-less : tie.Need-loop-less Inv-loop μ-loop
+loop-less c =
+    let k = c .before .before .before .before .before .before .before in
+    let l = k .before .before .before .before .loop in
+    omega (arith, found k .some, left-length _ _ _ _ _ _ _ _ _ _ (l .inv .2) _ (found k) _ _ (c .before .before .before .before .before .touched .ensures))
+
+loop-again : tie.Need-loop-again Inv-loop μ-loop
+loop-again c =
+    let k = c .before .before .before .before .before .before .before in
+    let l = k .before .before .before .before .loop in
+    let e = c .before .before .before .mark-span .ensures in (
+      search needs,
+      found k .inside,
+      marking-next _ _ _ _ _ _ _ _ _ _ (l .inv .2) _ (found k) _ _ (c .before .before .before .before .before .touched .ensures) _ _ (e .0) (e .1),
+    )
 
 pub mark-ranges-spec : {M : Type 1} → statement M
 mark-ranges-spec =
@@ -138,8 +120,11 @@ mark-ranges-spec =
     Inv-loop
     μ-loop
     loop-holds
-    mul-r
-    array-copy-out-r
+    next-piece-requires
+    enum-known-piece
+    enum-told
+    same-length
+    returns
     touched-requires
     add-a
     add-e
@@ -147,8 +132,5 @@ mark-ranges-spec =
     add-count
     cast-from
     add-from
-    add-i
     loop-less
-    loop-again
-    same-length
-    returns)
+    loop-again)

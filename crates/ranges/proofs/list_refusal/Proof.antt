@@ -7,21 +7,19 @@ use borrow.Author.Tests.{lt-leb, not-true, not-false}
 use lib.ListN.{take}
 use Rattle.rules.specs.Refusals.{passes}
 use Rattle.rules.specs.Ranges.{rangeTests, powersOk}
-use Rattle.ranges.proofs.RangeLaws.{rangeTests-passed, listTests-nine, listTests-ten, listTests-eleven, listTests-done}
+use Rattle.ranges.proofs.RangeLaws.{passes-laid, rangeTests-passed, listTests-nine, listTests-ten, listTests-eleven, listTests-done}
 use Rattle.ranges.proofs.list_refusal.Statement.{statement}
 use Rattle.ranges.proofs.list_refusal.Tie as tie
 
--- past the first four tests the ranges pass 9
-nine-passed : (c : tie.Else4) → let a = c .before .before .before .before .before .before .args in passes (rangeTests (a .g) (a .n) (take (a .n) (a .ranges))) ≡ true
+-- past the first three tests the ranges pass 9
+nine-passed : (c : tie.Else3) → let a = c .before .before .before .before .args in passes (rangeTests (a .g) (a .n) (take (a .n) (a .ranges))) ≡ true
 nine-passed c =
-    let a = c .before .before .before .before .before .before .args in
-    rangeTests-passed (a .g) (a .n) (take (a .n) (a .ranges)) (omega arith) (omega arith)
-    (sym (c .before .before .before .ranges-ok .ensures) ∙ not-false _ (c .before .before .if3 .left))
-    (sym (c .before .all-apart .ensures) ∙ not-false _ (c .if4 .left))
+    let a = c .before .before .before .before .args in
+    rangeTests-passed (a .g) (a .n) (take (a .n) (a .ranges)) (omega arith) (omega arith) (sym (c .before .ranges-ok .ensures) ∙ not-false _ (c .if3 .left))
 
--- past the fifth they pass 10
-ten-passed : (c : tie.Else5) → let a = c .before .before .before .before .before .before .before .before .args in powersOk (a .s) (take (a .n) (a .ranges)) ≡ true
-ten-passed c = sym (c .before .powers-ok .ensures) ∙ not-false _ (c .if5 .left)
+-- past the fourth they pass 10
+ten-passed : (c : tie.Else4) → let a = c .before .before .before .before .before .before .args in powersOk (a .s) (take (a .n) (a .ranges)) ≡ true
+ten-passed c = sym (c .before .powers-ok .ensures) ∙ not-false _ (c .if4 .left)
 
 returns : tie.Need-returns
 returns c = sym (listTests-nine _ _ _ _ 0 (lt-leb _ _ (c .if1 .taken)))
@@ -35,30 +33,26 @@ ranges-ok-requires c κs = search needs
 returns-3 : tie.Need-returns-3
 returns-3 c = sym (listTests-nine _ _ _ _ 2 (sym (c .before .ranges-ok .ensures) ∙ not-true _ (c .if3 .taken)))
 
-all-apart-requires : tie.Need-all-apart-requires
-all-apart-requires c κs = (search needs, omega arith, sym (c .before .ranges-ok .ensures) ∙ not-false _ (c .if3 .left))
-
-returns-4 : tie.Need-returns-4
-returns-4 c = sym (listTests-nine _ _ _ _ 3 (sym (c .before .all-apart .ensures) ∙ not-true _ (c .if4 .taken)))
-
 powers-ok-requires : tie.Need-powers-ok-requires
 powers-ok-requires c κs = search needs
 
-returns-5 : tie.Need-returns-5
-returns-5 c = sym (listTests-ten _ _ _ _ (nine-passed (c .before .before)) (sym (c .before .powers-ok .ensures) ∙ not-true _ (c .if5 .taken)))
+returns-4 : tie.Need-returns-4
+returns-4 c = sym (listTests-ten _ _ _ _ (nine-passed (c .before .before)) (sym (c .before .powers-ok .ensures) ∙ not-true _ (c .if4 .taken)))
 
-units-in-requires : tie.Need-units-in-requires
-units-in-requires c κs = search needs
+units-ok-requires : tie.Need-units-ok-requires
+units-ok-requires c κs =
+    let p = c .before .before in
+    (p .before .before .before .before .pre, omega arith, passes-laid _ _ (sym (p .before .ranges-ok .ensures) ∙ not-false _ (p .if3 .left)))
+
+returns-5 : tie.Need-returns-5
+returns-5 c =
+    let p = c .before .before in
+    sym (listTests-eleven _ _ _ _ (nine-passed (p .before .before)) (ten-passed p) (sym (c .before .units-ok .ensures) ∙ not-true _ (c .if5 .taken)))
 
 returns-6 : tie.Need-returns-6
 returns-6 c =
-    let p = c .before .before .before in
-    sym (listTests-eleven _ _ _ _ (nine-passed (p .before .before)) (ten-passed p) (rw (c .before .before .units-in .ensures) at (c .if6 .taken)))
-
-returns-7 : tie.Need-returns-7
-returns-7 c =
-    let p = c .before .before .before in
-    sym (listTests-done _ _ _ _ (nine-passed (p .before .before)) (ten-passed p) (rw (c .before .before .units-in .ensures) at (c .if6 .left)))
+    let p = c .before .before in
+    sym (listTests-done _ _ _ _ (nine-passed (p .before .before)) (ten-passed p) (sym (c .before .units-ok .ensures) ∙ not-false _ (c .if5 .left)))
 
 pub list-refusal-spec : {M : Type 1} → statement M
 list-refusal-spec =
@@ -68,10 +62,8 @@ list-refusal-spec =
     returns-2
     ranges-ok-requires
     returns-3
-    all-apart-requires
-    returns-4
     powers-ok-requires
+    returns-4
+    units-ok-requires
     returns-5
-    units-in-requires
-    returns-6
-    returns-7)
+    returns-6)

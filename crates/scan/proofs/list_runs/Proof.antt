@@ -1,50 +1,44 @@
 -- `scan::list_runs` is right: each turn finds the next run, makes it clear and stores its descriptor. The loop's invariant (`Listing`): what is listed are
 -- the first runs, what was passed is clear, and the later runs are left. The measure is the room that is left. Assumes nothing.
-use mathlib.Core.Path.{_≡_, refl, sym, subst}
-use Prim.Native.Nat.{_≤_, _<_, _-_, _+_, _*_, _^_}
+use mathlib.Core.Path.{_≡_, refl, subst}
+use mathlib.Core.List.{[]}
+use Prim.Native.Nat.{_≤_, _<_, _-_, _+_}
 use native.Mathlib.Omega.{arith}
 use denote.Ref.{now}
-use lib.ListN.{length, take, getD}
+use lib.ListN.{length, take}
 use borrow.Author.Needs.{needs}
 use Rattle.bits.specs.Flat.{flat}
 use Rattle.bits.specs.Share.{getShare}
 use Rattle.bits.proofs.Flat.{flat-length}
 use Rattle.rules.specs.Units.{unitsFrom}
-use Rattle.rules.specs.StartData.{noRange}
-use Rattle.scan.specs.Scan.{addressAt, NextIs, RunFound}
-use Rattle.scan.proofs.ListSteps.{found-address, Listing, listing-start, listing-done, listing-full, listing-next, found-within}
+use Rattle.scan.specs.Scan.{NextIs, RunFound}
+use Rattle.scan.proofs.ListSteps.{Listing, listing-start, listing-done, listing-full, listing-next, found-within}
 use Rattle.scan.proofs.list_runs.Statement.{statement}
 use Rattle.scan.proofs.list_runs.Tie as tie
-use Rattle.scan.proofs.list_runs.Reads as reads
-use Rattle.scan.proofs.list_runs.Lts as lts
-use Rattle.bits.proofs.clear_span.Reads as clear-span-reads
-use Rattle.report_data.proofs.put_descriptor.Reads as put-descriptor-reads
-use Rattle.scan.proofs.next_run.Reads as next-run-reads
 
 abbrev Inv-loop : tie.InvT-loop
-Inv-loop marks₀ base n size buffer₀ room ranges runs₀ row₀ begin₀ pos₀ marks buffer runs row begin pos =
+Inv-loop marks₀ base n ranges size buffer₀ room runs₀ row₀ unit₀ pos₀ marks buffer runs row unit pos =
     (length marks ≡ 512) × (length buffer ≡ length buffer₀)
-    × Listing size (take n ranges) (flat marks₀) base buffer₀ room (flat marks) buffer runs row begin pos
+    × Listing size (take n ranges) (flat marks₀) base buffer₀ room (flat marks) buffer runs row unit pos
 
 abbrev μ-loop : tie.MeasureT-loop
-μ-loop marks₀ base n size buffer₀ room ranges runs₀ row₀ begin₀ pos₀ marks buffer runs row begin pos = room + 1 - runs
+μ-loop marks₀ base n ranges size buffer₀ room runs₀ row₀ unit₀ pos₀ marks buffer runs row unit pos = room + 1 - runs
 
 -- the ranges' marks are there
 fits : (c : tie.At-loop Inv-loop μ-loop)
     → let a = c .before .before .before .args in
-    a .base + length (unitsFrom (a .size) 0 (take (a .n) (a .t4))) ≤ length (flat (now (a .marks)))
+    a .base + length (unitsFrom (a .size) 0 [] (take (a .n) (a .ranges))) ≤ length (flat (now (a .marks)))
 fits c = omega (arith, flat-length (now (c .before .before .before .args .marks)))
 
 -- what the run that was found is
 found : (c : tie.After-known-told Inv-loop μ-loop)
     → let a = c .before .before .before .before .before .before .before .before .args in
     let l = c .before .before .before .before .before .loop in
-    let r = c .before .run .given .0 .0 in
-    RunFound (a .size) (take (a .n) (a .t4)) (getShare (flat (l .marks)) (a .base) (length (unitsFrom (a .size) 0 (take (a .n) (a .t4))))) (l .pos) (r .row) (r .begin) (r .from) (r .to)
+    RunFound (a .size) (take (a .n) (a .ranges)) (getShare (flat (l .marks)) (a .base) (length (unitsFrom (a .size) 0 [] (take (a .n) (a .ranges))))) (l .pos) (c .before .run .given .0 .0)
 found c =
     let a = c .before .before .before .before .before .before .before .before .args in
     let l = c .before .before .before .before .before .loop in
-    subst (NextIs (a .size) (take (a .n) (a .t4)) (getShare (flat (l .marks)) (a .base) (length (unitsFrom (a .size) 0 (take (a .n) (a .t4))))) (l .pos)) (c .before .run .given .1)
+    subst (NextIs (a .size) (take (a .n) (a .ranges)) (getShare (flat (l .marks)) (a .base) (length (unitsFrom (a .size) 0 [] (take (a .n) (a .ranges))))) (l .pos)) (c .before .run .given .1)
     (c .before .before .before .next-run .ensures)
 
 -- where it lies
@@ -53,17 +47,7 @@ placed : (c : tie.After-known-told Inv-loop μ-loop)
     let l = c .before .before .before .before .before .loop in
     let r = c .before .run .given .0 .0 in
     (l .pos ≤ r .from) × (r .from < r .to) × (a .base + r .to ≤ length (flat (l .marks)))
-placed c = found-within _ _ _ _ _ _ (fits (c .before .before .before .before .before)) _ _ _ _ _ _ (c .before .before .before .before .before .loop .inv .2) _ _ _ _ (found c)
-
--- its first address
-address : (c : tie.After-known-told Inv-loop μ-loop)
-    → let a = c .before .before .before .before .before .before .before .before .args in
-    let r = c .before .run .given .0 .0 in
-    (r .row < length (a .t4)) × (r .begin ≤ r .from) × (addressAt (a .size) (take (a .n) (a .t4)) (r .row) (r .begin) (r .from) ≡ getD (a .t4) (r .row) noRange .start + (r .from - r .begin) * a .size)
-    × (getD (a .t4) (r .row) noRange .start + (r .from - r .begin) * a .size < 2 ^ 64)
-address c =
-    let f = c .before .before .before .before .before .before .before .before in
-    found-address (f .args .size) (f .args .t4) (f .args .n) _ _ _ _ _ _ (f .pre .0 .1) (f .pre .0 .0) (found c)
+placed c = found-within _ _ _ _ _ _ (fits (c .before .before .before .before .before)) _ _ _ _ _ _ (c .before .before .before .before .before .loop .inv .2) _ (found c)
 
 loop-holds : tie.Need-loop-holds Inv-loop μ-loop
 loop-holds c = (search needs, refl, listing-start _ _ _ _ _ _ (omega (arith, flat-length (now (c .before .before .args .marks)))))
@@ -72,7 +56,7 @@ next-run-requires : tie.Need-next-run-requires Inv-loop μ-loop
 next-run-requires c κs =
     let f = c .before .before .before .before in
     let l = c .before .loop in
-    (f .pre .0 .0, f .pre .1 .0, l .inv .0, f .pre .1 .2, l .inv .2 .stands)
+    (f .pre .0 .0, f .pre .1 .0, l .inv .0, f .pre .1 .2, f .pre .0 .1, l .inv .2 .stands)
 
 enum-known-run : tie.Need-enum-known-run Inv-loop μ-loop
 enum-known-run c = search needs
@@ -99,7 +83,7 @@ same-length-4 c = search needs
 
 returns-2 : tie.Need-returns-2 Inv-loop μ-loop
 returns-2 c =
-    listing-full _ _ _ _ _ _ (fits (c .before .before .before .before .before .before)) _ _ _ _ _ _ (c .before .before .before .before .before .before .loop .inv .2) _ _ _ _ (found (c .before)) (c .if1 .taken)
+    listing-full _ _ _ _ _ _ (fits (c .before .before .before .before .before .before)) _ _ _ _ _ _ (c .before .before .before .before .before .before .loop .inv .2) _ (found (c .before)) (c .if1 .taken)
 
 add-clear-span : tie.Need-add-clear-span Inv-loop μ-loop
 add-clear-span c = omega (arith, placed (c .before .before) .1, placed (c .before .before) .2, flat-length (c .before .before .before .before .before .before .before .loop .marks))
@@ -110,25 +94,6 @@ add-clear-span-2 c = omega (arith, placed (c .before .before) .2, flat-length (c
 clear-span-requires : tie.Need-clear-span-requires Inv-loop μ-loop
 clear-span-requires c κs = search needs
 
-mul-r : tie.Need-mul-r Inv-loop μ-loop
-mul-r c =
-    let sixteen : length (c .before .before .before .before .before .before .before .before .before .before .before .before .before .args .t4) ≡ 16 = search needs in
-    omega (arith, address (c .before .before .before .before .before) .0)
-
-array-copy-out-r : tie.Need-array-copy-out-r Inv-loop μ-loop
-array-copy-out-r c =
-    let sixteen : length (c .before .before .before .before .before .before .before .before .before .before .before .before .before .args .t4) ≡ 16 = search needs in
-    omega (arith, address (c .before .before .before .before .before) .0)
-
-sub-address : tie.Need-sub-address Inv-loop μ-loop
-sub-address c = address (c .before .before .before .before .before .before) .1
-
-mul-address : tie.Need-mul-address Inv-loop μ-loop
-mul-address c = omega (arith, address (c .before .before .before .before .before .before) .3)
-
-add-address : tie.Need-add-address Inv-loop μ-loop
-add-address c = omega (arith, address (c .before .before .before .before .before .before .before) .3)
-
 mul-put-descriptor : tie.Need-mul-put-descriptor Inv-loop μ-loop
 mul-put-descriptor c = search needs
 
@@ -136,10 +101,10 @@ add-put-descriptor : tie.Need-add-put-descriptor Inv-loop μ-loop
 add-put-descriptor c = search needs
 
 sub-put-descriptor : tie.Need-sub-put-descriptor Inv-loop μ-loop
-sub-put-descriptor c = omega (arith, placed (c .before .before .before .before .before .before .before .before) .1)
+sub-put-descriptor c = omega (arith, placed (c .before .before .before .before .before .before) .1)
 
 cast-put-descriptor : tie.Need-cast-put-descriptor Inv-loop μ-loop
-cast-put-descriptor c = omega (arith, placed (c .before .before .before .before .before .before .before .before) .2, flat-length (c .before .before .before .before .before .before .before .before .before .before .before .before .before .loop .marks))
+cast-put-descriptor c = omega (arith, placed (c .before .before .before .before .before .before) .2, flat-length (c .before .before .before .before .before .before .before .before .before .before .before .loop .marks))
 
 put-descriptor-requires : tie.Need-put-descriptor-requires Inv-loop μ-loop
 put-descriptor-requires c κs = omega arith
@@ -152,12 +117,11 @@ loop-less c = search needs
 
 loop-again : tie.Need-loop-again Inv-loop μ-loop
 loop-again c =
-    let k = c .before .before .before .before .before .before .before .before .before .before .before in
-    let a = address k in (
+    let k = c .before .before .before .before .before .before .before .before .before in (
       search needs,
       search needs,
-      listing-next _ _ _ _ _ _ (fits (k .before .before .before .before .before)) _ _ _ _ _ _ (k .before .before .before .before .before .loop .inv .2) _ _ _ _ (found k) _ _ _ (omega arith)
-          (c .before .before .before .before .before .before .before .before .clear-span .ensures) (sym (a .2)) (c .before .before .put-descriptor .ensures),
+      listing-next _ _ _ _ _ _ (fits (k .before .before .before .before .before)) _ _ _ _ _ _ (k .before .before .before .before .before .loop .inv .2) _ (found k) _ _ (omega arith)
+          (c .before .before .before .before .before .before .clear-span .ensures) (c .before .before .put-descriptor .ensures),
     )
 
 pub list-runs-spec : {M : Type 1} → statement M
@@ -179,11 +143,6 @@ list-runs-spec =
     add-clear-span
     add-clear-span-2
     clear-span-requires
-    mul-r
-    array-copy-out-r
-    sub-address
-    mul-address
-    add-address
     mul-put-descriptor
     add-put-descriptor
     sub-put-descriptor

@@ -1,119 +1,179 @@
--- `scan::next_run` is right: row by row the next set mark is looked for, and behind it the next clear one. The loop's invariant (`Scanned`): all marks
--- from `pos` to where it stands are clear. The measure is the rows that are left. Assumes nothing.
-use mathlib.Core.Path.{_≡_}
-use Prim.Native.Nat.{_≤_, _-_, _+_}
+-- `scan::next_run` is right: piece by piece the next set mark is looked for, and behind it the next clear one. The loop's invariant (`Scanned`): all marks
+-- from `pos` to where it stands are clear. The measure is the units that are left. Assumes nothing.
+use mathlib.Core.Path.{_≡_, subst}
+use mathlib.Core.Bool.{Bool, true, false}
+use mathlib.Core.List.{List, []}
+use Prim.Native.Nat.{ℕ, _≤_, _<_, _-_, _+_, _*_, _^_}
 use native.Mathlib.Omega.{arith}
 use denote.Ref.{now}
-use lib.ListN.{length, take, getD}
-use lib.Seq.{length-take-le}
+use lib.ListN.{length, take, length-append}
 use borrow.Author.Needs.{needs}
 use Rattle.bits.specs.Flat.{flat}
+use Rattle.bits.specs.Next.{next}
 use Rattle.bits.specs.Share.{getShare}
 use Rattle.bits.proofs.Flat.{flat-length}
-use Rattle.rules.specs.Units.{unitsFrom}
-use Rattle.rules.specs.StartData.{noRange}
-use Rattle.scan.proofs.ScanSteps.{Scanned, scanned-start, search-nothing, search-end, search-low, search-row, search-high, search-run}
+use Rattle.rules.specs.Units.{unitsFrom, unitsOfRow}
+use Rattle.rules.proofs.UnitLaws.{unitsOfRow-length}
+use Rattle.pieces.specs.Pieces.{unitsLeft, PieceFound, NextIs}
+use Rattle.pieces.specs.declared.Piece.{Piece}
+use Rattle.pieces.proofs.PieceLaws.{piece-left, unit-below}
+use Rattle.scan.proofs.ScanSteps as steps
+use Rattle.scan.proofs.ScanSteps.{Scanned, scanned-start, scanned-nothing, piece-end, scanned-piece, scanned-run, piece-within, next-from}
 use Rattle.scan.proofs.next_run.Statement.{statement}
 use Rattle.scan.proofs.next_run.Tie as tie
-use Rattle.scan.proofs.next_run.Reads as reads
-use Rattle.scan.proofs.next_run.Lts as lts
-use Rattle.bits.proofs.next_clear.Reads as next-clear-reads
-use Rattle.bits.proofs.next_set.Reads as next-set-reads
 
 abbrev Inv-loop : tie.InvT-loop
-Inv-loop marks base n row begin pos size ranges i₀ b₀ p₀ i b p =
-    (i ≤ n) × Scanned size (take n ranges) (getShare (flat marks) base (length (unitsFrom size 0 (take n ranges)))) pos i b p
+Inv-loop marks base n ranges row unit pos size i₀ u₀ p₀ i u p =
+    Scanned size (take n ranges) (getShare (flat marks) base (length (unitsFrom size 0 [] (take n ranges)))) pos i u p
 
 abbrev μ-loop : tie.MeasureT-loop
-μ-loop marks base n row begin pos size ranges i₀ b₀ p₀ i b p = n - i
+μ-loop marks base n ranges row unit pos size i₀ u₀ p₀ i u p = length (unitsLeft size (take n ranges) i u)
 
--- the ranges are there
-there : (f : tie.Start Inv-loop μ-loop) → f .args .n ≤ length (f .args .t4)
-there f = let sixteen : length (f .args .t4) ≡ 16 = search needs in omega arith
+-- ---- where a piece was found
 
--- and their marks lie within the words
-within : (f : tie.Start Inv-loop μ-loop) → f .args .base + length (unitsFrom (f .args .size) 0 (take (f .args .n) (f .args .t4))) ≤ length (flat (now (f .args .marks)))
-within f = omega (arith, flat-length (now (f .args .marks)))
+module _ (k : tie.After-known-told Inv-loop μ-loop) where
+  abbrev f : tie.Start Inv-loop μ-loop
+  f = k .before .before .before .before .before .before
 
--- the row at which the loop stands ends within the units
-row-end : (c : tie.After-struct-known Inv-loop μ-loop)
-    → let a = c .before .before .before .before .before .args in
-    let l = c .before .before .before .loop in
-    (l .p ≤ l .b + getD (a .t4) (l .i) noRange .length) × (l .b + getD (a .t4) (l .i) noRange .length ≤ length (unitsFrom (a .size) 0 (take (a .n) (a .t4))))
-row-end c =
-    let f = c .before .before .before .before .before in
-    search-end _ (f .pre .0) _ _ (there f) _ _ (within f) _ _ _ _ (c .before .before .before .loop .inv .1) (omega arith)
+  abbrev i : ℕ
+  i = k .before .before .before .before .loop .i
+
+  abbrev u : ℕ
+  u = k .before .before .before .before .loop .u
+
+  abbrev p : ℕ
+  p = k .before .before .before .before .loop .p
+
+  abbrev q : Piece
+  q = k .before .piece .given .0 .0
+
+  abbrev total : ℕ
+  total = length (unitsFrom (f .args .size) 0 [] (take (f .args .n) (f .args .ranges)))
+
+  abbrev marks : List Bool
+  marks = getShare (flat (now (f .args .marks))) (f .args .base) total
+
+  fits : f .args .base + total ≤ length (flat (now (f .args .marks)))
+  fits = omega (arith, flat-length (now (f .args .marks)))
+
+  stood : Scanned (f .args .size) (take (f .args .n) (f .args .ranges)) marks (f .args .pos) i u p
+  stood = k .before .before .before .before .loop .inv
+
+  found : PieceFound (f .args .size) (take (f .args .n) (f .args .ranges)) i u q
+  found = subst (NextIs (f .args .size) (take (f .args .n) (f .args .ranges)) i u) (k .before .piece .given .1) (k .before .before .before .next-piece .ensures)
+
+  abbrev end : ℕ
+  end = p + q .range .length
+
+  ended : end ≤ total
+  ended = piece-end (f .args .size) (take (f .args .n) (f .args .ranges)) marks (f .args .pos) i u p stood q found
+
+  fewer : length (unitsLeft (f .args .size) (take (f .args .n) (f .args .ranges)) i u) ≡ q .range .length + length (unitsLeft (f .args .size) (take (f .args .n) (f .args .ranges)) (q .row) (q .next))
+  fewer = rw (piece-left (f .args .size) (take (f .args .n) (f .args .ranges)) i u q found, length-append, unitsOfRow-length)
+
+  -- the next set mark of it
+  module _ (r : ℕ) (e : r ≡ next true (flat (now (f .args .marks))) (f .args .base + p) (f .args .base + end)) where
+    set : (f .args .base ≤ r) × (r - f .args .base ≡ next true marks p end)
+    set = next-from true (flat (now (f .args .marks))) (f .args .base) total p end r fits ended e
+
+    none : end ≤ r - f .args .base → Scanned (f .args .size) (take (f .args .n) (f .args .ranges)) marks (f .args .pos) (q .row) (q .next) end
+    none h = scanned-piece (f .args .size) (take (f .args .n) (f .args .ranges)) marks (f .args .pos) i u p stood q found (r - f .args .base) (set .1) h
+
+    -- and the next clear one behind it
+    module _ (h : r - f .args .base < end) (t : ℕ) (e′ : t ≡ next false (flat (now (f .args .marks))) (f .args .base + (r - f .args .base)) (f .args .base + end)) where
+      clear : (f .args .base ≤ t) × (t - f .args .base ≡ next false marks (r - f .args .base) end)
+      clear = next-from false (flat (now (f .args .marks))) (f .args .base) total (r - f .args .base) end t fits ended e′
+
+      order : (p ≤ r - f .args .base) × (r - f .args .base < t - f .args .base) × (t - f .args .base ≤ end)
+      order = (
+        steps.low (f .args .size) (take (f .args .n) (f .args .ranges)) marks (f .args .pos) i u p stood q found (r - f .args .base) (set .1) (t - f .args .base) (omega arith) h (clear .1),
+        steps.some (f .args .size) (take (f .args .n) (f .args .ranges)) marks (f .args .pos) i u p stood q found (r - f .args .base) (set .1) (t - f .args .base) (omega arith) h (clear .1),
+        steps.high (f .args .size) (take (f .args .n) (f .args .ranges)) marks (f .args .pos) i u p stood q found (r - f .args .base) (set .1) (t - f .args .base) (omega arith) h (clear .1),
+      )
+
+      address : q .range .start + (r - f .args .base - p) * f .args .size < 2 ^ 64
+      address =
+          unit-below (f .args .size) (q .range .start) (q .range .length) (r - f .args .base - p) (omega arith) (omega (arith, order .0))
+          (piece-within (f .args .size) (take (f .args .n) (f .args .ranges)) i u q (f .pre .4) found)
 
 loop-holds : tie.Need-loop-holds Inv-loop μ-loop
-loop-holds c =
-    let a = c .before .args in
-    let few : length (take (a .n) (a .t4)) ≡ a .n = length-take-le (a .n) (a .t4) (there (c .before)) in
-    (omega (arith, c .before .pre .4 .rows), scanned-start _ _ _ _ _ _ (c .before .pre .4))
+loop-holds c = scanned-start _ _ _ _ _ _ (c .before .pre .5)
 
-mul-r : tie.Need-mul-r Inv-loop μ-loop
-mul-r c = search needs
+next-piece-requires : tie.Need-next-piece-requires Inv-loop μ-loop
+next-piece-requires c κs =
+    let f = c .before .before in
+    (f .pre .0, f .pre .1, f .pre .4, c .loop .inv .stands .within)
 
-array-copy-out-r : tie.Need-array-copy-out-r Inv-loop μ-loop
-array-copy-out-r c = search needs
+enum-known-piece : tie.Need-enum-known-piece Inv-loop μ-loop
+enum-known-piece c = search needs
+
+enum-told : tie.Need-enum-told Inv-loop μ-loop
+enum-told c = search needs
+
+returns : tie.Need-returns Inv-loop μ-loop
+returns c =
+    scanned-nothing _ _ _ _ _ _ _ (subst (NextIs _ _ _ _) (c .enum-told .given .1) (c .before .before .next-piece .ensures)) (c .before .before .before .loop .inv)
 
 cast-end : tie.Need-cast-end Inv-loop μ-loop
 cast-end c = search needs
 
 add-end : tie.Need-add-end Inv-loop μ-loop
-add-end c = omega (arith, row-end c .1)
+add-end c = omega (arith, ended (c .before .before))
 
 add-next-set : tie.Need-add-next-set Inv-loop μ-loop
-add-next-set c = omega (arith, row-end c .0, row-end c .1)
+add-next-set c = omega (arith, ended (c .before .before))
 
 add-next-set-2 : tie.Need-add-next-set-2 Inv-loop μ-loop
-add-next-set-2 c = omega (arith, row-end c .1)
+add-next-set-2 c = omega (arith, ended (c .before .before))
 
 next-set-requires : tie.Need-next-set-requires Inv-loop μ-loop
 next-set-requires c κs = search needs
 
 sub-from : tie.Need-sub-from Inv-loop μ-loop
-sub-from c =
-    let f = c .before .before .before .before .before .before in
-    search-low _ (f .pre .0) _ _ (there f) _ _ (within f) _ _ _ _ (c .before .before .before .before .loop .inv .1) (omega arith) _ (c .next-set .ensures)
+sub-from c = set (c .before .before .before) _ (c .next-set .ensures) .0
 
 add-next-clear : tie.Need-add-next-clear Inv-loop μ-loop
-add-next-clear c = omega (arith, row-end (c .before .before) .1)
+add-next-clear c = omega (arith, ended (c .before .before .before .before))
 
 add-next-clear-2 : tie.Need-add-next-clear-2 Inv-loop μ-loop
-add-next-clear-2 c = omega (arith, row-end (c .before .before) .1)
+add-next-clear-2 c = omega (arith, ended (c .before .before .before .before))
 
 next-clear-requires : tie.Need-next-clear-requires Inv-loop μ-loop
 next-clear-requires c κs = search needs
 
 sub-to : tie.Need-sub-to Inv-loop μ-loop
-sub-to c =
-    let f = c .before .before .before .before .before .before .before .before in
-    let l = c .before .before .before .before .before .before .loop in
-    search-high _ (f .pre .0) _ _ (there f) _ _ (within f) _ _ _ _ (l .inv .1) (omega arith) (c .before .before .next-set .result) (c .before .before .next-set .ensures) (c .before .if1 .taken) (c .next-clear .result) (c .next-clear .ensures)
+sub-to c = clear (c .before .before .before .before .before) _ (c .before .before .next-set .ensures) (c .before .if1 .taken) _ (c .next-clear .ensures) .0
 
-returns : tie.Need-returns Inv-loop μ-loop
-returns c =
-    let f = c .before .before .before .before .before .before .before .before in
-    let l = c .before .before .before .before .before .before .loop in
-    search-run _ (f .pre .0) _ _ (there f) _ _ (within f) _ _ _ _ (l .inv .1) (omega arith) (c .before .before .next-set .result) (c .before .before .next-set .ensures) (c .before .if1 .taken) (c .next-clear .result) (c .next-clear .ensures)
+sub-t22 : tie.Need-sub-t22 Inv-loop μ-loop
+sub-t22 c = order (c .before .before .before .before .before) _ (c .before .before .next-set .ensures) (c .before .if1 .taken) _ (c .next-clear .ensures) .2
 
-add-i : tie.Need-add-i Inv-loop μ-loop
-add-i c = search needs
+sub-t26 : tie.Need-sub-t26 Inv-loop μ-loop
+sub-t26 c =
+    let o = order (c .before .before .before .before .before .before) _ (c .before .before .before .next-set .ensures) (c .before .before .if1 .taken) _ (c .before .next-clear .ensures) in
+    omega (arith, o .0, o .1, found (c .before .before .before .before .before .before) .long)
 
-loop-less : tie.Need-loop-less Inv-loop μ-loop
-loop-less c = search needs
+sub-t24 : tie.Need-sub-t24 Inv-loop μ-loop
+sub-t24 c = order (c .before .before .before .before .before .before) _ (c .before .before .before .next-set .ensures) (c .before .before .if1 .taken) _ (c .before .next-clear .ensures) .0
 
-loop-again : tie.Need-loop-again Inv-loop μ-loop
-loop-again c =
-    let f = c .before .before .before .before .before .before .before in
-    let l = c .before .before .before .before .before .loop in
-    (omega arith, search-row _ (f .pre .0) _ _ (there f) _ _ (within f) _ _ _ _ (l .inv .1) (omega arith) (c .before .next-set .result) (c .before .next-set .ensures) (omega arith))
+mul-t28 : tie.Need-mul-t28 Inv-loop μ-loop
+mul-t28 c = omega (arith, address (c .before .before .before .before .before .before) _ (c .before .before .before .next-set .ensures) (c .before .before .if1 .taken) _ (c .before .next-clear .ensures))
+
+add-t29 : tie.Need-add-t29 Inv-loop μ-loop
+add-t29 c = omega (arith, address (c .before .before .before .before .before .before .before) _ (c .before .before .before .before .next-set .ensures) (c .before .before .before .if1 .taken) _ (c .before .before .next-clear .ensures))
 
 returns-2 : tie.Need-returns-2 Inv-loop μ-loop
 returns-2 c =
-    let f = c .before .before .before in
-    let l = c .before .loop in
-    search-nothing _ (f .pre .0) _ _ (there f) _ _ (within f) _ _ _ _ (l .inv .1) (omega arith)
+    let k = c .before .before .before .before .before .before .before in
+    let e = c .before .before .before .before .next-set .ensures in
+    let h = c .before .before .before .if1 .taken in
+    let e′ = c .before .before .next-clear .ensures in
+    scanned-run (f k .args .size) (take (f k .args .n) (f k .args .ranges)) (marks k) (f k .args .pos) (i k) (u k) (p k) (stood k) (q k) (found k) _ (set k _ e .1) _ (omega arith) h (clear k _ e h _ e′ .1)
+
+loop-less : tie.Need-loop-less Inv-loop μ-loop
+loop-less c = omega (arith, fewer (c .before .before .before .before), found (c .before .before .before .before) .some)
+
+loop-again : tie.Need-loop-again Inv-loop μ-loop
+loop-again c = none (c .before .before .before .before) _ (c .before .next-set .ensures) (c .if1 .left)
 
 pub next-run-spec : {M : Type 1} → statement M
 next-run-spec =
@@ -122,8 +182,10 @@ next-run-spec =
     Inv-loop
     μ-loop
     loop-holds
-    mul-r
-    array-copy-out-r
+    next-piece-requires
+    enum-known-piece
+    enum-told
+    returns
     cast-end
     add-end
     add-next-set
@@ -134,8 +196,11 @@ next-run-spec =
     add-next-clear-2
     next-clear-requires
     sub-to
-    returns
-    add-i
+    sub-t22
+    sub-t26
+    sub-t24
+    mul-t28
+    add-t29
+    returns-2
     loop-less
-    loop-again
-    returns-2)
+    loop-again)

@@ -7,14 +7,13 @@ use denote.Ref.{now}
 use lib.ListN.{length, getD, take}
 use borrow.Author.Needs.{needs}
 use Rattle.rules.specs.Units.{units}
-use Rattle.rules.proofs.UnitLaws.{unitSize-pos}
 use Rattle.record.specs.Record.{noController, whereIs}
 use Rattle.record.specs.declared.Place.the-variants.{At, Refused}
 use Rattle.record.proofs.RecordLaws.{whereIs-at}
 use Rattle.rules.proofs.LoopLaws.{length-mapped}
-use Rattle.ranges.proofs.RangeLaws.{HeldFacts}
+use Rattle.ranges.proofs.RangeLaws.{HeldFacts, unitSize-least, rows-laid}
 use Rattle.calls.proofs.PlaceLaws.{refused-place, held-at, share-within}
-use Rattle.track_receive.proofs.ReceiveLaws.{receives-nothing, rows-end, receive-refused, receive-off, receive-short, receive-done, lists-few}
+use Rattle.track_receive.proofs.ReceiveLaws.{receives-nothing, receive-refused, receive-off, receive-short, receive-done, lists-few}
 use Rattle.track_receive.proofs.receive.Statement.{statement}
 use Rattle.track_receive.proofs.receive.Tie as tie
 
@@ -110,7 +109,7 @@ list-runs-requires : tie.Need-list-runs-requires
 list-runs-requires c κs =
     let m = c .before .before .before .before .before in
     let z = c .before .before .unit-size .ensures in (
-      (rw z (unitSize-pos _), rw z (rows-end (m .before .t .given .0 .0) (take (m .before .t .given .0 .1 .0) (getD (m .before .before .before .before .before .before .before .before .before .before .args .t1 .controllers) (m .before .before .before .before .before .place .given .0 .0) noController .ranges)) (held m .rows))),
+      (rw z (unitSize-least _), rw z (rows-laid (m .before .t .given .0 .0) (take (m .before .t .given .0 .1 .0) (getD (m .before .before .before .before .before .before .before .before .before .before .args .t1 .controllers) (m .before .before .before .before .before .place .given .0 .0) noController .ranges)) (held m .rows))),
       (held m .few, whereIs-at _ _ _ _ (found (c .before .before .before .before .before .before .before .before .before)) .whole, rw z (fits m), omega arith),
     )
 

@@ -7,12 +7,11 @@ use denote.Ref.{now}
 use lib.ListN.{length, getD, take}
 use borrow.Author.Needs.{needs}
 use Rattle.rules.specs.Units.{units}
-use Rattle.rules.proofs.UnitLaws.{unitSize-pos}
 use Rattle.record.specs.Record.{noController, whereIs}
 use Rattle.record.specs.declared.Place.the-variants.{At}
 use Rattle.record.proofs.RecordLaws.{whereIs-at}
 use Rattle.rules.proofs.LoopLaws.{length-mapped}
-use Rattle.ranges.proofs.RangeLaws.{HeldFacts}
+use Rattle.ranges.proofs.RangeLaws.{HeldFacts, unitSize-least, rows-laid}
 use Rattle.marking.specs.Note.{writeTo}
 use Rattle.calls.proofs.Answers.{notes}
 use Rattle.writes.proofs.WriteLaws.{sound-found, sound-nothing, write-refused, write-suspended, write-past, write-off, write-empty, write-done}
@@ -112,11 +111,12 @@ mark-ranges-requires : tie.Need-mark-ranges-requires
 mark-ranges-requires c κs =
     let m = c .before .before .before in
     let z = c .before .unit-size .ensures in (
-      rw z (unitSize-pos _),
+      rw z (unitSize-least _),
       omega arith,
       held m .few,
       whereIs-at _ _ _ _ (found (c .before .before .before .before .before .before .before .before .before .before)) .whole,
       rw z (fits m),
+      rw z (rows-laid _ _ (held m .rows)),
     )
 
 same-length : tie.Need-same-length
