@@ -1,5 +1,6 @@
-// A plain C program for the session listing of document 01, to time the proved one beside. It goes over the marks bit by bit, as one would write it
-// first, and trusts its own record. Built with -DSOUND=1 it tests the whole record before each call, as document 01 asks and the proved calls do.
+// A plain C program for the session listing of document 01, with overlapping ranges (document 02, W2), to time the proved one beside. It goes over the
+// marks bit by bit, as one would write it first, and trusts its own record. Built with -DSOUND=1 it tests the whole record before each call, as document
+// 01 asks and the proved calls do.
 // The kit has a C library and no headers for it, so the two functions that are wanted are declared here.
 
 #ifndef SOUND
@@ -15,9 +16,12 @@ long read(int file, void *bytes, u64 size);
 long write(int file, const void *bytes, u64 size);
 
 enum { IDS = 8, RANGES = 16, UNITS = 4096, WORDS = IDS * UNITS / 64, NUMBERS = 2 + 2 * RANGES, LINE = 1023, REPORT = 4096, ROOM = 65536 };
+enum { PARTS = 2 * RANGES - 1 };  // 16 ranges have at most 32 ends, with 31 stretches between them
 
+// A controller's parts are its ranges without the units that an earlier listed one has, so that each unit is in one part: in the order of the list,
+// then by address. No two parts of one range touch, as units of an earlier one lie between them. Marks and runs go by parts.
 struct range { u64 start; u32 length; };
-struct controller { _Bool tracked, suspended; u8 granularity; u32 count; struct range ranges[RANGES]; };
+struct controller { _Bool tracked, suspended; u8 granularity; u32 count, part_count; struct range ranges[RANGES], parts[PARTS]; };
 struct device { u16 manager; u8 least, greatest; _Bool powers; u16 limit; u32 count; u16 ids[IDS]; struct controller controllers[IDS]; };
 
 static struct device device;  // with no identifiers until a `dev` is done
@@ -53,26 +57,64 @@ static _Bool ranges_ok(const struct range *ranges, u32 count, u64 unit)
     for (u32 i = 0; i < count; i++)
         if (!range_ok(&ranges[i], unit))
             return 0;
-    for (u32 i = 0; i < count; i++)
-        for (u32 j = i + 1; j < count; j++)
-            if (ranges[i].start <= last_byte(&ranges[j], unit) && ranges[j].start <= last_byte(&ranges[i], unit))
-                return 0;
     return 1;
+}
+
+// Goes from `at` over the units that the first `count` ranges have. Answers whether it came past `last`; else `at` is a unit that none of them has.
+static _Bool pass_taken(const struct range *ranges, u32 count, u64 unit, u64 *at, u64 last)
+{
+    for (u32 i = 0; i < count;)
+        if (*at < ranges[i].start || *at > last_byte(&ranges[i], unit)) {
+            i++;
+        } else if (last_byte(&ranges[i], unit) >= last) {
+            return 1;
+        } else {
+            *at = last_byte(&ranges[i], unit) + 1;
+            i = 0;
+        }
+    return 0;
+}
+
+// The last byte, from `at` to `last`, before one of the first `count` ranges begins.
+static u64 free_until(const struct range *ranges, u32 count, u64 at, u64 last)
+{
+    for (u32 i = 0; i < count; i++)
+        if (at < ranges[i].start && ranges[i].start <= last)
+            last = ranges[i].start - 1;
+    return last;
+}
+
+// The parts of these ranges, which keep the range rules, and how many they are.
+static u32 split(const struct range *ranges, u32 count, u64 unit, struct range *parts)
+{
+    u32 n = 0;
+    for (u32 i = 0; i < count; i++) {
+        u64 at = ranges[i].start, end, last = last_byte(&ranges[i], unit);
+        while (!pass_taken(ranges, i, unit, &at, last)) {
+            end = free_until(ranges, i, at, last);
+            parts[n++] = (struct range){at, (end - at) / unit + 1};
+            if (end == last)
+                break;
+            at = end + 1;
+        }
+    }
+    return n;
 }
 
 // The first of 7, 9, 10 and 11 that a granularity and its ranges break, or 0.
 static u8 list_refusal(const struct device *d, u8 granularity, const struct range *ranges, u32 count)
 {
+    struct range parts[PARTS];
     u64 units = 0;
     if (granularity < d->least || granularity > d->greatest)
         return 7;
     if (count < 1 || count > RANGES || !ranges_ok(ranges, count, unit_size(granularity)))
         return 9;
-    for (u32 i = 0; i < count; i++) {
+    for (u32 i = 0; i < count; i++)
         if (d->powers && (ranges[i].length & (ranges[i].length - 1)))
             return 10;
-        units += ranges[i].length;
-    }
+    for (u32 n = split(ranges, count, unit_size(granularity), parts); n;)
+        units += parts[--n].length;
     return units > UNITS ? 11 : 0;
 }
 
@@ -152,6 +194,7 @@ static u8 start(u16 id, u8 granularity, const struct range *ranges, u32 count)
     c->count = count;
     for (u32 i = 0; i < count; i++)
         c->ranges[i] = ranges[i];
+    c->part_count = split(ranges, count, unit_size(granularity), c->parts);
     clear_all(UNITS * place, UNITS);
     return 0;
 }
@@ -172,7 +215,7 @@ static u8 stop(u16 id)
     return 0;
 }
 
-// Marks what a write touches in one range, whose marks stand from `base` on, and counts what was not pending.
+// Marks what a write touches in one part, whose marks stand from `base` on, and counts what was not pending.
 static u32 mark(const struct range *r, u64 unit, u32 base, u64 first, u64 last)
 {
     u32 new = 0;
@@ -205,9 +248,9 @@ static u8 note(u16 id, u64 address, u64 bytes, u32 *new)
     if (!c->tracked)
         return 0;
     u32 base = UNITS * place;
-    for (u32 i = 0; i < c->count; i++) {
-        *new += mark(&c->ranges[i], unit_size(c->granularity), base, address, address + (bytes - 1));
-        base += c->ranges[i].length;
+    for (u32 i = 0; i < c->part_count; i++) {
+        *new += mark(&c->parts[i], unit_size(c->granularity), base, address, address + (bytes - 1));
+        base += c->parts[i].length;
     }
     return 0;
 }
@@ -237,8 +280,8 @@ static void put_descriptor(u8 *at, u64 address, u32 length)
 static _Bool list_runs(const struct controller *c, u32 base, u8 *report, u32 room, u32 *runs)
 {
     *runs = 0;
-    for (u32 i = 0; i < c->count; i++) {
-        const struct range *r = &c->ranges[i];
+    for (u32 i = 0; i < c->part_count; i++) {
+        const struct range *r = &c->parts[i];
         for (u32 k = base; k < base + r->length;) {
             if (!pending(k)) {
                 k++;
@@ -387,7 +430,7 @@ static enum word word_of(const u8 *text, u32 length)
 {
     for (enum word word = DEV; word < NO_WORD; word++) {
         u32 i = 0;
-        while (i < length && words[word].name[i] == text[i])
+        while (i < length && words[word].name[i] && words[word].name[i] == text[i])
             i++;
         if (i == length && !words[word].name[i])
             return word;

@@ -1,4 +1,4 @@
-"""Edges of the sizes in document 01, with answers by small formulas that stand beside each listing."""
+"""Edges of the sizes in documents 01 and 02, with answers by small formulas that stand beside each listing."""
 
 from case import Case, said
 
@@ -15,6 +15,13 @@ def cases():
     yield every_controller_full()
     yield from limits()
     yield marks_at_word_edges()
+    yield from overlap_at_each_granularity()
+    yield from overlap_at_the_end_of_memory()
+    yield from different_units()
+    yield from overlap_at_word_edges()
+    yield from each_unit_first()
+    yield from parted_runs_in_each_buffer()
+    yield from overlap_and_limits()
 
 
 def case(name, rows):
@@ -183,3 +190,131 @@ def marks_at_word_edges():
     rows += [("recv 5 32", *report(0, [(4194304, 1)], more=1))]
     rows += [("recv 5 4096", *report(0, [(4194304 + 8192, 2), (4194304 + 4096 * 3899, 1)]))]
     return case("marks at the edges of words", rows)
+
+
+# ---- Ranges that overlap (document 02, W2): a unit counts once and belongs to the earliest listed
+
+def overlap_at_each_granularity():
+    """Units 17 and 18, then 16 to 19, then 15 to 17, which has only 15 left."""
+    for n in range(21):
+        unit = 2 ** (12 + n)
+        yield case(f"overlap at granularity {n}", [
+            ("dev 1 0 20 0 16 5", "0"),
+            (f"start 5 {n} {17 * unit} 2 {16 * unit} 4 {15 * unit} 3", "0"),
+            (f"write 5 {17 * unit - 1} 2", "0 2"),
+            (f"write 5 {17 * unit - 1} 2", "0 0"),
+            ("recv 5 64", *report(n, [(17 * unit, 1), (16 * unit, 1)])),
+            (f"write 5 {15 * unit} {5 * unit}", "0 5"),
+            ("recv 5 48", *report(n, [(17 * unit, 2), (16 * unit, 1)], more=1)),
+            ("recv 5 48", *report(n, [(19 * unit, 1), (15 * unit, 1)])),
+            ("stop 5", "0"),
+            (f"start 5 {n} {15 * unit} 3 {16 * unit} 4 {17 * unit} 2", "0"),
+            (f"write 5 {15 * unit} {5 * unit}", "0 5"),
+            ("recv 5 64", *report(n, [(15 * unit, 3), (18 * unit, 2)])),
+        ])
+
+
+def overlap_at_the_end_of_memory():
+    """The last unit alone, then the last k units; then the other way round."""
+    for n in (0, 1, 8, 19, 20):
+        unit = 2 ** (12 + n)
+        for k in (1, 2, 3, 4096):
+            left = [(END - k * unit, k - 1)] if k > 1 else []
+            yield case(f"overlap of the last unit and the last {k} at granularity {n}", [
+                ("dev 1 0 20 0 16 5 6", "0"),
+                (f"start 5 {n} {END - unit} 1 {END - k * unit} {k}", "0"),
+                (f"start 6 {n} {END - k * unit} {k} {END - unit} 2", "9"),
+                (f"start 6 {n} {END - k * unit} {k} {END - unit} 1", "0"),
+                (f"write 5 {END - 1} 1", "0 1"),
+                (f"write 5 {END - k * unit} {k * unit}", f"0 {k - 1}"),
+                ("recv 5 48", *report(n, [(END - unit, 1), *left])),
+                (f"write 6 {END - 1} 1", "0 1"),
+                (f"write 6 {END - k * unit} {k * unit}", f"0 {k - 1}"),
+                ("recv 6 48", *report(n, [(END - k * unit, k)])),
+            ])
+
+
+def different_units():
+    """Two ranges of a and b units that share s of them have a + b - s: 4,096 are done, 4,097 are refused with 11."""
+    for n in (0, 8, 20):
+        unit = 2 ** (12 + n)
+        for a, b in ((4096, 4096), (4095, 4096), (4096, 1), (2048, 2049), (4000, 97), (1, 4096)):
+            s = a + b - 4096
+            above, beside = (a - s + 1) * unit, (a - s + 2) * unit
+            own = [((a + 1) * unit, b - s)] if b > s else []
+            yield case(f"{a} and {b} units at granularity {n} that share {s}, or one fewer", [
+                ("dev 1 0 20 0 16 5", "0"),
+                (f"start 5 {n} {unit} {a} {beside} {b}", "11"),
+                (f"start 5 {n} {unit} {a} {above} {b} 0 1", "11"),
+                (f"start 5 {n} {unit} {a} {above} {b}", "0"),
+                (f"write 5 0 {END - 1}", "0 4096"),
+                ("recv 5 64", *report(n, [(unit, a), *own])),
+            ])
+    for n in (0, 20):
+        unit = 2 ** (12 + n)
+        rows = [("dev 1 0 20 0 16 5", "0")]
+        for length in (4097, 8192, 65536 + 1, 2 ** 31, 2 ** 32 - 1):
+            for count in (1, 2, 14, 15):
+                same = " ".join([f"{unit} {length}"] * count)
+                rows += [(f"start 5 {n} {ranges}", "11") for ranges in (same, f"{unit} 1 {same}", f"{same} {unit} 1")]
+        rows += [(f"start 5 {n} {' '.join([f'{unit} 4096'] * 16)}", "0"), (f"write 5 0 {END - 1}", "0 4096")]
+        yield case(f"equal ranges of any length at granularity {n}", rows)
+
+
+def overlap_at_word_edges():
+    """One unit, about each edge of a word, before all of 200: it stands first, and the rest in two parts."""
+    for at in (0, 1, 62, 63, 64, 65, 126, 127, 128, 129, 198, 199):
+        parts = [(0, at), (at + 1, 199 - at)]
+        runs = [(4096 * at, 1)] + [(4096 * first, length) for first, length in parts if length]
+        yield case(f"unit {at} before all of 200", [
+            ("dev 1 0 8 0 16 5", "0"),
+            (f"start 5 0 {4096 * at} 1 0 200", "0"),
+            (f"write 5 {4096 * at} 1", "0 1"),
+            ("recv 5 64", *report(0, runs[:1])),
+            (f"write 5 0 {4096 * 200}", "0 200"),
+            (f"write 5 0 {4096 * 200}", "0 0"),
+            ("recv 5 32", *report(0, runs[:1], more=1)),
+            ("recv 5 64", *report(0, runs[1:])),
+            (f"write 5 0 {4096 * 200}", "0 200"),
+            ("recv 5 64", *report(0, runs)),
+        ])
+
+
+def each_unit_first():
+    """Of 16 pages each even one is listed before all of them, from above: 8 runs, then the 8 odd ones, one by one."""
+    evens, odds = [(4096 * page, 1) for page in range(14, -1, -2)], [(4096 * page, 1) for page in range(1, 16, 2)]
+    pairs = " ".join(f"{address} 1" for address, _ in evens)
+    for last in ("0 16", "4096 15", "0 16 0 16"):
+        rows = [("dev 1 0 8 0 16 5", "0"), (f"start 5 0 {pairs} {last}", "0"), ("write 5 0 65536", "0 16")]
+        runs = evens + odds
+        while runs:
+            rows.append(("recv 5 64", *report(0, runs[:3], more=1 if len(runs) > 3 else 0)))
+            runs = runs[3:]
+        yield case(f"each even page before {last}", rows)
+
+
+def parted_runs_in_each_buffer():
+    """Four runs: page 18; of pages 16 to 20 those below it and those above; page 15. Buffers of 0 to 96 bytes."""
+    runs = [(4096 * 18, 1), (4096 * 16, 2), (4096 * 19, 2), (4096 * 15, 1)]
+    for b in range(97):
+        room = (b - 16) // 16
+        rows = [("dev 1 0 8 0 16 5", "0"), (f"start 5 0 {4096 * 18} 1 {4096 * 16} 5 {4096 * 15} 4", "0")]
+        rows += [(f"write 5 {4096 * 15} {4096 * 6}", "0 6")]
+        if b < 32:
+            rows += [(f"recv 5 {b}", "8"), ("recv 5 4096", *report(0, runs))]
+        else:
+            rows += [(f"recv 5 {b}", *report(0, runs[:room], more=1 if room < 4 else 0))]
+            rows += [("recv 5 4096", *report(0, runs[room:]))]
+        yield case(f"parted runs in a buffer of {b} bytes", rows)
+
+
+def overlap_and_limits():
+    """8 controllers with 16 equal ranges each: 128 listed ranges, whatever they share."""
+    same, fewer = " ".join(["8192 2"] * 16), " ".join(["8192 2"] * 15)
+    for limit, answer in ((128, "0"), (127, "12")):
+        rows = [(f"dev 1 0 8 0 {limit} 5 6 7 8 9 10 11 12", "0")]
+        rows += [(f"start {identifier} 0 {same}", "0") for identifier in range(5, 12)]
+        rows += [(f"start 12 0 {same}", answer), (f"start 12 0 {fewer}", "3" if answer == "0" else "0")]
+        rows += [(f"write {identifier} 0 {END - 1}", "0 2") for identifier in range(5, 13)]
+        rows += [(f"recv {identifier} 64", *report(0, [(8192, 2)])) for identifier in range(5, 13)]
+        yield case(f"limit {limit} and 8 controllers with equal ranges", rows)

@@ -15,7 +15,11 @@ WHO = {  # how the named controller stands: what is broken by that alone
 }
 GRANULARITY = {"least": set(), "greatest": set(), "below": {7}, "above": {7}, "far above": {7}}
 NUMBER = {"least": 1, "greatest": 8, "below": 0, "above": 9, "far above": 255}
-RANGE_RULES = {"kept": set(), "no range": {9}, "length 0": {9}, "off its unit": {9}, "past 2^64": {9}, "shared unit": {9}}
+RANGE_RULES = {
+    "kept": set(), "no range": {9}, "length 0": {9}, "off its unit": {9}, "past 2^64": {9},
+    # Document 02, W2: overlap breaks nothing, 11 counts different units, and 12 counts listed ranges.
+    "a unit listed twice": set(), "4,096 units listed, 2,048 different": set(), "off its unit, within another": {9},
+}
 
 HELD = 10  # ranges that controller 6 holds
 
@@ -63,8 +67,12 @@ def ranges_for(granularity, rule, broken):
         ranges[1] = (2 * far + unit // 2, other)
     if rule == "past 2^64":
         ranges.append((2 ** 64 - unit, 2))
-    if rule == "shared unit":
+    if rule == "a unit listed twice":
         ranges.append((far + unit, 1))
+    if rule == "4,096 units listed, 2,048 different":
+        ranges += [(3 * far, 2048), (3 * far, 2048)]
+    if rule == "off its unit, within another":
+        ranges.append((far + unit // 2, 1))
     return ranges
 
 

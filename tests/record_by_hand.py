@@ -1,4 +1,4 @@
-"""Cases of tests/records by hand, with the answers that document 01 asks for."""
+"""Cases of tests/records by hand, with the answers that documents 01 and 02 ask for."""
 
 import copy
 
@@ -36,6 +36,11 @@ def base_with_rubbish():
 def sixteen(first=0, length=1, unit=4096):
     """Sixteen ranges of this length in units, each beginning where the one before it ends."""
     return [(first + row * length * unit, length) for row in range(16)]
+
+
+def halves(length):
+    """Sixteen ranges of this length, each beginning in the middle of the one before it: 8.5 lengths in all."""
+    return [(row * length // 2 * 4096, length) for row in range(16)]
 
 
 # Identifiers that keep the rules in all places, so that of a count too great it is the count alone that is refused.
@@ -111,6 +116,12 @@ def full(record, limit):
 
 
 @change
+def equal(record, count, one):
+    """So many equal ranges in the last controller."""
+    record.controllers[7].track(20, *[one] * count)
+
+
+@change
 def both(record, *changes):
     for one in changes:
         one(record)
@@ -133,7 +144,8 @@ SOUND, UNSOUND, BROKEN = (0, 0), (0, 1), (16, 1)
 
 # Name, change to the base, what fresh and the other calls answer, and those of them that answer otherwise. By hand,
 # from document 01: "A record is sound exactly if its settings would pass 16, each tracked controller's granularity and
-# ranges would pass 7, 9, 10 and 11, and the counts together are within the limit."
+# ranges would pass 7, 9, 10 and 11, and the counts together are within the limit." And from document 02, W2: "Overlap is
+# now allowed", and 11 "counts different units".
 RECORDS = [
     ("base", both(), SOUND),
     ("closed device", closed(), BROKEN),
@@ -198,7 +210,11 @@ RECORDS = [
     ("limit 111, 112 taken, 16 unused", both(full(111), settings(count=7)), UNSOUND),
     ("full, last length 0", both(full(128), in_place(7, 15, 15 * 2**40, 0)), UNSOUND),
     ("full, last length 512", both(full(128), in_place(7, 15, 15 * 2**40, 512)), UNSOUND),
-    ("full, last one the first again", both(full(128), in_place(7, 15, 0, 256)), UNSOUND),
+    ("full, last one the first again", both(full(128), in_place(7, 15, 0, 256)), SOUND, {"start": 3}),
+    ("full, last one the first again, and longer", both(full(128), in_place(7, 15, 0, 512)), SOUND, {"start": 3}),
+    ("full, last one a unit further", both(full(128), in_place(7, 15, 15 * 2**40 + 2**32, 256)), SOUND, {"start": 3}),
+    ("all equal, limit 127, 128 taken", both(full(127), equal(16, (0, 256))), UNSOUND),
+    ("all equal, limit 128, 128 taken", both(full(128), equal(16, (0, 256))), SOUND, {"start": 3}),
     ("full, last one off", both(full(112), off(7)), SOUND, {"start": 3}),
     # 9, "the count is 1 to 16"
     ("5 on, count 0", counted(0), UNSOUND),
@@ -252,20 +268,26 @@ RECORDS = [
     ("granularity 20, length 2^32 - 1", tracked(20, (2**32, 2**32 - 1), greatest=20), UNSOUND),
     ("second ends at 2^64", tracked(0, (0, 1), (MEMORY - 4096, 1)), SOUND),
     ("second ends past 2^64", tracked(0, (65536, 1), (MEMORY - 4096, 2)), UNSOUND),
-    # 9, "no two ranges share a unit"
+    # 9 loses overlap (W2)
     ("they touch", tracked(0, (65536, 4), (81920, 2)), SOUND),
     ("they touch, later one below", tracked(0, (81920, 2), (65536, 4)), SOUND),
-    ("they share a unit", tracked(0, (65536, 4), (77824, 2)), UNSOUND),
-    ("they share a unit, later one below", tracked(0, (77824, 2), (65536, 4)), UNSOUND),
-    ("the same range twice", tracked(0, (65536, 4), (65536, 4)), UNSOUND),
-    ("one within the other", tracked(0, (65536, 4), (69632, 1)), UNSOUND),
-    ("one around the other", tracked(0, (69632, 1), (65536, 4)), UNSOUND),
-    ("the same start", tracked(0, (65536, 1), (65536, 4)), UNSOUND),
-    ("first and third share", tracked(0, (65536, 4), (0, 1), (77824, 1)), UNSOUND),
+    ("they share a unit", tracked(0, (65536, 4), (77824, 2)), SOUND),
+    ("they share a unit, later one below", tracked(0, (77824, 2), (65536, 4)), SOUND),
+    ("the same range twice", tracked(0, (65536, 4), (65536, 4)), SOUND),
+    ("one within the other", tracked(0, (65536, 4), (69632, 1)), SOUND),
+    ("one around the other", tracked(0, (69632, 1), (65536, 4)), SOUND),
+    ("the same start", tracked(0, (65536, 1), (65536, 4)), SOUND),
+    ("the same end", tracked(0, (77824, 1), (65536, 4)), SOUND),
+    ("first and third share", tracked(0, (65536, 4), (0, 1), (77824, 1)), SOUND),
+    ("three over one unit", tracked(0, (69632, 1), (65536, 4), (61440, 8)), SOUND),
     ("sixteen touch", tracked(0, *sixteen(65536), limit=128), SOUND),
-    ("first and sixteenth share", tracked(0, *sixteen(65536)[:15], (65536, 1), limit=128), UNSOUND),
-    ("last two share", tracked(0, *sixteen(65536)[:15], (65536 + 14 * 4096, 1), limit=128), UNSOUND),
-    ("they share the last unit", tracked(0, (MEMORY - 8192, 2), (MEMORY - 4096, 1)), UNSOUND),
+    ("sixteen are the same", tracked(0, *[(65536, 2)] * 16, limit=128), SOUND),
+    ("first and sixteenth share", tracked(0, *sixteen(65536)[:15], (65536, 1), limit=128), SOUND),
+    ("last two share", tracked(0, *sixteen(65536)[:15], (65536 + 14 * 4096, 1), limit=128), SOUND),
+    ("they share the last unit", tracked(0, (MEMORY - 8192, 2), (MEMORY - 4096, 1)), SOUND),
+    ("they share the last unit of granularity 20", tracked(20, (MEMORY - 2**32, 1), (MEMORY - 2**33, 2), greatest=20), SOUND),
+    ("within another and off its unit", tracked(0, (65536, 4), (69633, 1)), UNSOUND),
+    ("the same start and past 2^64", tracked(0, (MEMORY - 4096, 1), (MEMORY - 4096, 2)), UNSOUND),
     ("they touch at the end", tracked(0, (MEMORY - 8192, 1), (MEMORY - 4096, 1)), SOUND),
     ("shared past the count", in_place(0, 2, 65536, 4), SOUND),
     ("two controllers share", tracked(8, (1048576, 3)), SOUND),
@@ -276,6 +298,8 @@ RECORDS = [
     ("rule on, 4,096 units", both(tracked(0, (65536, 4096), rule=1), in_place(2, 0, 1048576, 1)), SOUND),
     ("rule on, 4,095 units", both(tracked(0, (65536, 4095), rule=1), in_place(2, 0, 1048576, 1)), UNSOUND),
     ("rule on, 2^31 units", both(tracked(0, (0, 2**31), rule=1), in_place(2, 0, 1048576, 1)), UNSOUND),
+    ("rule on, 3 units within 4", both(tracked(0, (0, 4), (0, 3), rule=1), in_place(2, 0, 1048576, 1)), UNSOUND),
+    ("rule on, 1 unit within 4", both(tracked(0, (0, 1), (0, 4), rule=1), in_place(2, 0, 1048576, 1)), SOUND),
     ("rule on, 3 past the count", both(settings(rule=1), in_place(2, 0, 0, 1), in_place(2, 1, 2**20, 3)), SOUND),
     # 11
     ("4,096 units", tracked(0, (0, 4096)), SOUND),
@@ -288,6 +312,24 @@ RECORDS = [
     ("65,537 units, a sum of 1 in 16 bits", tracked(0, (0, 65537)), UNSOUND),
     ("2^32 + 1 units, a sum of 1 in 32 bits", tracked(0, (0, 2**32 - 1), (2**44, 2)), UNSOUND),
     ("2^32 units, a sum of 0 in 32 bits", tracked(0, *sixteen(0, 2**28), limit=128), UNSOUND),
+    # 11 over different units (W2)
+    ("4,096 units twice", tracked(0, (0, 4096), (0, 4096)), SOUND),
+    ("4,096 units sixteen times", tracked(0, *[(0, 4096)] * 16, limit=128), SOUND),
+    ("4,096 units twice, a unit off", tracked(0, (0, 4096), (4096, 4096)), UNSOUND),
+    ("4,096 units twice, a unit off, later one below", tracked(0, (4096, 4096), (0, 4096)), UNSOUND),
+    ("4,096 units twice and 1", tracked(0, (0, 4096), (0, 4096), (2**24, 1)), UNSOUND),
+    ("4,097 units twice", tracked(0, (0, 4097), (0, 4097)), UNSOUND),
+    ("4,097 units around 4,096", tracked(0, (0, 4096), (0, 4097)), UNSOUND),
+    ("4,095 and 2 units that share one", tracked(0, (0, 4095), (4094 * 4096, 2)), SOUND),
+    ("4,095 and 2 units that touch", tracked(0, (0, 4095), (4095 * 4096, 2)), UNSOUND),
+    ("2,049 and 2,048 units that share one, at 2^64", tracked(0, (MEMORY - 2**24, 2049), (MEMORY - 2**23, 2048)), SOUND),
+    ("16 times 482 units by halves, 4,097", tracked(0, *halves(482), limit=128), UNSOUND),
+    ("16 times 480 units by halves, 4,080", tracked(0, *halves(480), limit=128), SOUND),
+    ("4,096 units twice at granularity 20", tracked(20, (2**32, 4096), (2**32, 4096), greatest=20), SOUND),
+    ("a unit off at granularity 20", tracked(20, (2**32, 4096), (2**33, 4096), greatest=20), UNSOUND),
+    ("2^32 - 1 units twice", tracked(0, (0, 2**32 - 1), (0, 2**32 - 1)), UNSOUND),
+    ("2^32 - 1 units around 1", tracked(0, (0, 1), (0, 2**32 - 1)), UNSOUND),
+    ("2^32 - 1 units sixteen times at granularity 20", tracked(20, *[(2**32, 2**32 - 1)] * 16, greatest=20, limit=128), UNSOUND),
     ("4,096 units each", both(tracked(0, (0, 4096)), tracked(8, (0, 4096), place=2)), SOUND),
     ("4,097 units past the count", in_place(0, 2, 2**30, 4097), SOUND),
     # "Separately it is running or suspended", which soundness doesn't ask for
@@ -296,8 +338,9 @@ RECORDS = [
     ("unused suspended", suspended(0, 0, 1, 1, 1, 1, 1, 1), SOUND),
 ]
 
-# Sound records, by their change to the base, and calls on them: the call, its fields, the first numbers of the answer.
-# Marks are 0 unless said. Controller 5's bits 0 to 3 are pages 16 to 19, its bits 4 and 5 pages 0 and 1.
+# Sound records, by their change to the base, and calls on them: the call, its fields, the first numbers of the answer;
+# of some also mark words after the call, by their number, and the report's runs. Marks are 0 unless said. Controller 5's
+# bits 0 to 3 are pages 16 to 19, its bits 4 and 5 pages 0 and 1.
 ONE = structure(0, [(65536, 1)])
 SEVENTEEN = sixteen() + [(2**30, 1)]
 ORDERS = [
@@ -332,8 +375,20 @@ ORDERS = [
         ("start", dict(id=6, data=structure(8, [(1052672, 1)])), [9]),
         ("start", dict(id=6, data=structure(0, [(MEMORY - 4096, 2)])), [9]),
         ("start", dict(id=6, data=structure(0, [(MEMORY - 4096, 1)])), [0]),
-        ("start", dict(id=6, data=structure(0, [(65536, 4), (77824, 4097)])), [9]),
         ("start", dict(id=6, data=structure(0, [(65536, 4), (81920, 1)])), [0]),
+        ("start", dict(id=6, data=structure(0, [(65536, 4), (77824, 2)])), [0]),
+        ("start", dict(id=6, data=structure(0, [(65536, 4), (65536, 4)])), [0]),
+        ("start", dict(id=6, data=structure(0, [(65536, 4), (65536, 0)])), [9]),
+        ("start", dict(id=6, data=structure(0, [(65536, 4), (65537, 1)])), [9]),
+        # 4 units and 4,093 or 4,094 that share one.
+        ("start", dict(id=6, data=structure(0, [(65536, 4), (77824, 4093)])), [0]),
+        ("start", dict(id=6, data=structure(0, [(65536, 4), (77824, 4094)])), [11]),
+        ("start", dict(id=6, data=structure(0, [(0, 4096), (0, 4096)])), [0]),
+        ("start", dict(id=6, data=structure(0, [(0, 4096), (4096, 4096)])), [11]),
+        ("start", dict(id=6, data=structure(0, [(0, 2**32 - 1)] * 16)), [11]),
+        ("start", dict(id=6, data=structure(0, [(0, 4096)] * 13)), [0]),
+        ("start", dict(id=6, data=structure(0, [(0, 4096)] * 14)), [12]),
+        ("start", dict(id=6, data=structure(0, [(0, 4096)] * 13 + [(2**24, 1)])), [11]),
         ("start", dict(id=6, data=structure(0, [(65536, 3)])), [0]),
         ("start", dict(id=6, data=structure(0, [(0, 4097)])), [11]),
         ("start", dict(id=6, data=structure(0, [(0, 4096)])), [0]),
@@ -399,7 +454,9 @@ ORDERS = [
     ("rule on", both(settings(rule=1), in_place(2, 0, 1048576, 4)), [
         ("start", dict(id=6, data=structure(0, [(65536, 3)])), [10]),
         ("start", dict(id=6, data=structure(0, [(65536, 4)])), [0]),
-        ("start", dict(id=6, data=structure(0, [(65536, 3), (65536, 3)])), [9]),
+        ("start", dict(id=6, data=structure(0, [(65536, 3), (65537, 3)])), [9]),
+        ("start", dict(id=6, data=structure(0, [(65536, 4), (65536, 3)])), [10]),
+        ("start", dict(id=6, data=structure(0, [(65536, 1), (65536, 4)])), [0]),
         ("start", dict(id=6, data=structure(0, [(0, 4097)])), [10]),
         ("start", dict(id=6, data=structure(0, [(0, 4096), (2**24, 1)])), [11]),
         ("start", dict(id=6, data=structure(0, sixteen(0, 3))), [10]),
@@ -419,6 +476,72 @@ ORDERS = [
         ("write", dict(id=5, address=ALL_ONES, bytes=1), [0, 1]),
         ("write", dict(id=5, address=1, bytes=ALL_ONES), [0, 4096]),
         ("receive", dict(id=5, data=b"\xaa" * 32, mark=ALL_ONES), [0, 0, 0, 0, 0, 1]),
+    ]),
+    # Page 17, then pages 15 to 18, then page 16, then pages 14 to 19. So bit 0 is page 17, bits 1 to 3 are pages 15, 16
+    # and 18, the third range has none, and bits 4 and 5 are pages 14 and 19.
+    ("overlap", tracked(0, (69632, 1), (61440, 4), (65536, 1), (57344, 6)), [
+        *[("write", dict(id=5, address=4096 * page + 4095, bytes=1), [0, int(bit != 0)], {0: bit, 1: 0}) for page, bit in (
+            (13, 0), (14, 1 << 4), (15, 1 << 1), (16, 1 << 2), (17, 1 << 0), (18, 1 << 3), (19, 1 << 5), (20, 0))],
+        ("write", dict(id=5, address=65535, bytes=2), [0, 2], {0: 0b000110}),
+        ("write", dict(id=5, address=69631, bytes=2), [0, 2], {0: 0b000101}),
+        ("write", dict(id=5, address=73727, bytes=2), [0, 2], {0: 0b001001}),
+        ("write", dict(id=5, address=0, bytes=ALL_ONES), [0, 6], {0: 0b111111, 1: 0}),
+        ("write", dict(id=5, address=0, bytes=ALL_ONES, mark=0b000100), [0, 5], {0: 0b111111, 1: 0b000100}),
+        ("write", dict(id=5, address=0, bytes=ALL_ONES, mark=ALL_ONES - 63), [0, 6], {0: ALL_ONES, 1: ALL_ONES - 63}),
+        ("write", dict(id=5, address=69632, bytes=1, mark=ALL_ONES - 1), [0, 1], {0: ALL_ONES, 1: ALL_ONES - 1}),
+        ("receive", dict(id=5, data=b"\xaa" * 32, mark=ALL_ONES), [0, 0, 0, 1, 0, 1],
+         {0: ALL_ONES - 1, 1: ALL_ONES}, [(69632, 1)]),
+        ("receive", dict(id=5, data=b"\xaa" * 47, mark=0b111110), [0, 0, 0, 1, 0, 1], {0: 0b111000, 1: 0b111110}, [(61440, 2)]),
+        ("receive", dict(id=5, data=b"\xaa" * 64, mark=0b111111), [0, 0, 0, 1, 0, 3], {0: 0b110000},
+         [(69632, 1), (61440, 2), (73728, 1)]),
+        ("receive", dict(id=5, data=b"\xaa" * 64, mark=0b111010), [0, 0, 0, 1, 0, 3], {0: 0b100000},
+         [(61440, 1), (73728, 1), (57344, 1)]),
+        ("receive", dict(id=5, data=b"\xaa" * 96, mark=ALL_ONES), [0, 0, 0, 0, 0, 5], {0: ALL_ONES - 63, 1: ALL_ONES},
+         [(69632, 1), (61440, 2), (73728, 1), (57344, 1), (77824, 1)]),
+        ("receive", dict(id=5, data=b"\xaa" * 48, mark=0b110000), [0, 0, 0, 0, 0, 2],
+         {0: 0, 1: 0b110000}, [(57344, 1), (77824, 1)]),
+        ("receive", dict(id=5, data=b"\xaa" * 48, mark=ALL_ONES - 63), [0, 0, 0, 0, 0, 0], {0: ALL_ONES - 63}),
+        ("stop", dict(id=5, mark=ALL_ONES), [0], {0: 0, 63: 0, 64: ALL_ONES}),
+        # 5 of the limit's 16 are taken.
+        ("start", dict(id=6, data=structure(0, [(65536, 1)] * 11), mark=ALL_ONES), [0],
+         {63: ALL_ONES, 64: 0, 127: 0, 128: ALL_ONES}),
+        ("start", dict(id=6, data=structure(0, [(65536, 1)] * 12)), [12]),
+    ]),
+    ("sixteen are the same", tracked(0, *[(65536, 2)] * 16, limit=128), [
+        ("write", dict(id=5, address=0, bytes=ALL_ONES), [0, 2], {0: 0b11, 1: 0}),
+        ("receive", dict(id=5, data=b"\xaa" * 272, mark=ALL_ONES), [0, 0, 0, 0, 0, 1], {0: ALL_ONES - 3}, [(65536, 2)]),
+    ]),
+    ("4,096 units twice", tracked(0, (0, 4096), (0, 4096)), [
+        ("write", dict(id=5, address=0, bytes=ALL_ONES), [0, 4096], {0: ALL_ONES, 63: ALL_ONES, 64: 0}),
+        ("receive", dict(id=5, data=b"\xaa" * 32, mark=ALL_ONES), [0, 0, 0, 0, 0, 1], {0: 0, 63: 0, 64: ALL_ONES}, [(0, 4096)]),
+    ]),
+    # Page 4095 is unit 0, and each other page p is unit p + 1.
+    ("page 4095 before 4,096 pages", tracked(0, (16773120, 1), (0, 4096)), [
+        ("write", dict(id=5, address=16773120, bytes=1), [0, 1], {0: 1, 63: 0}),
+        ("write", dict(id=5, address=0, bytes=1), [0, 1], {0: 2}),
+        ("write", dict(id=5, address=4096 * 62, bytes=1), [0, 1], {0: 2**63, 1: 0}),
+        ("write", dict(id=5, address=4096 * 63, bytes=1), [0, 1], {0: 0, 1: 1}),
+        ("write", dict(id=5, address=4096 * 4094, bytes=8192), [0, 2], {0: 1, 62: 0, 63: 2**63, 64: 0}),
+        ("write", dict(id=5, address=0, bytes=ALL_ONES), [0, 4096], {0: ALL_ONES, 63: ALL_ONES, 64: 0}),
+        ("receive", dict(id=5, data=b"\xaa" * 32, mark=ALL_ONES), [0, 0, 0, 1, 0, 1],
+         {0: ALL_ONES - 1, 1: ALL_ONES}, [(16773120, 1)]),
+        ("receive", dict(id=5, data=b"\xaa" * 48, mark=ALL_ONES), [0, 0, 0, 0, 0, 2], {0: 0, 63: 0, 64: ALL_ONES},
+         [(16773120, 1), (0, 4095)]),
+    ]),
+    # Unit 0 is page 100; pages 0 to 99 are units 1 to 100, and pages 101 to 199 units 101 to 199.
+    ("page 100 before 200 pages", tracked(0, (409600, 1), (0, 200)), [
+        ("write", dict(id=5, address=4096 * 99, bytes=3 * 4096), [0, 3], {0: 1, 1: 0b11 << 36, 2: 0}),
+        ("receive", dict(id=5, data=b"\xaa" * 48, mark=ALL_ONES), [0, 0, 0, 1, 0, 2],
+         {0: 0, 1: ALL_ONES - (2**37 - 1), 2: ALL_ONES}, [(409600, 1), (0, 100)]),
+        ("receive", dict(id=5, data=b"\xaa" * 64, mark=ALL_ONES), [0, 0, 0, 0, 0, 3],
+         {0: 0, 1: 0, 2: 0, 3: ALL_ONES - 255, 4: ALL_ONES}, [(409600, 1), (0, 100), (413696, 99)]),
+    ]),
+    ("last unit before the last two, granularity 20", tracked(20, (MEMORY - 2**32, 1), (MEMORY - 2**33, 2), greatest=20), [
+        ("write", dict(id=5, address=ALL_ONES, bytes=1), [0, 1], {0: 1}),
+        ("write", dict(id=5, address=MEMORY - 2**33, bytes=1), [0, 1], {0: 2}),
+        ("write", dict(id=5, address=1, bytes=ALL_ONES), [0, 2], {0: 3}),
+        ("receive", dict(id=5, data=b"\xaa" * 48, mark=ALL_ONES), [0, 0, 0, 0, 20, 2], {0: ALL_ONES - 3},
+         [(MEMORY - 2**32, 1), (MEMORY - 2**33, 1)]),
     ]),
     ("sixteen touch", tracked(0, *sixteen(), limit=128), [
         ("receive", dict(id=5, data=b"\xaa" * 256, mark=ALL_ONES), [0, 0, 0, 1, 0, 15]),
@@ -466,8 +589,8 @@ def orders(build, said):
         record = changed(build, change_it)
         unsound = copy.deepcopy(record)
         unsound.controllers[2].track(8, (1048577, 1))
-        for call, fields, known in calls:
-            yield Case(record, call, **fields).named(f"{name}, {call}{said}", *known)
+        for call, fields, known, *after in calls:
+            yield Case(record, call, **fields).named(f"{name}, {call}{said}", *known, **dict(zip(("marks", "runs"), after)))
             yield Case(unsound, call, **fields).named(f"{name}, {call}{said}, unsound", 1)
             yield Case(record, call, words=511, **fields).named(f"{name}, {call}{said}, 511 words", 1)
 

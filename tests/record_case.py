@@ -60,7 +60,8 @@ CLOSED = Record().packed()
 
 
 class Case:
-    """A record, lent marks and bytes, and one call. `known` are the answer's first numbers, as far as known by hand."""
+    """A record, lent marks and bytes, and one call. `known` are the answer's first numbers, as far as known by hand; of
+    some done calls also mark words and runs are known."""
 
     def __init__(self, record, call, id=0, address=0, bytes=0, type=0, data=b"", words=512, mark=0):
         self.record = record
@@ -68,8 +69,9 @@ class Case:
         self.id, self.address, self.bytes, self.type, self.data = id, address, bytes, type, data
         self.words, self.mark = words, mark
 
-    def named(self, name, *known):
-        self.name, self.known = name, known
+    def named(self, name, *known, marks=None, runs=()):
+        """The marks are by the number of their word; the runs are pairs of address and length in units."""
+        self.name, self.known, self.known_marks, self.known_runs = name, known, marks or {}, runs
         return self
 
     def packed(self):
@@ -85,7 +87,9 @@ class Case:
                f"{len(self.data)} lent bytes {self.data.hex()}")
         if self.known:
             numbers = ", ".join(f"{name} {number}" for name, number in zip(NUMBERS, self.known))
-            yield f"document 01 asks for: {numbers}"
+            marks = "".join(f", mark word {word} {mark:#x}" for word, mark in self.known_marks.items())
+            runs = "".join(f", run {one}" for one in self.known_runs)
+            yield f"documents 01 and 02 ask for: {numbers}{marks}{runs}"
 
 
 def structure(granularity, ranges, version=0, count=None, reserved=0):
@@ -125,6 +129,8 @@ def answer_fields():
 
 
 ANSWER_BYTES = sum(width for _, width in answer_fields())
+DATA_AT = ANSWER_BYTES - MOST_DATA
+MARKS_AT = DATA_AT - 8 * MOST_WORDS
 
 
 def differences(one, other):
@@ -138,11 +144,17 @@ def differences(one, other):
 
 
 def asked_for(case, answer):
-    """The answer that document 01 asks for. Of a refused call all of it is known: zeros, and what was given (of a fresh
-    the closed device). Of a done one the first numbers are known, and the rest is taken to be as answered."""
+    """The answer that the documents ask for. Of a refused call all of it is known: zeros, and what was given (of a fresh
+    the closed device). Of a done one the first numbers are known, at times some mark words and runs, and the rest is
+    taken to be as answered."""
     if not any(case.known[:1]):
-        numbers = case.known + PACKED_NUMBERS.unpack_from(answer)[len(case.known):]
-        return PACKED_NUMBERS.pack(*numbers) + answer[PACKED_NUMBERS.size:]
+        asked = bytearray(answer)
+        PACKED_NUMBERS.pack_into(asked, 0, *case.known, *PACKED_NUMBERS.unpack_from(answer)[len(case.known):])
+        for word, mark in case.known_marks.items():
+            struct.pack_into("<Q", asked, MARKS_AT + 8 * word, mark)
+        for row, (address, length) in enumerate(case.known_runs):
+            struct.pack_into("<QII", asked, DATA_AT + 16 + 16 * row, address, length, 0)
+        return bytes(asked)
     record = CLOSED if case.call == "fresh" else case.record.packed()
     marks = struct.pack("<Q", case.mark) * case.words
     return (PACKED_NUMBERS.pack(case.known[0], 0, 0, 0, 0, 0) + record

@@ -2,6 +2,7 @@
 
 import random
 
+from overlap import beside_another, different_units
 from record_by_hand import WRONG_WORDS
 from record_case import ALL_ONES, CALLS, MEMORY, Case, Record, structure
 
@@ -65,19 +66,37 @@ class Maker:
         return sum(one.tracking[1] for one in used if one.tracking)
 
     def ranges(self, granularity):
-        """Ranges that keep the rules 9, 10 and 11, in any order; some touch, some end at 2^64."""
+        """Ranges that keep the rules 9, 10 and 11, in any order; half of the lists overlap, some end at 2^64."""
         pick, unit = self.random, 4096 << granularity
-        lengths = self.lengths(pick.choice([1, 1, 2, 2, 3, 4, 8, 15, 16]))
-        gaps = [pick.choice([0, 0, 1, 2, pick.randrange(2000)]) for _ in lengths]
-        room = MEMORY // unit - sum(lengths) - sum(gaps)
-        at = pick.choice([0, 0, 16, room, pick.randrange(room + 1)])
-        listed = []
-        for gap, length in zip(gaps, lengths):
-            listed.append(((at + gap) * unit, length))
-            at += gap + length
+        lengths = self.lengths(pick.choice([1, 2, 2, 3, 3, 4, 8, 15, 16]))
+        rows = self.pushed_together(lengths) if self.chance(0.5) else self.apart(lengths)
+        room = MEMORY // unit - max(at + length for at, length in rows)
+        base = pick.choice([0, 0, 16, room, pick.randrange(room + 1)])
         if self.chance(0.5):
-            pick.shuffle(listed)
-        return listed
+            pick.shuffle(rows)
+        return [((base + at) * unit, length) for at, length in rows]
+
+    def apart(self, lengths):
+        rows, at = [], 0
+        for length in lengths:
+            at += self.random.choice([0, 0, 1, 2, self.random.randrange(2000)])
+            rows.append((at, length))
+            at += length
+        return rows
+
+    def pushed_together(self, lengths):
+        """Each row has to do with one before it. Often more units are listed than there may be different ones."""
+        pick = self.random
+        rows = [(pick.choice([0, 1, 300]), lengths[0])]
+        for length in lengths[1:]:
+            length = pick.choice([length, length, length, pick.choice(rows)[1]])
+            rows.append((beside_another(pick, rows, length), length))
+        missing = 4096 - different_units(1, rows)
+        if missing > 0 and not self.record.rule and self.chance(0.1):
+            # As many different units as may be: the row that ends last is made longer.
+            row = max(range(len(rows)), key=lambda one: sum(rows[one]))
+            rows[row] = (rows[row][0], rows[row][1] + missing)
+        return rows if missing >= 0 else rows[:1]
 
     def lengths(self, count):
         pick = self.random
@@ -220,7 +239,7 @@ class Maker:
         start, length = listed[row]
         far = (start + 2**63) % MEMORY  # from the others, so that it is the units that are too many
         listed[row] = pick.choice([
-            *[(start, new) for new in (0, 3, 3, max(1, length - 1), length + 1)],
+            *[(start, new) for new in (0, 3, 3, max(1, length - 1), length + 1, 4096, 2**32 - 1)],
             (far, 4096),
             (far, 4097),
             ((start + 1) % MEMORY, length),

@@ -1,4 +1,4 @@
-"""Sessions from a seed, aimed where errors live: edges of ranges and units, small buffers, limits that are hit.
+"""Sessions from a seed, aimed where errors live: edges of ranges and units, overlaps, small buffers, limits that are hit.
 
 The maker keeps a guess of how the session stands, good enough to aim and not good enough to answer: the answers come from
 the two programs alone. Session K of seed N is always the same.
@@ -8,6 +8,7 @@ import random
 
 from case import Case
 from damaged import damage
+from overlap import beside_another, different_units
 
 END = 2 ** 64
 
@@ -35,6 +36,7 @@ class Maker:
         self.written = set()    # guess: identifiers with pending units
         self.damaged = dice.choice([0, 0, 0.02, 0.02, 0.3])
         self.big = dice.random() < 0.15      # ranges of about 4,096 units in all
+        self.overlaps = dice.choice([0, 0.5, 0.5, 1, 1])  # how often a list of ranges is pushed together
         self.small_buffers = dice.random() < 0.6
 
     # ---- the device
@@ -142,8 +144,8 @@ class Maker:
         counts = len(ranges) + sum(len(others) for _, others in self.tracked.values())
         return (identifier in self.identifiers and identifier not in self.tracked and identifier not in self.suspended
                 and self.least <= granularity <= self.greatest and counts <= self.limit
-                and sum(length for _, length in ranges) <= 4096
-                and all(address + unit * length <= END for address, length in ranges))
+                and all(address % unit == 0 and address + unit * length <= END for address, length in ranges)
+                and different_units(unit, ranges) <= 4096)
 
     def granularity(self):
         if self.dice.random() < 0.03:
@@ -151,7 +153,7 @@ class Maker:
         return self.dice.choice([self.least, self.greatest, self.dice.randint(self.least, self.greatest)])
 
     def ranges(self, unit):
-        """Rows with small gaps or none, often not in the order of their addresses."""
+        """Rows with small gaps or none, often not in the order of their addresses; or pushed together, so that they overlap."""
         lengths = [self.length() for _ in range(self.dice.choice([1, 1, 2, 2, 3, 4, 6, 16]))]
         if self.dice.random() < 0.8:
             lengths = lengths[:max(1, self.limit // 2)]
@@ -162,10 +164,24 @@ class Maker:
             at += self.dice.choice([0, 0, 0, 1, 1, 2, 63, 64, 1000])
             rows.append((at, length))
             at += length
-        base = self.base(unit, at)
+        if self.dice.random() < self.overlaps:
+            rows = self.pushed_together(rows)
+        base = self.base(unit, max(at + length for at, length in rows))
         if self.dice.random() < 0.5:
             self.dice.shuffle(rows)
         return [(min(base + unit * row, END - unit), length) for row, length in rows]
+
+    def pushed_together(self, rows):
+        """Each row after the first is put where it has to do with one before it, mostly."""
+        dice, placed = self.dice, rows[:1]
+        for at, length in rows[1:]:
+            length = dice.choice([length, length, length, dice.choice(placed)[1]])
+            placed.append((beside_another(dice, placed, length) if dice.random() < 0.9 else at, length))
+        if self.big:  # the row that ends last is made longer, until all have as many different units as may be, or one more
+            row = max(range(len(placed)), key=lambda one: sum(placed[one]))
+            missing = 4096 + dice.choice([-1, 0, 0, 0, 1]) - different_units(1, placed)
+            placed[row] = (placed[row][0], placed[row][1] + max(0, missing))
+        return placed
 
     def length(self):
         if self.rule and self.dice.random() < 0.95:
@@ -185,21 +201,24 @@ class Maker:
         at = dice.randrange(len(ranges))
         address, length = ranges[at]
         unit = 2 ** (12 + min(granularity, 20))
-        kind = dice.randrange(7)
+        kind = dice.randrange(8)
         if kind == 0:
             ranges = []
         if kind == 1:
             ranges[at] = (address, 0)
         if kind == 2:
             ranges[at] = ((address + dice.choice([1, 512, unit // 2, unit - 1])) % END, length)
-        if kind == 3:
-            ranges.append((min(END - 1, address + unit * dice.randrange(length)), dice.choice([1, 2, length])))
+        if kind == 3:  # within another range, and yet it breaks a rule
+            inside = min(END - 1, address + unit * dice.randrange(length))
+            ranges.append(dice.choice([(inside, 0), (min(END - 1, inside + unit // 2), 1), (inside, 2 ** 32 - 1)]))
         if kind == 4:
             ranges.append((END - unit, dice.choice([1, 2, 2 ** 32 - 1])))
         if kind == 5:
             ranges[at] = (address, dice.choice([3, 4096, 4097, 65536, 2 ** 31, 2 ** 32 - 1]))
         if kind == 6:
             granularity = dice.choice([0, self.greatest + 1, 255])
+        if kind == 7:  # the descriptor limit counts listed ranges, and 17 are bad
+            ranges = (ranges * 17)[:dice.choice([2, 15, 16, 16, 17])]
         return granularity, ranges
 
     # ---- write
@@ -220,7 +239,7 @@ class Maker:
         identifier = self.identifier(set(self.tracked) - self.suspended)
         granularity, ranges = self.tracked.get(identifier, (self.least, [(65536, 4)]))
         unit, step = 2 ** (12 + granularity), self.dice.choice([1, 2, 2, 3, 16])
-        addresses = [start + unit * number for start, length in ranges for number in range(0, length, step)]
+        addresses = sorted({start + unit * number for start, length in ranges for number in range(0, length, step)})
         self.written.add(identifier)
         chosen = self.dice.sample(addresses, min(len(addresses), self.dice.choice([2, 3, 5, 8, 12])))
         return [self.words("write", identifier, address, self.dice.choice([1, 1, 1, 512, unit])) for address in chosen]

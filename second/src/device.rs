@@ -9,8 +9,8 @@ use crate::report::{report_bytes, room, Descriptor, Report, LEAST_BUFFER};
 use crate::rules::*;
 use crate::structure::{read_header, read_ranges};
 
-/// A unit of a controller's ranges: the row of its range in the list, and its address. Sets of them are ordered as
-/// runs are: "in the order of the list, then by address".
+/// A unit of a controller's ranges: the row of the range that it belongs to (W2: "the earliest listed"), and its
+/// address. Sets of them are ordered as runs are: "in the order of the list, then by address".
 #[derive(Clone, Copy, Debug, PartialEq, Eq, PartialOrd, Ord)]
 pub struct Unit {
     pub row: usize,
@@ -82,7 +82,7 @@ impl Device {
         if power_of_two_broken(&self.record.settings, &ranges) {
             return Err(POWER_OF_TWO);
         }
-        if too_many_units(&ranges) {
+        if too_many_units(header.granularity, &ranges) {
             return Err(TOO_MANY_UNITS);
         }
         if limit_passed(&self.record, ranges.len()) {
@@ -129,16 +129,13 @@ impl Device {
             Tracking::Off => return Ok(0),
             Tracking::On { granularity, .. } => granularity,
         };
-        let ranges = controller.used_ranges();
-        let unit = unit_bytes(granularity);
+        // A sound record has at most 4,096 different units.
+        let units: Vec<Unit> = units(controller).collect();
         let pending = self.pending.entry(id).or_default();
         let mut count = 0;
-        for (row, range) in ranges.iter().enumerate() {
-            for number in 0..range.length {
-                let start = u128::from(range.start) + u128::from(number) * unit;
-                if touches(address, bytes, start, unit) && pending.insert(Unit { row, address: start }) {
-                    count += 1;
-                }
+        for unit in units {
+            if touches(address, bytes, unit.address, unit_bytes(granularity)) && pending.insert(unit) {
+                count += 1;
             }
         }
         Ok(count)
@@ -228,11 +225,25 @@ impl Device {
     }
 }
 
-/// "A run is a longest row of consecutive pending units within one range. Runs are taken in the order of the list,
-/// then by address, and never joined across two ranges."
+/// The units of a controller, each once, at the range that it belongs to: "in the order of the ranges as listed and by
+/// address within a range". They are made as they are asked for, as an unsound record may list 2^32 and more.
+pub fn units(controller: &Controller) -> impl Iterator<Item = Unit> {
+    let granularity = match controller.tracking {
+        Tracking::Off => 0,
+        Tracking::On { granularity, .. } => granularity,
+    };
+    let unit = unit_bytes(granularity);
+    stretches(granularity, &controller.used_ranges()).into_iter().flat_map(move |stretch| {
+        (stretch.first..stretch.after)
+            .map(move |number| Unit { row: stretch.row, address: number.saturating_mul(unit) })
+    })
+}
+
+/// W2: "Runs are pending units consecutive in address and belonging to one range." "Runs are taken in the order of the
+/// list, then by address, and never joined across two ranges."
 ///
-/// So a run begins at each pending unit whose neighbour below, in the same range, is not pending, and goes on as long
-/// as the next unit of that range is pending.
+/// So a run begins at each pending unit whose neighbour below is not pending or belongs to another range, and goes on
+/// as long as the next unit is pending and belongs to the same one.
 fn runs(pending: &BTreeSet<Unit>, unit: u128) -> Vec<Run> {
     let mut runs = Vec::new();
     for first in pending {
@@ -462,5 +473,48 @@ mod tests {
             ]
         );
         assert_eq!(runs(&BTreeSet::new(), 4096), []);
+        // Range 0 has the page in the midst of range 1, and one run is on either side.
+        let mut pending = BTreeSet::new();
+        for one in [unit(0, 8192), unit(1, 0), unit(1, 4096), unit(1, 12288), unit(1, 16384)].iter() {
+            pending.insert(*one);
+        }
+        assert_eq!(
+            runs(&pending, 4096),
+            [
+                Run { first: unit(0, 8192), length: 1 },
+                Run { first: unit(1, 0), length: 2 },
+                Run { first: unit(1, 12288), length: 2 },
+            ]
+        );
+    }
+
+    #[test]
+    fn units_by_hand() {
+        let mut controller = Controller::default();
+        assert_eq!(units(&controller).count(), 0);
+        // 1 MiB units: number 3, then 2 to 4 without it, then one that is taken, then 1 and 2 without 2.
+        controller.tracking = Tracking::On { granularity: 8, count: 4 };
+        controller.ranges[0] = Range { start: 3145728, length: 1 };
+        controller.ranges[1] = Range { start: 2097152, length: 3 };
+        controller.ranges[2] = Range { start: 4194304, length: 1 };
+        controller.ranges[3] = Range { start: 1048576, length: 2 };
+        let unit = |row, address| Unit { row, address };
+        let found: Vec<Unit> = units(&controller).collect();
+        assert_eq!(found, [unit(0, 3145728), unit(1, 2097152), unit(1, 4194304), unit(3, 1048576)]);
+        // Such a record is unsound, and has more units than can be listed; the first ones can.
+        controller.tracking = Tracking::On { granularity: u64::MAX, count: u64::MAX };
+        controller.ranges = [Range { start: u64::MAX, length: u64::MAX }; 16];
+        assert_eq!(units(&controller).take(2).count(), 2);
+    }
+
+    #[test]
+    fn a_unit_listed_twice_is_marked_once() {
+        let mut device = device();
+        let ranges = [Range { start: 69632, length: 1 }, Range { start: 65536, length: 4 }];
+        device.start(5, &structure_bytes(0, &ranges)).unwrap();
+        assert_eq!(device.write(5, 69632, 1), Ok(1));
+        assert_eq!(device.pending[&5].iter().cloned().collect::<Vec<_>>(), [Unit { row: 0, address: 69632 }]);
+        assert_eq!(device.write(5, 65536, 16384), Ok(3));
+        assert_eq!(device.write(5, 65536, 16384), Ok(0));
     }
 }

@@ -1,5 +1,5 @@
-//! The rules of document 01 that speak of plain numbers: settings, granularities, ranges, touching, and when a
-//! device record is sound. Nothing here knows of a session.
+//! The rules of document 01 that speak of plain numbers: settings, granularities, ranges and whose a unit is (with
+//! change request W2 of document 02), touching, and when a device record is sound. Nothing here knows of a session.
 //!
 //! Arithmetic on addresses is done in 128 bits and stops at the greatest number there (saturates) instead of
 //! wrapping. No number that passes the rules comes near it; one that stops there is far past 2^64 and so is
@@ -29,7 +29,7 @@ pub const SETTINGS: Refusal = 16;
 pub const MOST_CONTROLLERS: usize = 8;
 /// "At most 16 ranges for each of 8 controllers".
 pub const MOST_RANGES: usize = 16;
-/// "at most 4,096 units in all of one controller's ranges (house)".
+/// "at most 4,096 units in all of one controller's ranges (house)"; W2: "The 4,096 limit counts different units".
 pub const MOST_UNITS: u128 = 4096;
 /// "least ≤ greatest ≤ 20 (house)".
 pub const GREATEST_GRANULARITY: u64 = 20;
@@ -170,14 +170,14 @@ pub fn granularity_broken(settings: &Settings, granularity: u64) -> bool {
 }
 
 /// Refusal 9: "Range rules (refusal 9): the count is 1 to 16; each length is at least 1; each start is a multiple of
-/// the unit; start plus length in bytes is at most 2^64; no two ranges share a unit (house)."
+/// the unit; start plus length in bytes is at most 2^64". W2: "Overlap is now allowed."
 pub fn range_rule_broken(granularity: u64, ranges: &[Range]) -> bool {
     // "the count is 1 to 16"
     if ranges.is_empty() || ranges.len() > MOST_RANGES {
         return true;
     }
     let unit = unit_bytes(granularity);
-    for (row, range) in ranges.iter().enumerate() {
+    for range in ranges {
         // "each length is at least 1"
         if range.length == 0 {
             return true;
@@ -190,22 +190,12 @@ pub fn range_rule_broken(granularity: u64, ranges: &[Range]) -> bool {
         if range_end(unit, *range) > END_OF_MEMORY {
             return true;
         }
-        // "no two ranges share a unit (house)"
-        for later in ranges.iter().skip(row + 1) {
-            if share_a_unit(unit, *range, *later) {
-                return true;
-            }
-        }
     }
     false
 }
 
-/// "no two ranges share a unit": each begins before the other ends.
-fn share_a_unit(unit: u128, one: Range, other: Range) -> bool {
-    u128::from(one.start) < range_end(unit, other) && u128::from(other.start) < range_end(unit, one)
-}
-
-/// Refusal 10: "power-of-two rule is on and some length isn't a power of two".
+/// Refusal 10: "power-of-two rule is on and some length isn't a power of two". The lengths are those listed, also where
+/// an earlier range takes units away.
 pub fn power_of_two_broken(settings: &Settings, ranges: &[Range]) -> bool {
     settings.rule == 1 && ranges.iter().any(|range| !is_power_of_two(range.length))
 }
@@ -219,13 +209,48 @@ fn is_power_of_two(number: u64) -> bool {
     rest == 1
 }
 
-/// Refusal 11: "more than 4,096 units" "in all of one controller's ranges".
-pub fn too_many_units(ranges: &[Range]) -> bool {
-    let mut total: u128 = 0;
-    for range in ranges {
-        total = total.saturating_add(u128::from(range.length));
+/// Units consecutive in address that belong to one range: from the number `first` on, before the number `after`. A
+/// unit's number is its address divided by its size.
+#[derive(Clone, Copy, Debug, PartialEq, Eq)]
+pub struct Stretch {
+    pub row: usize,
+    pub first: u128,
+    pub after: u128,
+}
+
+/// W2: "A unit covered by several ranges counts once and belongs to the earliest listed." So of each range there is what
+/// none before it has taken, in stretches: in the order of the list, then by address. For ranges that keep rule 9.
+///
+/// No unit is walked here; a range that is refused with 11 may have 2^32 - 1 of them.
+pub fn stretches(granularity: u64, ranges: &[Range]) -> Vec<Stretch> {
+    let mut all: Vec<Stretch> = Vec::new();
+    for (row, range) in ranges.iter().enumerate() {
+        let first = u128::from(range.start) / unit_bytes(granularity);
+        let mut left = vec![Stretch { row, first, after: first + u128::from(range.length) }];
+        for taken in &all {
+            left = left.iter().flat_map(|stretch| without(stretch, taken)).collect();
+        }
+        all.extend(left);
     }
-    total > MOST_UNITS
+    all
+}
+
+/// What is left of a stretch below and above the units that are taken: none, one or two stretches.
+fn without(stretch: &Stretch, taken: &Stretch) -> Vec<Stretch> {
+    let below = Stretch { after: stretch.after.min(taken.first), ..*stretch };
+    let above = Stretch { first: stretch.first.max(taken.after), ..*stretch };
+    let mut left = vec![below, above];
+    left.retain(|part| part.first < part.after);
+    left
+}
+
+/// Refusal 11: "more than 4,096 units"; W2: "The 4,096 limit counts different units".
+pub fn too_many_units(granularity: u64, ranges: &[Range]) -> bool {
+    let mut different: u128 = 0;
+    for stretch in stretches(granularity, ranges) {
+        different = different.saturating_add(stretch.after - stretch.first);
+    }
+    different > MOST_UNITS
 }
 
 /// The counts of all controllers now tracked, together.
@@ -240,7 +265,7 @@ pub fn counts_together(record: &Record) -> u128 {
 }
 
 /// Refusal 12: "given exactly if the requested count plus the counts of all controllers now tracked is above the
-/// limit".
+/// limit". W2: "the descriptor limit still counts listed ranges".
 pub fn limit_passed(record: &Record, requested: usize) -> bool {
     counts_together(record).saturating_add(requested as u128) > u128::from(record.settings.limit)
 }
@@ -263,7 +288,7 @@ pub fn sound(record: &Record) -> bool {
             if granularity_broken(settings, granularity)
                 || range_rule_broken(granularity, &ranges)
                 || power_of_two_broken(settings, &ranges)
-                || too_many_units(&ranges)
+                || too_many_units(granularity, &ranges)
             {
                 return false;
             }
@@ -519,12 +544,15 @@ mod tests {
         assert!(!sound(&tracked(0, &[range(18446744073709547520, 2)])));
         assert!(!sound(&tracked(0, &[range(0, u64::MAX)])));
         assert!(!sound(&tracked(8, &[range(18446744073708503040, u64::MAX)])));
-        // sharing
+        // touching, and sharing a unit
         assert!(sound(&tracked(0, &[range(65536, 4), range(81920, 4)])));
         assert!(sound(&tracked(0, &[range(81920, 4), range(65536, 4)])));
-        assert!(!sound(&tracked(0, &[range(65536, 5), range(81920, 4)])));
-        assert!(!sound(&tracked(0, &[range(81920, 4), range(65536, 5)])));
-        assert!(!sound(&tracked(0, &[range(65536, 4), range(0, 1), range(65536, 4)])));
+        assert!(sound(&tracked(0, &[range(65536, 5), range(81920, 4)])));
+        assert!(sound(&tracked(0, &[range(81920, 4), range(65536, 5)])));
+        assert!(sound(&tracked(0, &[range(65536, 4), range(0, 1), range(65536, 4)])));
+        // a range that has no unit of its own keeps the rules all the same, or not
+        assert!(!sound(&tracked(0, &[range(65536, 4), range(69632, 0)])));
+        assert!(!sound(&tracked(0, &[range(65536, 4), range(69633, 1)])));
     }
 
     #[test]
@@ -541,6 +569,123 @@ mod tests {
         assert!(!sound(&tracked(0, &[range(0, 4097)])));
         assert!(sound(&tracked(0, &[range(0, 4095), range(16777216, 1)])));
         assert!(!sound(&tracked(0, &[range(0, 4095), range(16777216, 2)])));
+        // a range within another one: its length is asked by 10, and its units are not counted again
+        let mut record = tracked(0, &[range(65536, 4), range(65536, 3)]);
+        assert!(sound(&record));
+        record.settings.rule = 1;
+        assert!(!sound(&record));
+    }
+
+    fn row(row: usize, first: u128, after: u128) -> Stretch {
+        Stretch { row, first, after }
+    }
+
+    #[test]
+    fn stretches_by_hand() {
+        // Pages: 65536 is page 16.
+        let of = |ranges: &[Range]| stretches(0, ranges);
+        assert_eq!(of(&[]), []);
+        assert_eq!(of(&[range(65536, 4)]), [row(0, 16, 20)]);
+        // touching, in both orders
+        assert_eq!(of(&[range(65536, 4), range(81920, 1)]), [row(0, 16, 20), row(1, 20, 21)]);
+        assert_eq!(of(&[range(81920, 1), range(65536, 4)]), [row(0, 20, 21), row(1, 16, 20)]);
+        // equal
+        assert_eq!(of(&[range(65536, 4), range(65536, 4)]), [row(0, 16, 20)]);
+        // partly the same: the later one keeps what is above, or below
+        assert_eq!(of(&[range(65536, 4), range(73728, 4)]), [row(0, 16, 20), row(1, 20, 22)]);
+        assert_eq!(of(&[range(73728, 4), range(65536, 4)]), [row(0, 18, 22), row(1, 16, 18)]);
+        // the small one within: nothing left of it, or a hole in the great one
+        assert_eq!(of(&[range(65536, 4), range(69632, 2)]), [row(0, 16, 20)]);
+        assert_eq!(of(&[range(69632, 2), range(65536, 4)]), [row(0, 17, 19), row(1, 16, 17), row(1, 19, 20)]);
+        assert_eq!(of(&[range(65536, 2), range(65536, 4)]), [row(0, 16, 18), row(1, 18, 20)]);
+        assert_eq!(of(&[range(73728, 2), range(65536, 4)]), [row(0, 18, 20), row(1, 16, 18)]);
+        // two holes, listed from above, then one range around all of these
+        assert_eq!(
+            of(&[range(77824, 1), range(69632, 1), range(65536, 8), range(61440, 20)]),
+            [
+                row(0, 19, 20),
+                row(1, 17, 18),
+                row(2, 16, 17),
+                row(2, 18, 19),
+                row(2, 20, 24),
+                row(3, 15, 16),
+                row(3, 24, 35)
+            ]
+        );
+        // covered by two together
+        assert_eq!(of(&[range(65536, 2), range(73728, 2), range(69632, 2)]), [row(0, 16, 18), row(1, 18, 20)]);
+    }
+
+    #[test]
+    fn stretches_at_the_end_of_memory() {
+        // 2^64 is page 2^52, or 2^32 units of granularity 20.
+        let last = 4503599627370495;
+        assert_eq!(
+            stretches(0, &[range(18446744073709547520, 1), range(18446744073709543424, 2)]),
+            [row(0, last, last + 1), row(1, last - 1, last)]
+        );
+        let last = 4294967295;
+        assert_eq!(
+            stretches(20, &[range(18446744069414584320, 1), range(18446744065119617024, 2)]),
+            [row(0, last, last + 1), row(1, last - 1, last)]
+        );
+    }
+
+    #[test]
+    fn different_units() {
+        // Two equal ranges of 4,096 units; a unit more at either end; sixteen of them.
+        assert!(!too_many_units(0, &[range(0, 4096), range(0, 4096)]));
+        assert!(!too_many_units(0, &[range(0, 4096); 16]));
+        assert!(too_many_units(0, &[range(4096, 4096), range(8192, 4096)]));
+        assert!(too_many_units(0, &[range(4096, 4096), range(0, 4096)]));
+        assert!(!too_many_units(0, &[range(0, 2049), range(8388608, 2048)]), "2,048, one shared, and 2,047");
+        assert!(too_many_units(0, &[range(0, 2049), range(8392704, 2048)]));
+        // At another granularity the same starts are other units: 2,048 apart in pages, 8 in units of 1 MiB.
+        assert!(too_many_units(0, &[range(0, 2049), range(8388608, 2049)]));
+        assert!(!too_many_units(8, &[range(0, 2049), range(8388608, 2049)]));
+        // As long as can be, and as often.
+        assert!(too_many_units(20, &[range(0, 4294967295); 16]));
+        assert!(too_many_units(0, &[range(0, 1), range(0, 4294967295)]));
+        assert!(too_many_units(0, &[range(0, 4294967295), range(4096, 4294967295)]));
+    }
+
+    /// Whose each unit is, walked unit by unit: the first range of the list that has it.
+    fn owners(ranges: &[Range]) -> Vec<(usize, u128)> {
+        let mut owners = Vec::new();
+        for (row, range) in ranges.iter().enumerate() {
+            for number in 0..u128::from(range.length) {
+                let unit = u128::from(range.start) / 4096 + number;
+                if !owners.iter().any(|(_, other)| *other == unit) {
+                    owners.push((row, unit));
+                }
+            }
+        }
+        owners
+    }
+
+    #[test]
+    fn stretches_are_what_a_walk_finds() {
+        // Every list of three ranges of 1 to 4 units in the first 7 units.
+        let mut every = Vec::new();
+        for first in 0..4 {
+            for length in 1..5 {
+                every.push(range(first * 4096, length));
+            }
+        }
+        for one in &every {
+            for two in &every {
+                for three in &every {
+                    let ranges = [*one, *two, *three];
+                    let mut walked = Vec::new();
+                    for stretch in stretches(0, &ranges) {
+                        for unit in stretch.first..stretch.after {
+                            walked.push((stretch.row, unit));
+                        }
+                    }
+                    assert_eq!(walked, owners(&ranges), "{:?}", ranges);
+                }
+            }
+        }
     }
 
     #[test]
@@ -639,7 +784,8 @@ mod tests {
         // The rules one by one have an answer for any numbers too.
         assert!(range_rule_broken(u64::MAX, &[range(0, 1)]));
         assert!(range_rule_broken(u64::MAX, &[range(u64::MAX, u64::MAX)]));
-        assert!(too_many_units(&[range(0, u64::MAX); 16]));
+        assert!(too_many_units(u64::MAX, &[range(0, u64::MAX); 16]));
+        assert!(too_many_units(0, &[range(u64::MAX, u64::MAX), range(0, 1), range(4095, 3)]));
         assert!(limit_passed(&record, usize::MAX));
     }
 }

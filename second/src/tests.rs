@@ -1,4 +1,4 @@
-//! Whole sessions. The expected answers are worked out by hand from document 01.
+//! Whole sessions. The expected answers are worked out by hand from documents 01 and 02.
 //!
 //! Pages: 65536 is page 16, 69632 page 17, 73728 page 18, 77824 page 19, 81920 page 20.
 //! Ends: 2^64 = 18446744073709551616, 2^64 - 4096 = 18446744073709547520, 2^64 - 2^20 = 18446744073708503040,
@@ -416,16 +416,11 @@ fn start_9() {
         ("start 5 0 18446744073709547520 4294967295", "9"),
         ("start 5 8 18446744073708503040 2", "9"),
         ("start 5 0 0 1 18446744073709547520 2", "9"),
-        // Sharing a unit.
-        ("start 5 0 65536 4 65536 4", "9"),
-        ("start 5 0 65536 4 77824 1", "9"),
-        ("start 5 0 77824 1 65536 4", "9"),
-        ("start 5 0 65536 4 61440 2", "9"),
-        ("start 5 0 61440 2 65536 4", "9"),
-        ("start 5 0 65536 4 61440 6", "9"),
-        ("start 5 0 0 1 65536 4 8192 1 69632 1", "9"),
-        ("start 5 8 0 2 1048576 1", "9"),
-        // Not sharing one.
+        // Also of a range whose units all belong to an earlier one, or would.
+        ("start 5 0 65536 4 65536 0", "9"),
+        ("start 5 0 65536 4 65537 1", "9"),
+        ("start 5 0 18446744073709547520 1 18446744073709547520 2", "9"),
+        // Touching.
         ("start 5 0 65536 4 81920 1 61440 1", "0"),
     ]);
 }
@@ -610,16 +605,19 @@ fn start_order() {
         // 9 before 10, 11, 12.
         ("start 5 2 1 3", "9"),
         ("start 5 2 1 8192", "9"),
-        ("start 5 2 0 3 0 1", "9"),
-        ("start 5 2 0 1 16384 1 16384 1", "9"),
+        ("start 5 2 0 3 1 1", "9"),
         ("start 5 2 0 1 16384 1 32768 0", "9"),
         // 10 before 11, 12.
         ("start 5 2 0 4097", "10"),
         ("start 5 2 0 3 65536 1 131072 1", "10"),
+        ("start 5 2 0 4 0 3", "10"),
         // 11 before 12.
         ("start 5 2 0 4096 134217728 1 268435456 1", "11"),
+        ("start 5 2 0 4096 0 4096 134217728 1", "11"),
         // 12 last.
         ("start 5 2 0 1 16384 1 32768 1", "12"),
+        ("start 5 2 0 1 16384 1 16384 1", "12"),
+        ("start 5 2 0 4096 0 4096 0 4096", "12"),
         ("start 5 2 0 1 16384 1", "0"),
         // 3 before 7, 9, 10, 11, 12.
         ("start 5 9 0 1", "3"),
@@ -665,6 +663,157 @@ fn other_orders() {
         // A suspended controller that isn't tracked: 5, and 5 before 8.
         ("recv 5 64", "5"),
         ("recv 5 0", "5"),
+    ]);
+}
+
+// ---------------------------------------------------------------------------------------------------------------
+// Ranges that overlap (document 02, W2)
+// ---------------------------------------------------------------------------------------------------------------
+
+/// A start with these ranges; a write over all of memory but its last byte marks `units` in all; then come these runs.
+fn overlapping(ranges: &str, units: u64, runs: &[&str]) {
+    let start = format!("start 5 0 {}", ranges);
+    let count = format!("0 {}", units);
+    let whole = format!("0 susp 0 more 0 gran 0 runs {}/{}", runs.len(), runs.join("/"));
+    let mut lines = vec![
+        ("dev 1 0 8 0 16 5 6".to_string(), "0".to_string()),
+        (start, "0".to_string()),
+        ("write 5 0 18446744073709551615".to_string(), count.clone()),
+        ("write 5 0 18446744073709551615".to_string(), "0 0".to_string()),
+        ("recv 5 4096".to_string(), whole),
+        ("write 5 0 18446744073709551615".to_string(), count),
+    ];
+    // Again, one run a report.
+    for (number, run) in runs.iter().enumerate() {
+        let more = if number + 1 < runs.len() { 1 } else { 0 };
+        lines.push(("recv 5 32".to_string(), format!("0 susp 0 more {} gran 0 runs 1/{}", more, run)));
+    }
+    lines.push(("recv 5 32".to_string(), "0 susp 0 more 0 gran 0 runs 0".to_string()));
+    let lines: Vec<(&str, &str)> = lines.iter().map(|(line, answer)| (line.as_str(), answer.as_str())).collect();
+    session(&lines);
+}
+
+#[test]
+fn two_ranges_that_overlap() {
+    // Pages 16 to 19 and: the same; the first, the midst and the last of them; two that reach above, and below.
+    overlapping("65536 4 65536 4", 4, &["65536 4"]);
+    overlapping("65536 4 65536 1", 4, &["65536 4"]);
+    overlapping("65536 4 69632 2", 4, &["65536 4"]);
+    overlapping("65536 4 77824 1", 4, &["65536 4"]);
+    overlapping("65536 4 77824 2", 5, &["65536 4", "81920 1"]);
+    overlapping("65536 4 61440 2", 5, &["65536 4", "61440 1"]);
+    // The other way round: the small one takes units out of the great one.
+    overlapping("65536 1 65536 4", 4, &["65536 1", "69632 3"]);
+    overlapping("69632 2 65536 4", 4, &["69632 2", "65536 1", "77824 1"]);
+    overlapping("77824 1 65536 4", 4, &["77824 1", "65536 3"]);
+    overlapping("77824 2 65536 4", 5, &["77824 2", "65536 3"]);
+    overlapping("61440 2 65536 4", 5, &["61440 2", "69632 3"]);
+    // One around the other.
+    overlapping("65536 4 61440 6", 6, &["65536 4", "61440 1", "81920 1"]);
+    // Touching, as ever.
+    overlapping("65536 4 81920 1", 5, &["65536 4", "81920 1"]);
+    overlapping("81920 1 65536 4", 5, &["81920 1", "65536 4"]);
+}
+
+#[test]
+fn many_ranges_that_overlap() {
+    // Page 17 is in all three: 17, then 16 to 19, then 15 to 22.
+    overlapping("69632 1 65536 4 61440 8", 8, &["69632 1", "65536 1", "73728 2", "61440 1", "81920 3"]);
+    overlapping("61440 8 65536 4 69632 1", 8, &["61440 8"]);
+    // The third is covered by the first two together.
+    overlapping("65536 2 73728 2 69632 2", 4, &["65536 2", "73728 2"]);
+    // Every second page, then all of them.
+    overlapping(
+        "69632 1 77824 1 86016 1 65536 7",
+        7,
+        &["69632 1", "77824 1", "86016 1", "65536 1", "73728 1", "81920 1", "90112 1"],
+    );
+    // The last pages of memory.
+    overlapping(
+        "18446744073709547520 1 18446744073709539328 3",
+        3,
+        &["18446744073709547520 1", "18446744073709539328 2"],
+    );
+    overlapping("18446744073709539328 3 18446744073709547520 1", 3, &["18446744073709539328 3"]);
+    // Sixteen equal ones.
+    overlapping(&["65536 2"; 16].join(" "), 2, &["65536 2"]);
+}
+
+#[test]
+fn a_write_into_an_overlap_counts_once() {
+    session(&[
+        (DEV, "0"),
+        // Pages 16 to 19 and 18 to 21.
+        ("start 5 0 65536 4 73728 4", "0"),
+        ("write 5 73728 1", "0 1"),
+        ("write 5 73728 1", "0 0"),
+        ("write 5 69632 12288", "0 2"),
+        ("write 5 77824 8192", "0 1"),
+        // Pages 17 to 20 are pending, in two ranges.
+        ("recv 5 47", "0 susp 0 more 1 gran 0 runs 1/69632 3"),
+        ("write 5 77824 4096", "0 1"),
+        ("recv 5 47", "0 susp 0 more 1 gran 0 runs 1/77824 1"),
+        ("recv 5 47", "0 susp 0 more 0 gran 0 runs 1/81920 1"),
+        ("recv 5 47", "0 susp 0 more 0 gran 0 runs 0"),
+    ]);
+}
+
+#[test]
+fn overlap_and_11() {
+    session(&[
+        ("dev 1 0 20 0 16 5 6", "0"),
+        ("start 5 0 0 4096 0 4097", "11"),
+        ("start 5 0 4096 4096 0 4096", "11"),
+        ("start 5 0 0 4096 16777216 1", "11"),
+        ("start 5 0 0 4294967295 0 4294967295", "11"),
+        ("start 5 0 0 1 0 4294967295", "11"),
+        ("start 5 0 0 4294967295 0 1", "11"),
+        ("start 5 20 4294967296 4294967295 4294967296 4294967295", "11"),
+        ("start 5 0 0 4096 0 4096", "0"),
+        ("write 5 0 16777216", "0 4096"),
+        ("recv 5 32", "0 susp 0 more 0 gran 0 runs 1/0 4096"),
+        // 2,049 and 2,048 that share a page.
+        ("start 6 0 0 2049 8392704 2048", "11"),
+        ("start 6 0 0 2049 8388608 2048", "0"),
+        ("write 6 0 18446744073709551615", "0 4096"),
+        ("recv 6 48", "0 susp 0 more 0 gran 0 runs 2/0 2049/8392704 2047"),
+    ]);
+}
+
+#[test]
+fn overlap_and_12() {
+    session(&[
+        ("dev 1 0 8 0 3 5 6", "0"),
+        ("start 5 0 65536 1 65536 1 65536 1 65536 1", "12"),
+        ("start 5 0 65536 1 65536 1", "0"),
+        ("start 6 0 65536 1 65536 1", "12"),
+        ("start 6 0 65536 1", "0"),
+        ("stop 6", "0"),
+        ("stop 5", "0"),
+        ("start 6 0 65536 1 65536 1 65536 1", "0"),
+        ("start 5 0 65536 1", "12"),
+    ]);
+}
+
+#[test]
+fn overlap_at_granularity_20() {
+    session(&[
+        ("dev 1 0 20 1 16 5 6", "0"),
+        // The last unit, then the last two; units 1 and 2, then 0 to 3.
+        ("start 5 20 18446744069414584320 1 18446744065119617024 2 4294967296 2 0 4", "0"),
+        ("write 5 0 18446744073709551615", "0 6"),
+        (
+            "recv 5 4096",
+            "0 susp 0 more 0 gran 20 runs 5/18446744069414584320 1/18446744065119617024 1/4294967296 2/0 1/12884901888 1",
+        ),
+        ("write 5 18446744069414584319 2", "0 2"),
+        ("write 5 18446744073709551615 1", "0 0"),
+        ("recv 5 47", "0 susp 0 more 1 gran 20 runs 1/18446744069414584320 1"),
+        ("recv 5 47", "0 susp 0 more 0 gran 20 runs 1/18446744065119617024 1"),
+        // The rule asks the lengths as listed.
+        ("start 6 20 0 4 0 3", "10"),
+        ("start 6 20 0 4 4294967296 4", "0"),
+        ("write 6 0 18446744073709551615", "0 5"),
     ]);
 }
 

@@ -1,12 +1,13 @@
 //! Lent words as sets of pending units, and back.
 //!
 //! "Marks are 512 lent words of 64 bits. The controllers in the settings have 64 words each, in their order there, one
-//! bit a unit, lowest bit first, in the order of the ranges as listed and by address within a range."
+//! bit a unit, lowest bit first, in the order of the ranges as listed and by address within a range." W2: a unit covered
+//! by several ranges counts once, so it has one bit, among those of the earliest listed.
 
 use std::collections::{BTreeMap, BTreeSet};
 
-use crate::device::{Device, Unit};
-use crate::rules::{unit_bytes, Controller, Record, Tracking};
+use crate::device::{units, Device, Unit};
+use crate::rules::Record;
 
 /// "Marks are 512 lent words".
 pub const MARK_WORDS: usize = 512;
@@ -15,30 +16,13 @@ const WORDS_EACH: usize = 64;
 /// "of 64 bits"
 const BITS: usize = 64;
 
-/// A controller's units in the order of its bits. An unsound record may list more units than there are bits; those
-/// have none, and listing them could take for ever.
-fn units(controller: &Controller) -> Vec<Unit> {
-    let mut units = Vec::new();
-    if let Tracking::On { granularity, .. } = controller.tracking {
-        let unit = unit_bytes(granularity);
-        for (row, range) in controller.used_ranges().iter().enumerate() {
-            for number in 0..range.length {
-                if units.len() == WORDS_EACH * BITS {
-                    return units;
-                }
-                let address = u128::from(range.start).saturating_add(u128::from(number).saturating_mul(unit));
-                units.push(Unit { row, address });
-            }
-        }
-    }
-    units
-}
-
-/// The identifiers in use, each with its controller's 64 words' first bit and its units.
+/// The identifiers in use, each with its controller's 64 words' first bit and its units in the order of their bits. An
+/// unsound record may list more units than there are bits; those have none.
 fn places(record: &Record) -> Vec<(u64, usize, Vec<Unit>)> {
     let mut places = Vec::new();
     for (place, identifier) in record.settings.used_identifiers().iter().enumerate() {
-        places.push((*identifier, place * WORDS_EACH * BITS, units(&record.controllers[place])));
+        let units = units(&record.controllers[place]).take(WORDS_EACH * BITS).collect();
+        places.push((*identifier, place * WORDS_EACH * BITS, units));
     }
     places
 }

@@ -1,4 +1,5 @@
-//! Cases worked out by hand from document 01. Pages: 65536 is page 16, 69632 page 17, 73728 page 18, 81920 page 20.
+//! Cases worked out by hand from documents 01 and 02. Pages: 65536 is page 16, 69632 page 17, 73728 page 18, 81920
+//! page 20; and 57344 is page 14, 61440 page 15, 77824 page 19.
 
 use super::*;
 use crate::rules::{Controller, Range, Settings, Tracking};
@@ -121,11 +122,14 @@ fn counts_and_granularities_at_and_past_their_limits() {
 
 #[test]
 fn ranges_at_and_past_their_limits() {
-    // They touch, in both orders; then they share page 19.
+    // They touch, in both orders; then they share page 19; then all of it, and the second one breaks a rule.
     assert_sound(&|record| track(record, 0, &[(65536, 4), (81920, 2)]));
     assert_sound(&|record| track(record, 0, &[(81920, 2), (65536, 4)]));
-    assert_unsound(&|record| track(record, 0, &[(65536, 4), (77824, 2)]));
-    assert_unsound(&|record| track(record, 0, &[(77824, 2), (65536, 4)]));
+    assert_sound(&|record| track(record, 0, &[(65536, 4), (77824, 2)]));
+    assert_sound(&|record| track(record, 0, &[(77824, 2), (65536, 4)]));
+    assert_sound(&|record| track(record, 0, &[(65536, 4), (65536, 4)]));
+    assert_unsound(&|record| track(record, 0, &[(65536, 4), (65536, 0)]));
+    assert_unsound(&|record| track(record, 0, &[(65536, 4), (65537, 1)]));
     // The end at 2^64, and past it.
     assert_sound(&|record| track(record, 0, &[(18446744073709547520, 1)]));
     assert_unsound(&|record| track(record, 0, &[(18446744073709547520, 2)]));
@@ -139,6 +143,11 @@ fn ranges_at_and_past_their_limits() {
     assert_sound(&|record| track(record, 0, &[(0, 4095), (16777216, 1)]));
     assert_unsound(&|record| track(record, 0, &[(0, 4095), (16777216, 2)]));
     assert_unsound(&|record| track(record, 0, &[(0, 4294967295), (17592186044416, 2)]));
+    // Different units are counted.
+    assert_sound(&|record| track(record, 0, &[(0, 4096), (0, 4096)]));
+    assert_unsound(&|record| track(record, 0, &[(0, 4096), (4096, 4096)]));
+    assert_unsound(&|record| track(record, 0, &[(4096, 4096), (0, 4096)]));
+    assert_unsound(&|record| track(record, 0, &[(0, 4294967295), (0, 4294967295)]));
     // The power-of-two rule: controller 7 has 3 units, 5 has 4 and 2.
     assert_unsound(&|record| record.settings.rule = 1);
     assert_sound(&|record| {
@@ -270,6 +279,83 @@ fn last_bit_of_a_controller() {
     let mut expected = untouched(&case);
     expected.count = 1;
     expected.words[127] = 1 << 63;
+    assert_eq!(outcome(&case), expected);
+}
+
+/// Controller 5 tracks page 17, then pages 15 to 18, then page 16, then pages 14 to 19: bit 0 is page 17, bits 1 to 3
+/// are pages 15, 16 and 18, the third range has none, and bits 4 and 5 are pages 14 and 19.
+fn shared(call: Call, words: &[u64]) -> Case {
+    let mut case = base(call, 5);
+    track(&mut case.record, 0, &[(69632, 1), (61440, 4), (65536, 1), (57344, 6)]);
+    case.words = words.to_vec();
+    case
+}
+
+#[test]
+fn bits_of_ranges_that_overlap() {
+    // A byte of each page from 13 to 20, and its bit.
+    for (page, bit) in [(13, 0), (14, 16), (15, 2), (16, 4), (17, 1), (18, 8), (19, 32), (20, 0)].iter() {
+        let case = shared(Call::Write { address: page * 4096 + 4095, bytes: 1 }, &[0; 512]);
+        let mut expected = untouched(&case);
+        expected.count = if *bit == 0 { 0 } else { 1 };
+        expected.words[0] = *bit;
+        assert_eq!(outcome(&case), expected, "{}", page);
+    }
+    // All of them, with the bits past the total as they were; page 16 was pending.
+    let case = shared(Call::Write { address: 0, bytes: u64::MAX }, &[0xffff_ffff_ffff_ffc4; 512]);
+    let mut expected = untouched(&case);
+    expected.count = 5;
+    expected.words[0] = u64::MAX;
+    assert_eq!(outcome(&case), expected);
+}
+
+#[test]
+fn reports_of_ranges_that_overlap() {
+    // The runs are page 17; pages 15 and 16; page 18; page 14; page 19. 48 bytes hold two of them.
+    let mut case = shared(Call::Receive, &[u64::MAX; 512]);
+    case.data = vec![170; 63];
+    let mut expected = untouched(&case);
+    expected.report = [0, 1, 0, 2];
+    expected.words[0] = 0xffff_ffff_ffff_fff8;
+    expected.data[..48].copy_from_slice(&[
+        0, 1, 5, 0, 2, 0, 0, 0, 0, 0, 0, 0, 0, 0, 0, 0, // more, identifier 5, two, granularity 0
+        0, 16, 1, 0, 0, 0, 0, 0, 1, 0, 0, 0, 0, 0, 0, 0, // 69632, 1
+        0, 240, 0, 0, 0, 0, 0, 0, 2, 0, 0, 0, 0, 0, 0, 0, // 61440, 2
+    ]);
+    assert_eq!(outcome(&case), expected);
+
+    // The other three fit.
+    case.words = expected.words;
+    case.data = vec![170; 64];
+    let mut expected = untouched(&case);
+    expected.report = [0, 0, 0, 3];
+    expected.words[0] = 0xffff_ffff_ffff_ffc0;
+    expected.data[..64].copy_from_slice(&[
+        0, 0, 5, 0, 3, 0, 0, 0, 0, 0, 0, 0, 0, 0, 0, 0, // identifier 5, three, granularity 0
+        0, 32, 1, 0, 0, 0, 0, 0, 1, 0, 0, 0, 0, 0, 0, 0, // 73728, 1
+        0, 224, 0, 0, 0, 0, 0, 0, 1, 0, 0, 0, 0, 0, 0, 0, // 57344, 1
+        0, 48, 1, 0, 0, 0, 0, 0, 1, 0, 0, 0, 0, 0, 0, 0, // 77824, 1
+    ]);
+    assert_eq!(outcome(&case), expected);
+}
+
+#[test]
+fn last_bits_of_ranges_that_overlap() {
+    // Page 4095 first, then 4,096 pages from 0 on: page 4094 is unit 4095, the highest bit of word 63.
+    let mut case = base(Call::Write { address: 16769024, bytes: 1 }, 5);
+    track(&mut case.record, 0, &[(16773120, 1), (0, 4096)]);
+    let mut expected = untouched(&case);
+    expected.count = 1;
+    expected.words[63] = 1 << 63;
+    assert_eq!(outcome(&case), expected);
+    // Page 4095 is unit 0, and page 0 is unit 1.
+    case.call = Call::Write { address: 16773120, bytes: 1 };
+    let mut expected = untouched(&case);
+    expected.count = 1;
+    expected.words[0] = 1;
+    assert_eq!(outcome(&case), expected);
+    case.call = Call::Write { address: 0, bytes: 1 };
+    expected.words[0] = 2;
     assert_eq!(outcome(&case), expected);
 }
 
