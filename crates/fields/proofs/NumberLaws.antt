@@ -1,17 +1,16 @@
 -- Laws of numbers in fields: the loop that reads one, and `gathered`, which reads several. The crate's own. Assumes nothing.
-use Prim.Native.Nat.{ℕ, zero, suc, _+_, _-_, _*_, _≤_, _<_}
+use Prim.Native.Nat.{ℕ, _+_, _-_, _*_, _≤_, _<_}
 use mathlib.Core.Path.{_≡_, refl, sym, ap, _∙_}
 use mathlib.Core.Bool.{Bool, true, false, _&&_, not, cond}
-use mathlib.Core.List.{List, [], _∷_, map}
-use native.Mathlib.Nat.{add-assoc}
+use mathlib.Core.List.{List, [], _∷_}
 use native.Mathlib.Numerals.{add-one}
 use native.Mathlib.Omega.{arith}
-use borrow.Author.Tests.{le-leb, lt-leb, leb-true, lt-ltb, le-ltb}
-use lib.Dec.{leb, eqb}
-use lib.ListN.{length, getD, drop, set, replicate, drop-of-length-le}
+use borrow.Author.Tests.{le-leb, lt-leb, leb-true}
+use lib.Dec.{leb}
+use lib.ListN.{length, getD, drop, drop-of-length-le}
 use lib.Seq.{drop-cons}
-use Rattle.rules.specs.Lists.{all, every}
-use Rattle.rules.proofs.ListLaws.{every-at, every-not, and-left, and-right}
+use Rattle.rules.specs.Lists.{all}
+use Rattle.rules.proofs.ListLaws.{every-at, every-not, and-left}
 use Rattle.fields.specs.Fields.{isDigit, leadingZero, spelled, value, numberRules, isNumber, numberOf}
 use Rattle.fields.specs.declared.Number.the-variants.{Is, None}
 

@@ -1,20 +1,20 @@
 -- Laws of `gathered`: the loop that reads a line's numbers, and what it comes to. The crate's own. Assumes nothing.
 use Prim.Native.Nat.{ℕ, zero, suc, _+_, _-_, _≤_, _<_}
-use mathlib.Core.Path.{_≡_, refl, sym, ap, _∙_}
-use mathlib.Core.Bool.{Bool, true, false, _&&_, cond, true≢false}
+use mathlib.Core.Path.{_≡_, refl, sym, _∙_}
+use mathlib.Core.Bool.{Bool, true, false, cond}
 use mathlib.Core.List.{List, [], _∷_, map}
-use native.Mathlib.Nat.{add-assoc, add-comm, add-zero}
+use native.Mathlib.Nat.{add-zero}
 use native.Mathlib.Numerals.{add-one}
 use native.Mathlib.Omega.{arith}
 use borrow.Author.Tests.{lt-ltb, le-ltb, ltb-true, ltb-false}
 use lib.Dec.{ltb}
-use lib.ListN.{length, getD, take, drop, set, replicate, length-set, length-drop}
+use lib.ListN.{length, getD, take, drop, set, length-drop}
 use lib.Seq.{drop-drop}
 use Rattle.little.specs.Little.{put}
-use Rattle.little.proofs.Put.{put-cons, put-nil, put-at}
+use Rattle.little.proofs.Put.{put-cons, put-nil}
 use Rattle.rules.proofs.ListLaws.{and-left, and-right}
 use Rattle.fields.specs.Fields.{firstField, laterFields, value, isNumber, numberOf}
-use Rattle.listing.specs.Listing.{mostAt, fitting, places}
+use Rattle.listing.specs.Listing.{mostAt, fitting}
 use Rattle.listing.specs.Inner.{noNumbers, gathered}
 use Rattle.fields.specs.declared.Number.{Number}
 use Rattle.fields.specs.declared.Number.the-variants.{Is, None}

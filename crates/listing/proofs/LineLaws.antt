@@ -1,22 +1,18 @@
 -- The promise of a line case by case, a law for each answer of the code. The crate's own. Assumes nothing.
 use Prim.Native.Nat.{ℕ, _+_, _≤_, _<_}
-use mathlib.Core.Path.{_≡_, refl, sym, ap, _∙_}
-use mathlib.Core.Bool.{Bool, true, false, cond, true≢false}
-use mathlib.Core.List.{List, [], _∷_, map}
+use mathlib.Core.Path.{_≡_, sym, ap, _∙_}
+use mathlib.Core.Bool.{true, false, true≢false}
+use mathlib.Core.List.{List, map}
 use native.Mathlib.Nat.{zero-add}
 use native.Mathlib.Omega.{arith}
 use borrow.Author.Tests.{le-leb, lt-leb}
-use lib.Dec.{leb}
 use lib.ListN.{length, getD, take, drop, replicate, length-replicate, length-map}
-use Rattle.little.specs.Little.{put}
 use Rattle.little.proofs.Put.{put-at}
-use Rattle.rules.specs.Lists.{every}
 use Rattle.rules.proofs.ListLaws.{every-not, false-intro}
 use Rattle.fields.specs.Fields.{firstField, laterFields, value}
 use Rattle.listing.specs.Listing.{wordOf, mostAt, takesCount, fitting, plainLine, places, callLine, lineRules, lineOf}
-use Rattle.listing.specs.Inner.{noNumbers, gathered, Taken}
+use Rattle.listing.specs.Inner.{gathered, Taken}
 use Rattle.listing.specs.declared.Call.the-variants.{Bad}
-use Rattle.listing.specs.declared.Line.{Line}
 use Rattle.listing.specs.declared.Numbers.{Numbers}
 use Rattle.listing.specs.declared.Word.{Word}
 use Rattle.fields.proofs.FieldLaws.{firstField-take, laterFields-skip}

@@ -1,15 +1,14 @@
 -- Laws of what a word takes: `mostAt`, `takesCount` and `Taken`, a law for each answer of the code. The crate's own. Assumes nothing.
 use Prim.Native.Nat.{ℕ, zero, suc, _+_, _-_, _*_, _/_, _%_, _≤_, _<_}
-use mathlib.Core.Path.{_≡_, refl, sym, ap, subst, _∙_}
+use mathlib.Core.Path.{_≡_, refl, sym, subst}
 use mathlib.Core.Logic.{_≢_}
-use mathlib.Core.Bool.{Bool, true, false, _&&_, cond, true≢false}
+use mathlib.Core.Bool.{Bool, true, false, _&&_, true≢false}
 use mathlib.Core.List.{List, [], _∷_}
 use native.Mathlib.Omega.{arith}
 use borrow.Author.Tests.{le-leb, lt-leb, eq-eqb, ne-eqb, leb-true, eqb-true}
 use lib.Dec.{leb, eqb}
-use lib.ListN.{length, getD}
-use Rattle.rules.specs.Lists.{every}
-use Rattle.rules.proofs.ListLaws.{every-at, every-not}
+use lib.ListN.{getD}
+use Rattle.rules.proofs.ListLaws.{every-at}
 use Rattle.listing.specs.Listing.{mostAt, takesCount}
 use Rattle.listing.specs.Inner.{Taken}
 use Rattle.listing.specs.declared.Word.{Word}

@@ -1,7 +1,7 @@
 -- Document 01, "Session listing": which call a line asks for, or that it is bad. A line is the list of its bytes, without the line feed.
 -- All of it is the library's interface. What a call answers is not said here.
 use Prim.Native.Nat.{ℕ, _+_, _-_, _/_, _%_}
-use mathlib.Core.Bool.{Bool, true, false, not, _&&_, cond}
+use mathlib.Core.Bool.{Bool, true, false, _&&_, cond}
 use mathlib.Core.List.{List, [], _∷_, map}
 use lib.Dec.{leb, eqb}
 use lib.ListN.{length, getD, replicate}

@@ -15,7 +15,7 @@ use Rattle.rules.specs.Lists.{any, keep}
 use Rattle.rules.specs.Units.{Unit, unitsOfRow, covers, uncovered, unitsFrom}
 use Rattle.rules.specs.StartData.{noRange}
 use Rattle.rules.specs.declared.Range.{Range}
-use Rattle.rules.proofs.ListLaws.{All, All-map, All-append, All-keep, and-left, and-right, and-intro, or-neither, or-intro-left, or-intro-right, bool-ext}
+use Rattle.rules.proofs.ListLaws.{All-map, All-append, All-keep, and-left, and-right, and-intro, or-neither, or-intro-left, or-intro-right, bool-ext}
 use Rattle.rules.proofs.UnitLaws.{unitsOfRow-row}
 use Rattle.rules.proofs.ScanLaws.{Beyond}
 use Rattle.pieces.specs.Pieces.{rowOf, Laid, Overlaps, cutBefore, unitOf, StretchIs, unitsLeft, PieceFound}

@@ -8,7 +8,6 @@ use native.Mathlib.Omega.{arith}
 use lib.Dec.{eqb}
 use lib.ListN.{length}
 use borrow.Author.Tests.{le-leb, lt-leb, eq-eqb, ne-eqb}
-use Rattle.little.specs.Little.{recordsAt}
 use Rattle.little.proofs.Records.{recordsAt-length}
 use Rattle.rules.specs.Refusals.{refusal}
 use Rattle.rules.specs.ReportReader.{reportSize, versionIn, moreIn, countIn, granularityIn, descriptorAt, descriptorsIn, descriptorTests, reportTests, indexOf}

@@ -4,28 +4,25 @@ use mathlib.Core.Bool.{Bool, true, false, _&&_, and-false, true≢false}
 use mathlib.Core.List.{List, [], _∷_, _++_, map, append-assoc}
 use Prim.Native.Nat.{ℕ, zero, suc, _+_, _-_, _*_, _/_, _%_, _^_, _≤_, _<_}
 use native.Mathlib.Omega.{arith}
-use native.Mathlib.Nat.{zero-add}
 use lib.Dec.{eqb}
 use lib.ListN.{length, getD, take, drop, length-map, length-take}
 use lib.Seq.{drop-nil}
 use borrow.Author.Tests.{ne-eqb}
-use Rattle.little.specs.Little.{numberAt, numberBytes, put, records, recordsAt}
+use Rattle.little.specs.Little.{numberBytes, put, records}
 use Rattle.little.proofs.Put.{put-drop, put-length}
 use Rattle.little.proofs.Numbers.{numberAt-one, numberAt-here, numberAt-next}
 use Rattle.little.proofs.Records.{records-here, recordsAt-is}
 use Rattle.rules.specs.Lists.{nonEmpty}
-use Rattle.rules.specs.Refusals.{refusal}
 use Rattle.rules.specs.Units.{units, pending}
 use Rattle.rules.specs.Report.{runs, Descriptor, descriptor, Report, room, reportOn, flag, descriptorBytes, reportBytes}
-use Rattle.rules.specs.ReportReader.{versionIn, moreIn, suspendedIn, identifierIn, countIn, granularityIn, descriptorAt, descriptorsIn, goodDescriptor, descriptorTests, reportTests}
+use Rattle.rules.specs.ReportReader.{versionIn, moreIn, suspendedIn, identifierIn, countIn, granularityIn, descriptorAt, descriptorsIn, descriptorTests}
 use Rattle.rules.specs.Demands.{ReadBack}
 use Rattle.rules.specs.declared.Range.{Range}
-use Rattle.rules.proofs.ListLaws.{All, All-map}
+use Rattle.rules.proofs.ListLaws.{All}
 use Rattle.rules.proofs.RefusalLaws.{Passed, verdict-passed}
 use Rattle.report_data.proofs.Blocks.{descriptorBytes-length, reportBytes-length}
 use Rattle.ranges.proofs.RangeLaws.{RowFacts}
 use Rattle.report_reader.specs.declared.Judged.{Judged}
-use Rattle.report_reader.proofs.ReadingLaws.{firstBad}
 use Rattle.report_reader.proofs.JudgeLaws.{judged-good}
 use Rattle.report_reader.proofs.RunFacts.{Fitting, listed-fit, runs-few}
 

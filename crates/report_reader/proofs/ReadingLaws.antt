@@ -1,14 +1,13 @@
 -- Laws of the reader: which descriptor is the first bad one, and what that says of the refusal. Assumes nothing.
-use mathlib.Core.Path.{_≡_, refl, sym, ap, _∙_}
+use mathlib.Core.Path.{_≡_, refl}
 use mathlib.Core.Bool.{Bool, true, false, cond}
 use mathlib.Core.List.{List, [], _∷_}
-use Prim.Native.Nat.{ℕ, zero, suc, _+_, _-_, _*_, _≤_, _<_}
+use Prim.Native.Nat.{ℕ, suc, _+_, _-_, _*_, _≤_, _<_}
 use native.Mathlib.Omega.{arith}
-use native.Mathlib.Nat.{sub-zero, mul-zero, add-zero, add-suc}
+use native.Mathlib.Nat.{sub-zero}
 use native.Mathlib.Numerals.{add-one}
 use lib.ListN.{length}
 use Rattle.little.specs.Little.{recordsAt}
-use Rattle.little.proofs.Records.{recordsAt-length}
 use Rattle.rules.specs.Refusals.{verdict, refusal}
 use Rattle.rules.specs.Report.{Descriptor}
 use Rattle.rules.specs.ReportReader.{descriptorAt, goodDescriptor, descriptorTests, indexOf}

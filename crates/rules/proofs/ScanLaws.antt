@@ -13,7 +13,7 @@ use borrow.Author.Tests.{eq-eqb, ne-eqb, eqb-true}
 use Rattle.rules.specs.Units.{Unit, unitsOfRow, pending}
 use Rattle.rules.specs.Report.{follows, withFirst, runs, descriptor, clearFirst}
 use Rattle.rules.proofs.ListLaws.{All, All-map, All-append}
-use Rattle.rules.proofs.UnitLaws.{All-pending, chain-within, unitsOfRow-chain, unitsOfRow-row, unitsOfRow-length}
+use Rattle.rules.proofs.UnitLaws.{All-pending, chain-within, unitsOfRow-chain, unitsOfRow-length}
 
 -- ---- what is pending from a unit on
 

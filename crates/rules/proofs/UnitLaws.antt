@@ -11,7 +11,7 @@ use native.Mathlib.Decide.{decLe, decLt}
 use lib.Dec.{leb, ltb}
 use lib.ListN.{length, getD, length-append}
 use lib.Pow.{pow-pos}
-use borrow.Author.Tests.{leb-true, ltb-true, le-leb, lt-ltb, not-true}
+use borrow.Author.Tests.{ltb-true, le-leb, lt-ltb, not-true}
 use Rattle.rules.specs.Lists.{any, keep, sum}
 use Rattle.rules.specs.Settings.{unitSize}
 use Rattle.rules.specs.Units.{Unit, unitsOfRow, covers, uncovered, unitsFrom, Write, touches, mark, newly, pending}

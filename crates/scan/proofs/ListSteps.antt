@@ -3,13 +3,12 @@
 use mathlib.Core.Path.{_≡_, refl, sym, ap, ap₂, _∙_}
 use mathlib.Core.Bool.{Bool, true, false}
 use mathlib.Core.List.{List, [], _∷_, _++_, map}
-use Prim.Native.Nat.{ℕ, zero, suc, _+_, _-_, _*_, _^_, _≤_, _<_}
+use Prim.Native.Nat.{ℕ, zero, suc, _+_, _-_, _*_, _≤_, _<_}
 use native.Mathlib.Numerals.{add-one}
 use native.Mathlib.Omega.{arith}
-use native.Mathlib.Nat.{suc-mul, mul-le-mul-right}
 use native.Mathlib.Decide.{decLt}
 use lib.ListN.{length, getD, take, drop, length-append, length-take, length-drop, length-map, List·getD-append, drop-of-length-le}
-use lib.Seq.{ext-getD, getD-append-add, getD-drop, drop-at, take-all, drop-drop, getD-take}
+use lib.Seq.{ext-getD, getD-append-add, getD-drop, drop-at, take-all, drop-drop}
 use Rattle.bits.specs.Span.{fill}
 use Rattle.bits.specs.Share.{getShare, putShare}
 use Rattle.bits.proofs.Span.{fill-length, fill-at-below, fill-at-in, fill-at-above}
@@ -20,7 +19,6 @@ use Rattle.little.proofs.Records.{records-nil, records-snoc-again}
 use Rattle.report_data.proofs.Blocks.{descriptorBytes-length}
 use Rattle.rules.specs.Lists.{join, nonEmpty}
 use Rattle.rules.specs.Units.{Unit, unitsOfRow, unitsFrom, pending}
-use Rattle.rules.specs.StartData.{noRange}
 use Rattle.rules.specs.Report.{runs, descriptor, descriptorBytes, marksLeft}
 use Rattle.rules.specs.declared.Range.{Range}
 use Rattle.rules.proofs.ListLaws.{join-take-drop}

@@ -1,8 +1,8 @@
 -- What a receive answers, case by case of its table; what its loop lists and its header say together is the report. Assumes nothing.
 use mathlib.Core.Path.{_≡_, sym, ap, ap₂, _∙_}
 use mathlib.Core.Bool.{Bool, false}
-use mathlib.Core.List.{List, [], _∷_}
-use Prim.Native.Nat.{ℕ, zero, suc, _-_, _≤_, _<_}
+use mathlib.Core.List.{List, []}
+use Prim.Native.Nat.{ℕ, _-_, _≤_, _<_}
 use native.Mathlib.Omega.{arith}
 use lib.ListN.{length, getD, take, drop, length-take, length-map}
 use borrow.Author.Tests.{le-leb, lt-leb}
@@ -19,12 +19,10 @@ use Rattle.rules.specs.Machine.{noReport}
 use Rattle.rules.specs.declared.Device.{Device}
 use Rattle.rules.specs.declared.Range.{Range}
 use Rattle.rules.specs.declared.Tracking.the-variants.{Off, On}
-use Rattle.rules.proofs.ListLaws.{All}
 use Rattle.rules.proofs.RunLaws.{runs-length-le, pending-length-le}
 use Rattle.record.specs.Record.{noController, whereIs, seenIn}
 use Rattle.record.specs.declared.Place.the-variants.{At, Refused}
 use Rattle.record.proofs.RecordLaws.{Located, whereIs-at, whereIs-refused}
-use Rattle.ranges.proofs.RangeLaws.{RowFacts}
 use Rattle.calls.specs.Calls.{shareAt, withMarks, marksAt, Receipt, received, reportIn, receiveDone, receiveReceipt}
 use Rattle.scan.specs.Scan.{Lists}
 use Rattle.calls.specs.declared.Received.{Received}

@@ -4,7 +4,7 @@ use Prim.Native.Nat.{_+_, _*_, _-_, _≤_}
 use mathlib.Core.Path.{_≡_}
 use native.Mathlib.Omega.{arith}
 use borrow.Author.Needs.{needs}
-use lib.ListN.{length, length-set, getD, replicate}
+use lib.ListN.{length, length-set, replicate}
 use Rattle.little.specs.Little.{put, recordsAt}
 use Rattle.little.proofs.Records.{recordsAt-start, recordsAt-again, recordsAt-done}
 use Rattle.listing.specs.Listing.{identifierAt}

@@ -1,7 +1,7 @@
 -- `listing::read_numbers` is right because each turn starts at a space and reads the field behind it (`gathered-again`).
 -- The loop's invariant: at `at` a field ends, and the numbers of the fields behind it, stored from place `i` on, make the promised ones.
 -- The measure is what is left of the line.
-use Prim.Native.Nat.{_+_, _-_, _≤_}
+use Prim.Native.Nat.{_-_, _≤_}
 use mathlib.Core.Path.{_≡_, refl, _∙_}
 use mathlib.Core.List.{[]}
 use native.Mathlib.Omega.{arith}

@@ -1,6 +1,4 @@
 -- `listing::takes` is right because it makes the tests of `takesCount`, word by word.
-use mathlib.Core.Path.{ap, sym}
-use Rattle.listing.specs.Listing.{takesCount}
 use Rattle.listing.proofs.WordLaws.{takes-dev-few, takes-dev, takes-start-few, takes-start-odd, takes-start}
 use borrow.Author.Needs.{needs}
 use Rattle.listing.proofs.takes.Statement.{statement}

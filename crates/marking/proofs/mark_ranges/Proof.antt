@@ -1,8 +1,8 @@
 -- `marking::mark_ranges` is right: in each piece the touched units are a span, which is marked. The loop's invariant (`Marking`): what is still to be
 -- marked makes of the marks and the count as they are now what is promised. The measure is the units that are left. Assumes nothing.
-use mathlib.Core.Path.{_≡_, refl, sym, subst}
+use mathlib.Core.Path.{_≡_, subst}
 use mathlib.Core.List.{[]}
-use Prim.Native.Nat.{_+_, _≤_, _-_}
+use Prim.Native.Nat.{_≤_, _-_}
 use native.Mathlib.Omega.{arith}
 use denote.Ref.{now}
 use lib.ListN.{length, take}

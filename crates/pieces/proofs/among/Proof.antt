@@ -1,5 +1,4 @@
 -- `pieces::among` is right because it asks for both ends.
-use mathlib.Core.Path.{_≡_}
 use borrow.Author.Tests.{le-leb, lt-leb}
 use Rattle.pieces.proofs.among.Statement.{statement}
 use Rattle.pieces.proofs.among.Tie as tie

@@ -1,6 +1,4 @@
 -- `pieces::cut_before` is right because it asks where the others begin.
-use mathlib.Core.Path.{_≡_}
-use Prim.Native.Nat.{min}
 use native.Mathlib.Omega.{arith}
 use borrow.Author.Tests.{le-leb, lt-leb}
 use Rattle.pieces.proofs.cut_before.Statement.{statement}

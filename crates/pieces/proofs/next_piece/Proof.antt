@@ -1,7 +1,7 @@
 -- `pieces::next_piece` is right because it goes from stretch to stretch, and from row to row, until a stretch belongs to its row. The loop's invariant: as
 -- much is left as at the start. The measure counts 2^32 for each row that is left, less the units of this row that were passed.
 use mathlib.Core.Path.{_≡_, refl, sym, subst, _∙_}
-use mathlib.Core.Bool.{Bool, true, false}
+use mathlib.Core.Bool.{true, false}
 use Prim.Native.Nat.{_+_, _-_, _*_, _≤_}
 use native.Mathlib.Omega.{arith}
 use lib.ListN.{length, take, length-take}

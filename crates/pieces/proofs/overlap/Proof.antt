@@ -1,5 +1,4 @@
 -- `pieces::overlap` is right because both ranges begin at multiples of the unit, so that units can be counted from address 0.
-use mathlib.Core.Path.{_≡_}
 use native.Mathlib.Omega.{arith}
 use borrow.Author.Needs.{needs}
 use Rattle.pieces.proofs.PieceLaws.{whole, overlap-is, units-small}

@@ -1,6 +1,6 @@
 -- `pieces::stretch_from` is right because it asks each earlier range: one that covers the first unit ends the search, any other cuts the stretch where it
 -- begins. The loop's invariant: `Stretching`, as far as the first i ranges go. The measure is the ranges left.
-use mathlib.Core.Path.{_≡_, refl, sym, subst, _∙_}
+use mathlib.Core.Path.{_≡_, sym, subst, _∙_}
 use Prim.Native.Nat.{_+_, _-_, _≤_, _<_}
 use native.Mathlib.Omega.{arith}
 use native.Mathlib.Numerals.{add-one}

@@ -10,7 +10,7 @@ use borrow.Author.Needs.{needs}
 use Rattle.rules.specs.Settings.{unitSize}
 use Rattle.rules.specs.Units.{unitsFrom}
 use Rattle.rules.proofs.UnitLaws.{unitsOfRow-length, unitsFrom-length}
-use Rattle.pieces.specs.Pieces.{rowOf, Laid, unitsLeft, PieceFound, NextIs}
+use Rattle.pieces.specs.Pieces.{rowOf, unitsLeft, PieceFound, NextIs}
 use Rattle.pieces.proofs.PieceLaws.{left-all, piece-left}
 use Rattle.ranges.proofs.RangeLaws.{unitSize-least}
 use Rattle.ranges.proofs.units_in.Statement.{statement}

@@ -1,5 +1,4 @@
 -- `ranges::units_ok` is right because there are no more different units than the lengths say, and else they are counted.
-use mathlib.Core.Path.{_≡_}
 use borrow.Author.Needs.{needs}
 use Rattle.ranges.proofs.RangeLaws.{unitsOk-few, unitsOk-count}
 use Rattle.ranges.proofs.units_ok.Statement.{statement}

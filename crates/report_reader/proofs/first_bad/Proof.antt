@@ -1,15 +1,13 @@
 -- `report_reader::first_bad` is right because it asks each descriptor in turn. The loop's invariant: the first bad one from index `i` on is the first of
 -- all. The measure is the number of descriptors left.
-use Prim.Native.Nat.{_-_, _≤_, _+_, _*_}
+use Prim.Native.Nat.{_-_, _≤_}
 use mathlib.Core.Path.{_≡_, sym, _∙_}
-use mathlib.Core.Bool.{true, false}
 use native.Mathlib.Omega.{arith}
-use denote.Ref.{now}
 use borrow.Author.Needs.{needs}
 use borrow.Author.Tests.{not-true, not-false}
 use Rattle.little.specs.Little.{recordsAt}
 use Rattle.rules.specs.Refusals.{verdict}
-use Rattle.rules.specs.ReportReader.{descriptorAt, goodDescriptor, descriptorTests}
+use Rattle.rules.specs.ReportReader.{descriptorAt, descriptorTests}
 use Rattle.report_reader.proofs.ReadingLaws.{firstBad, descriptorsFrom, bad-start, bad-here, bad-later, bad-end}
 use Rattle.report_reader.proofs.first_bad.Statement.{statement}
 use Rattle.report_reader.proofs.first_bad.Tie as tie

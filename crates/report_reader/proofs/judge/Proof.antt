@@ -1,6 +1,5 @@
 -- `report_reader::judge` is right because it asks in the order of its table.
-use mathlib.Core.Path.{_≡_, sym, _∙_}
-use native.Mathlib.Omega.{arith}
+use mathlib.Core.Path.{sym, _∙_}
 use borrow.Author.Needs.{needs}
 use Rattle.rules.specs.ReportReader.{descriptorsIn}
 use Rattle.report_reader.proofs.JudgeLaws.{judged-header, judged-version, judged-granularity, judged-more, judged-rest, judged-bad, judged-good}

@@ -1,5 +1,4 @@
 -- `report_reader::more_of_none` is right because it asks for the count, and then for the bit.
-use mathlib.Core.Path.{_≡_, refl, sym, _∙_}
 use mathlib.Core.Bool.{and-false, and-true}
 use borrow.Author.Needs.{needs}
 use borrow.Author.Tests.{ne-eqb, eq-eqb}

@@ -12,7 +12,7 @@ use Rattle.bits.specs.Flat.{flat}
 use Rattle.bits.specs.Next.{next}
 use Rattle.bits.specs.Share.{getShare}
 use Rattle.bits.proofs.Flat.{flat-length}
-use Rattle.rules.specs.Units.{unitsFrom, unitsOfRow}
+use Rattle.rules.specs.Units.{unitsFrom}
 use Rattle.rules.proofs.UnitLaws.{unitsOfRow-length}
 use Rattle.pieces.specs.Pieces.{unitsLeft, PieceFound, NextIs}
 use Rattle.pieces.specs.declared.Piece.{Piece}

@@ -1,6 +1,5 @@
 -- `start_data::read_ranges` is right because the two refusals of its list are asked before the loop. Assumes nothing.
-use mathlib.Core.Path.{_≡_, sym, _∙_}
-use Prim.Native.Nat.{_≤_}
+use mathlib.Core.Path.{sym, _∙_}
 use native.Mathlib.Omega.{arith}
 use borrow.Author.Needs.{needs}
 use Rattle.start_data.proofs.Answers.{rangesRead-many, rangesRead-short, rangesRead-there}

@@ -1,5 +1,4 @@
 -- `start_data::refused` is right: no range comes with a refusal. Assumes nothing.
-use mathlib.Core.Path.{_≡_, refl}
 use borrow.Author.Needs.{needs}
 use Rattle.start_data.proofs.refused.Statement.{statement}
 use Rattle.start_data.proofs.refused.Tie as tie
