@@ -180,6 +180,7 @@ pub demand-2 : Demand2
 demand-2 =
     record {
       tracked = λ s ws ks eight e a i g n place t. is-tracked s ws ks eight (fresh-done s ws e .1) a i g n place t e;
+      once = rules.demand-2 .once;
       touches = rules.demand-2 .touches;
       structures = without-loss;
     }

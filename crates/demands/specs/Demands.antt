@@ -1,22 +1,25 @@
 -- What the customer asked for, as statements about the calls of `tracker`, each proved in proofs/Theorems.antt. Any record, any words, any bytes and
 -- any numbers are meant where nothing else is said. Where a session is meant, its settings have the eight places of their type and the marks are 512
 -- words, as fresh asks.
-use Prim.Native.Nat.{ℕ, _+_, _^_, _≤_, _<_}
+use Prim.Native.Nat.{ℕ, _+_, _%_, _^_, _≤_, _<_}
 use mathlib.Core.Path.{_≡_}
 use mathlib.Core.Logic.{_≢_, _↔_}
 use mathlib.Core.Bool.{Bool, true, false}
 use mathlib.Core.List.{List}
 use mathlib.Core.Option.{some}
+use lib.Dec.{eqb}
 use lib.ListN.{length, take, getD, getElem?}
 use Rattle.bits.specs.Flat.{flat}
 use Rattle.rules.specs.Refusals.{Test, refusal}
-use Rattle.rules.specs.Settings.{placeOf}
+use Rattle.rules.specs.Lists.{all}
+use Rattle.rules.specs.Settings.{placeOf, unitSize}
 use Rattle.rules.specs.Units.{Unit, Write, units, mark, newly}
 use Rattle.rules.specs.Order.{freshOrder, startOrder, stopOrder, writeOrder, receiveOrder, suspendOrder, resumeOrder}
 use Rattle.rules.specs.Device.{closedDevice, soundDevice}
 use Rattle.rules.specs.Machine.{refused, pendingIn, slotOf, Call, lent}
 use Rattle.rules.specs.History.{only, PendingBy}
-use Rattle.rules.specs.Demands.{Reports, ReadBack, Touches, Writes, WithoutLoss, unhindered}
+use Rattle.rules.specs.Demands.{Once, Reports, ReadBack, Touches, Writes, WithoutLoss, unhindered}
+use Rattle.rules.specs.declared.Range.{Range}
 use Rattle.rules.specs.declared.Settings.{Settings}
 use Rattle.rules.specs.declared.Controller.{Controller}
 use Rattle.rules.specs.declared.Device.{Device}
@@ -101,6 +104,8 @@ pub record Tracked (s : Settings) (ws : List ℕ) (ks : List Call) (a i g n : �
   pub writes : (w : Write) → Writes w (unitsOf (endOf s ws ks) i g n) (marksIn (endOf s ws ks) i g n)
 
 pub record Demand2 : Type 1 where
+  -- W2: of ranges that pass 9, each unit that one of them covers is there once, in the row of the earliest that does
+  pub once : (g : ℕ) (rs : List Range) → all (λ (r : Range). eqb (r .start % unitSize g) 0) rs ≡ true → Once g rs
   pub tracked : (s : Settings) (ws : List ℕ) (ks : List Call) → length (s .identifiers) ≡ 8 → freshChange s ws .answer .number ≡ 0
       → (a i g n : ℕ) → placeOf (endOf s ws ks .device .settings) a ≡ some i → controllerOf (endOf s ws ks) i .tracking ≡ On g n → Tracked s ws ks a i g n
   pub touches : (w : Write) (u : Unit) → Touches w u

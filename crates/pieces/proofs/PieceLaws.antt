@@ -1,6 +1,6 @@
 -- Laws of pieces: which units of a range another covers, and what is left of the units of ranges from a unit on. Assumes nothing.
 use mathlib.Core.Path.{_≡_, refl, sym, ap, ap₂, subst, _∙_}
-use mathlib.Core.Bool.{Bool, true, false, _&&_, _||_, not, and-false, or-false, or-true, or-assoc, true≢false}
+use mathlib.Core.Bool.{Bool, true, false, _&&_, _||_, not, and-false, or-true, true≢false}
 use mathlib.Core.List.{List, [], _∷_, _++_, append-assoc}
 use Prim.Native.Nat.{ℕ, zero, suc, _+_, _-_, _*_, _/_, _%_, _^_, _≤_, _<_, min}
 use native.Mathlib.Omega.{arith}
@@ -15,7 +15,7 @@ use Rattle.rules.specs.Lists.{any, keep}
 use Rattle.rules.specs.Units.{Unit, unitsOfRow, covers, uncovered, unitsFrom}
 use Rattle.rules.specs.StartData.{noRange}
 use Rattle.rules.specs.declared.Range.{Range}
-use Rattle.rules.proofs.ListLaws.{All-map, All-append, All-keep, and-left, and-right, and-intro, or-neither, or-intro-left, or-intro-right, bool-ext}
+use Rattle.rules.proofs.ListLaws.{All-map, All-append, All-keep, and-left, and-right, and-intro, or-neither, or-intro-left, or-intro-right, bool-ext, any-snoc}
 use Rattle.rules.proofs.UnitLaws.{unitsOfRow-row}
 use Rattle.rules.proofs.ScanLaws.{Beyond}
 use Rattle.pieces.specs.Pieces.{rowOf, Laid, Overlaps, cutBefore, unitOf, StretchIs, unitsLeft, PieceFound}
@@ -198,10 +198,6 @@ left-beyond size rs i j z h cut = go (decLt j (rowOf rs i .length))
     go (no l) = subst (Beyond i (rowOf rs i .start + j * size)) (sym (left-row size rs i j (omega arith))) last
 
 -- ---- a stretch, against one earlier range after another
-
-any-snoc : {A : Type 0} (p : A → Bool) (xs : List A) (y : A) → any p (xs ++ y ∷ []) ≡ (any p xs || p y)
-any-snoc p [] y = or-false (p y)
-any-snoc p (x ∷ xs) y = rw (any-snoc p xs y) (sym (or-assoc (p x) (any p xs) (p y)))
 
 any-take : {A : Type 0} (p : A → Bool) (xs : List A) (n i : ℕ) (d : A) → i < n → i < length xs → p (getD xs i d) ≡ true → any p (take n xs) ≡ true
 any-take p [] n i d h k e = absurd (omega arith)

@@ -7,7 +7,7 @@ ghost use mathlib.Core.Path.{_≡_};
 ghost use mathlib.Core.Bool.{_&&_};
 ghost use Prim.Native.Nat.{_+_, _-_, _%_, _≤_, _<_, min};
 ghost use lib.Dec.{leb, ltb};
-ghost use lib.ListN.{length, take};
+ghost use lib.ListN.{take};
 ghost use Rattle.pieces.specs.Pieces.{rowOf, Laid, Overlaps, cutBefore, StretchIs, NextIs};
 
 // Units of a range: those from `from` below `to`.

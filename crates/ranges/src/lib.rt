@@ -6,7 +6,6 @@ use rules::Range;
 use rules::Settings;
 use rules::Units;
 ghost use mathlib.Core.Path.{_≡_};
-ghost use mathlib.Core.Bool.{true};
 ghost use Prim.Native.Nat.{_^_, _<_, _≤_};
 ghost use lib.ListN.{length, take};
 ghost use mathlib.Core.List.{map};

@@ -11,6 +11,7 @@ pub mod Sessions
 pub mod Isolation
 pub mod StartLaws
 pub mod ReportLaws
+pub mod OnceLaws
 pub mod Theorems
 pub mod ScanLaws
 pub mod Promise

@@ -1,6 +1,6 @@
 -- Laws of the plain functions of lists, and of what holds of every element. Assumes nothing.
 use mathlib.Core.Path.{_≡_, refl, sym, ap, ap₂, subst, _∙_}
-use mathlib.Core.Bool.{Bool, true, false, _&&_, _||_, not, cond, true≢false}
+use mathlib.Core.Bool.{Bool, true, false, _&&_, _||_, not, cond, or-false, or-assoc, true≢false}
 use mathlib.Core.List.{List, [], _∷_, _++_, map, append-assoc}
 use mathlib.Core.Option.{some}
 use Prim.Native.Nat.{ℕ, zero, suc, _+_, _≤_, _<_, min}
@@ -245,6 +245,10 @@ or-right-false false b e = e
 pub any-left : {A : Type 0} (p : A → Bool) (xs ys : List A) → any p (xs ++ ys) ≡ false → any p xs ≡ false
 any-left p [] ys e = refl
 any-left p (x ∷ xs) ys e = or-neither (p x) (any p xs) (or-left-false (p x) (any p (xs ++ ys)) e) (any-left p xs ys (or-right-false (p x) (any p (xs ++ ys)) e))
+
+pub any-snoc : {A : Type 0} (p : A → Bool) (xs : List A) (y : A) → any p (xs ++ y ∷ []) ≡ (any p xs || p y)
+any-snoc p [] y = or-false (p y)
+any-snoc p (x ∷ xs) y = rw (any-snoc p xs y) (sym (or-assoc (p x) (any p xs) (p y)))
 
 pub any-last : {A : Type 0} (p : A → Bool) (xs : List A) (y : A) → any p (xs ++ y ∷ []) ≡ false → p y ≡ false
 any-last p [] y e = or-left-false (p y) false e

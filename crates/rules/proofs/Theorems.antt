@@ -23,6 +23,7 @@ use Rattle.rules.specs.Worked.{Case, cases, answered}
 use Rattle.rules.specs.declared.Settings.{Settings}
 use Rattle.rules.proofs.ListLaws.{map-at, some-inj}
 use Rattle.rules.proofs.RefusalLaws.{verdict-has}
+use Rattle.rules.proofs.OnceLaws.{once}
 use Rattle.rules.proofs.UnitLaws.{unitsFrom-sized, touches-iff}
 use Rattle.rules.proofs.SlotHistory.{Known, pendingBy-iff}
 use Rattle.rules.proofs.SoundLaws.{after-sound, fresh-sound, fresh-closed, closed-unsound}
@@ -100,6 +101,7 @@ shares-a-byte w u z = (
 pub demand-2 : Demand2
 demand-2 =
     record {
+      once = once;
       pending = pending-exactly;
       reports = λ s ks a b g rs p e k.
           let h : List Did = sessionHistory s ks a in

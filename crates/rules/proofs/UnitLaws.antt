@@ -133,7 +133,7 @@ unitsFrom-aligned s row before (r ∷ rs) h =
     (unitsFrom-aligned s (suc row) (before ++ r ∷ []) rs (h .1))
 
 -- between a multiple of s and a greater one lies s
-aligned-gap : (s x y : ℕ) → 0 < s → x % s ≡ 0 → y % s ≡ 0 → x < y → x + s ≤ y
+pub aligned-gap : (s x y : ℕ) → 0 < s → x % s ≡ 0 → y % s ≡ 0 → x < y → x + s ≤ y
 aligned-gap s x y z e f h = go (decLe (y / s) (x / s))
   where
     low : x / s * s ≡ x

@@ -6,12 +6,13 @@ use mathlib.Core.Logic.{_↔_}
 use mathlib.Core.Bool.{Bool, true, false, _&&_, not}
 use mathlib.Core.List.{List, [], _∷_, map}
 use mathlib.Core.Option.{none, some}
+use lib.Dec.{eqb}
 use lib.ListN.{length, take, drop, getD, getElem?}
 use Rattle.rules.specs.Lists.{all, any, join, member}
 use Rattle.rules.specs.Refusals.{refusal}
 use Rattle.rules.specs.Settings.{settingsOk, unitSize, bytesOf}
-use Rattle.rules.specs.Units.{Unit, Write, units, touches, mark, newly, pending}
-use Rattle.rules.specs.StartData.{startSize, startBytes, startData, startWritten, placed}
+use Rattle.rules.specs.Units.{Unit, Write, covers, units, touches, mark, newly, pending}
+use Rattle.rules.specs.StartData.{noRange, startSize, startBytes, startData, startWritten, placed}
 use Rattle.rules.specs.Report.{follows, runs, Descriptor, descriptor, Report, reportOn, marksLeft}
 use Rattle.rules.specs.ReportReader.{moreIn, suspendedIn, identifierIn, granularityIn, descriptorsIn, reportTests}
 use Rattle.rules.specs.Machine.{refused, slot, on, pendingIn, State, fresh, soundState, slotOf, Call, step, after, events, lent, stored, numberOf, newlyOf, noReport, reportOf}
@@ -51,6 +52,17 @@ pub record Pending (s : Settings) (ks : List Call) (a : ℕ) : Type 0 where
   pub exactly : (b : Bool) (g : ℕ) (rs : List Range) (p : List Bool) → slotOf (sessionEnd s ks) a ≡ slot b (on g rs p)
       → (n : ℕ) (u : Unit) → getElem? (units g rs) n ≡ some u
       → (getElem? p n ≡ some true) ↔ PendingBy (sessionHistory s ks a) u
+
+-- W2: "A unit covered by several ranges counts once and belongs to the earliest listed", of ranges that begin at multiples of the unit
+pub record Once (g : ℕ) (rs : List Range) : Type 0 where
+  -- a unit is covered by the range in whose row it stands, and by none that is listed before
+  pub own : (m : ℕ) (u : Unit) → getElem? (units g rs) m ≡ some u → covers (unitSize g) (getD rs (u .row) noRange) (u .address) ≡ true
+  pub earliest : (m : ℕ) (u : Unit) → getElem? (units g rs) m ≡ some u → any (λ r. covers (unitSize g) r (u .address)) (take (u .row) rs) ≡ false
+  -- each one that a range covers is there
+  pub there : (x : ℕ) → x % unitSize g ≡ 0 → any (λ r. covers (unitSize g) r x) rs ≡ true → any (λ (u : Unit). eqb (u .address) x) (units g rs) ≡ true
+  -- and once: no two have a byte in common
+  pub apart : (m n : ℕ) (u v : Unit) → getElem? (units g rs) m ≡ some u → getElem? (units g rs) n ≡ some v
+      → (x : ℕ) → (u .address ≤ x) × (x < u .address + u .size) → (v .address ≤ x) × (x < v .address + v .size) → m ≡ n
 
 -- each unit of a run follows the one before it, in one range
 abbrev pub isRow : List Unit → Bool
@@ -112,6 +124,7 @@ pub record Writes (w : Write) (us : List Unit) (p : List Bool) : Type 0 where
 
 -- all of it, after any session and of any controller
 pub record Demand2 : Type 1 where
+  pub once : (g : ℕ) (rs : List Range) → all (λ (r : Range). eqb (r .start % unitSize g) 0) rs ≡ true → Once g rs
   pub pending : (s : Settings) (ks : List Call) (a : ℕ) → Pending s ks a
   pub reports : (s : Settings) (ks : List Call) (a : ℕ) (b : Bool) (g : ℕ) (rs : List Range) (p : List Bool)
       → slotOf (sessionEnd s ks) a ≡ slot b (on g rs p) → (k : ℕ) → Reports b g k (units g rs) p

@@ -1,0 +1,137 @@
+-- Each unit of ranges that begin at multiples of the unit is there once, in the row of the earliest listed range that covers it. Assumes nothing.
+use mathlib.Core.Path.{_≡_, refl, sym, ap, subst, _∙_}
+use mathlib.Core.Bool.{Bool, true, false, _||_, not, cond, true≢false}
+use mathlib.Core.List.{List, [], _∷_, _++_, append-assoc}
+use mathlib.Core.Option.{none, some}
+use Prim.Native.Nat.{ℕ, zero, suc, _+_, _*_, _%_, _≤_, _<_}
+use native.Mathlib.Omega.{arith}
+use native.Mathlib.Nat.{suc-mul, zero-mul, add-mod-right}
+use native.Mathlib.Decide.{decLt}
+use lib.Dec.{leb, ltb, eqb}
+use lib.ListN.{length, take, getD, getElem?, length-append}
+use lib.Seq.{getD-at, take-at}
+use borrow.Author.Tests.{le-leb, lt-ltb, leb-true, ltb-true, eq-eqb, eqb-true, not-true}
+use Rattle.rules.specs.Lists.{all, any, keep}
+use Rattle.rules.specs.Settings.{unitSize}
+use Rattle.rules.specs.Units.{Unit, unitsOfRow, covers, uncovered, unitsFrom, units}
+use Rattle.rules.specs.StartData.{noRange}
+use Rattle.rules.specs.Demands.{Once}
+use Rattle.rules.specs.declared.Range.{Range}
+use Rattle.rules.proofs.ListLaws.{All, All-map, All-both, All-append, All-keep, All-kept, All-at, and-left, and-right, and-intro, or-intro-left, or-intro-right, or-neither, any-snoc, some-inj}
+use Rattle.rules.proofs.UnitLaws.{In, Free, Apart, Aligned, aligned-gap, unitSize-pos, unitsOfRow-row, unitsOfRow-within, unitsFrom-apart}
+
+-- ---- a unit stands in the row of the earliest range that covers it
+
+abbrev Own : ℕ → List Range → Unit → Type 0
+Own s rs u = (covers s (getD rs (u .row) noRange) (u .address) ≡ true) × (any (λ r. covers s r (u .address)) (take (u .row) rs) ≡ false)
+
+own-from : (s row : ℕ) (before rs : List Range) → 0 < s → length before ≡ row → All (Own s (before ++ rs)) (unitsFrom s row before rs)
+own-from s row before [] z e = tt
+own-from s row before (r ∷ rs) z e =
+    All-append (Own s (before ++ r ∷ rs)) (keep (uncovered s before) us) (unitsFrom s (suc row) (before ++ r ∷ []) rs)
+    (All-map one (keep (uncovered s before) us)
+    (All-both (λ u. uncovered s before u ≡ true) (λ u. (u .row ≡ row) × (covers s r (u .address) ≡ true)) (keep (uncovered s before) us) (All-kept (uncovered s before) us)
+    (All-keep (λ u. (u .row ≡ row) × (covers s r (u .address) ≡ true)) (uncovered s before) us
+    (All-both (λ u. u .row ≡ row) (λ u. covers s r (u .address) ≡ true) us (unitsOfRow-row row s (r .start) (r .length)) (All-map within us (unitsOfRow-within row s r))))))
+    (subst (λ l. All (Own s l) (unitsFrom s (suc row) (before ++ r ∷ []) rs)) (append-assoc before (r ∷ []) rs)
+    (own-from s (suc row) (before ++ r ∷ []) rs z (length-append before (r ∷ []) ∙ omega (arith, e))))
+  where
+    us : List Unit
+    us = unitsOfRow row s (r .start) (r .length)
+
+    within : (u : Unit) → (r .start ≤ u .address) × (u .address + u .size ≤ r .start + r .length * s) × (u .size ≡ s) → covers s r (u .address) ≡ true
+    within u w =
+        and-intro (leb (r .start) (u .address)) (ltb (u .address) (r .start + r .length * s)) (le-leb (r .start) (u .address) (w .0))
+        (lt-ltb (u .address) (r .start + r .length * s) (omega (arith, w .1, w .2, z)))
+
+    one : (u : Unit) → (uncovered s before u ≡ true) × ((u .row ≡ row) × (covers s r (u .address) ≡ true)) → Own s (before ++ r ∷ rs) u
+    one u h =
+        let here : length before ≡ u .row = e ∙ sym (h .1 .0) in (
+          ap (λ q. covers s q (u .address)) (getD-at before r rs noRange (u .row) here) ∙ h .1 .1,
+          ap (any (λ q. covers s q (u .address))) (take-at before (r ∷ rs) (u .row) here) ∙ not-true (any (λ q. covers s q (u .address)) before) (h .0),
+        )
+
+-- ---- each unit that a range covers is there
+
+abbrev begins : ℕ → List Unit → Bool
+begins x us = any (λ (u : Unit). eqb (u .address) x) us
+
+begins-left : (x : ℕ) (us vs : List Unit) → begins x us ≡ true → begins x (us ++ vs) ≡ true
+begins-left x [] vs e = absurd (true≢false (sym e))
+begins-left x (u ∷ us) vs e = go (begins-left x us vs) (eqb (u .address) x) e
+  where
+    go : (begins x us ≡ true → begins x (us ++ vs) ≡ true) → (b : Bool) → (b || begins x us) ≡ true → (b || begins x (us ++ vs)) ≡ true
+    go f true h = refl
+    go f false h = f h
+
+begins-right : (x : ℕ) (us vs : List Unit) → begins x vs ≡ true → begins x (us ++ vs) ≡ true
+begins-right x [] vs e = e
+begins-right x (u ∷ us) vs e = or-intro-right (eqb (u .address) x) (begins x (us ++ vs)) (begins-right x us vs e)
+
+row-begins : (f : Unit → Bool) (row s a n x : ℕ) → 0 < s → a % s ≡ 0 → x % s ≡ 0 → ((u : Unit) → u .address ≡ x → f u ≡ true) → a ≤ x → x < a + n * s
+    → begins x (keep f (unitsOfRow row s a n)) ≡ true
+row-begins f row s a zero x z e d free h k = absurd (omega (arith, k, h, zero-mul s))
+row-begins f row s a (suc n) x z e d free h k = go (row-begins f row s (a + s) n x z (add-mod-right a s ∙ e) d free) (decLt a x)
+  where
+    first : Unit
+    first = record { row = row; address = a; size = s }
+
+    rest : List Unit
+    rest = keep f (unitsOfRow row s (a + s) n)
+
+    later : begins x rest ≡ true → (b : Bool) → begins x (cond b (first ∷ rest) rest) ≡ true
+    later g true = or-intro-right (eqb a x) (begins x rest) g
+    later g false = g
+
+    go : (a + s ≤ x → x < a + s + n * s → begins x rest ≡ true) → Dec (a < x) → begins x (keep f (unitsOfRow row s a (suc n))) ≡ true
+    go g (yes l) = later (g (aligned-gap s a x z e d l) (omega (arith, k, suc-mul n s))) (f first)
+    go g (no l) = let q : a ≡ x = omega arith in rw (free first q) (or-intro-left (eqb a x) (begins x rest) (eq-eqb a x q))
+
+all-begin : (s row : ℕ) (before rs : List Range) (x : ℕ) → 0 < s → All (Aligned s) rs → x % s ≡ 0 → any (λ r. covers s r x) before ≡ false → any (λ r. covers s r x) rs ≡ true
+    → begins x (unitsFrom s row before rs) ≡ true
+all-begin s row before [] x z h d free e = absurd (true≢false (sym e))
+all-begin s row before (r ∷ rs) x z h d free e = go (all-begin s (suc row) (before ++ r ∷ []) rs x z (h .1) d) (covers s r x) refl e
+  where
+    own : List Unit
+    own = keep (uncovered s before) (unitsOfRow row s (r .start) (r .length))
+
+    go : (any (λ q. covers s q x) (before ++ r ∷ []) ≡ false → any (λ q. covers s q x) rs ≡ true → begins x (unitsFrom s (suc row) (before ++ r ∷ []) rs) ≡ true)
+        → (b : Bool) → covers s r x ≡ b → (b || any (λ q. covers s q x) rs) ≡ true → begins x (own ++ unitsFrom s (suc row) (before ++ r ∷ []) rs) ≡ true
+    go g true c k =
+        begins-left x own (unitsFrom s (suc row) (before ++ r ∷ []) rs)
+        (row-begins (uncovered s before) row s (r .start) (r .length) x z (h .0) d (λ u q. ap not (ap (λ a. any (λ p. covers s p a) before) q ∙ free))
+        (leb-true (r .start) x (and-left (leb (r .start) x) (ltb x (r .start + r .length * s)) c)) (ltb-true x (r .start + r .length * s) (and-right (leb (r .start) x) (ltb x (r .start + r .length * s)) c)))
+    go g false c k = begins-right x own (unitsFrom s (suc row) (before ++ r ∷ []) rs) (g (any-snoc (λ q. covers s q x) before r ∙ or-neither (any (λ q. covers s q x) before) (covers s r x) free c) k)
+
+-- ---- no two share a byte
+
+Apart-at : (us : List Unit) → Apart us → (m n : ℕ) (u v : Unit) → getElem? us m ≡ some u → getElem? us n ≡ some v → (x : ℕ) → In x u → In x v → m ≡ n
+Apart-at [] h m n u v e f x i j = absurd (none-some e)
+  where
+    none-some : {A : Type 0} {a : A} → none ≡ some a → ⊥
+    none-some q = let z : _≡_ {A = ℕ} 0 1 = cc in absurd (omega arith)
+Apart-at (w ∷ us) h zero zero u v e f x i j = refl
+Apart-at (w ∷ us) h zero (suc n) u v e f x i j = absurd (All-at (Free w) us n v (h .0) f x (subst (In x) (sym (some-inj e)) i) j)
+Apart-at (w ∷ us) h (suc m) zero u v e f x i j = absurd (All-at (Free w) us m u (h .0) e x (subst (In x) (sym (some-inj f)) j) i)
+Apart-at (w ∷ us) h (suc m) (suc n) u v e f x i j = ap suc (Apart-at us (h .1) m n u v e f x i j)
+
+-- ---- all of it
+
+aligned-of : (s : ℕ) (rs : List Range) → all (λ (r : Range). eqb (r .start % s) 0) rs ≡ true → All (Aligned s) rs
+aligned-of s [] e = tt
+aligned-of s (r ∷ rs) e = (
+  eqb-true (r .start % s) 0 (and-left (eqb (r .start % s) 0) (all (λ (q : Range). eqb (q .start % s) 0) rs) e),
+  aligned-of s rs (and-right (eqb (r .start % s) 0) (all (λ (q : Range). eqb (q .start % s) 0) rs) e),
+)
+
+pub once : (g : ℕ) (rs : List Range) → all (λ (r : Range). eqb (r .start % unitSize g) 0) rs ≡ true → Once g rs
+once g rs e =
+    let s = unitSize g in
+    let h = aligned-of s rs e in
+    let o = own-from s 0 [] rs (unitSize-pos g) refl in
+    record {
+      own = λ m u q. All-at (Own s rs) (units g rs) m u o q .0;
+      earliest = λ m u q. All-at (Own s rs) (units g rs) m u o q .1;
+      there = λ x d c. all-begin s 0 [] rs x (unitSize-pos g) h d refl c;
+      apart = λ m n u v p q x i j. Apart-at (units g rs) (unitsFrom-apart s 0 [] rs (unitSize-pos g) h) m n u v p q x i j;
+    }
