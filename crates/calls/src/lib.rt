@@ -5,6 +5,8 @@
 use record::Place;
 use rules::Device;
 ghost use mathlib.Core.Path.{_≡_};
+ghost use Prim.Native.Nat.{_<_};
+ghost use Rattle.calls.specs.Calls.{shareAt};
 ghost use Rattle.calls.specs.Inner.{placeNumber};
 
 // The answer of a call that may change the record: its number, and the record as it is afterwards.
@@ -26,6 +28,17 @@ pub struct Received {
     pub more: bool,
     pub granularity: u8,
     pub runs: usize,
+}
+
+// The bits of each controller's share of the marks: 64 words.
+pub const SHARE: usize = 4096;
+
+// The first bit of the share of the controller at a place.
+pub fn share_at(i: usize) -> usize
+    requires { ⌜ i < 8 ⌝ }
+    ensures { λ r. ⌜ r ≡ shareAt i ⌝ }
+{
+    SHARE * i
 }
 
 // The number of a refused place.

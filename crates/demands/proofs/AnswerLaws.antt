@@ -8,7 +8,7 @@ use Prim.Native.Nat.{ℕ}
 use lib.Dec.{eqb}
 use lib.ListN.{length}
 use Rattle.rules.specs.Refusals.{Test, verdict, refusal}
-use Rattle.rules.specs.Settings.{settingsOk}
+use Rattle.rules.specs.Settings.{markWords, settingsOk}
 use Rattle.rules.specs.Units.{Write}
 use Rattle.rules.specs.Order.{freshOrder}
 use Rattle.rules.specs.Device.{closedDevice, freshOf}
@@ -20,7 +20,7 @@ use Rattle.rules.specs.declared.Tracking.the-variants.{Off, On}
 use Rattle.rules.proofs.RefusalLaws.{verdict-has, verdict-map}
 use Rattle.record.specs.Record.{controllerAt}
 use Rattle.calls.specs.Calls.{shareAt, freshChange, startDone, stopDone, flagDone, noteIn, writeDone, receiveIn, receiveDone}
-use Rattle.demands.specs.Demands.{Answers}
+use Rattle.demands.specs.Demand1.{Answers}
 
 -- what a table's call answers: the first test's number, and refused what is had of every refusal
 pub answers : (A : Type 0) (number : A → ℕ) (was : A → Type 0) (ts : List Test) (end : A) (refuse : ℕ → A)
@@ -68,9 +68,9 @@ receive-zero d ws id x (some i) = report-zero ws (shareAt i) id (controllerAt d 
 pub fresh-answers : (s : Settings) (ws : List ℕ)
     → Answers (freshChange s ws .answer .number) (freshOrder s (length ws)) ((freshChange s ws .answer .device ≡ closedDevice) × (freshChange s ws .marks ≡ ws))
 unfolding freshChange freshOf
-fresh-answers s ws = go (settingsOk s) (eqb (length ws) 512) refl refl
+fresh-answers s ws = go (settingsOk s) (eqb (length ws) markWords) refl refl
   where
-    go : (a b : Bool) → settingsOk s ≡ a → eqb (length ws) 512 ≡ b
+    go : (a b : Bool) → settingsOk s ≡ a → eqb (length ws) markWords ≡ b
         → Answers (freshChange s ws .answer .number) (freshOrder s (length ws)) ((freshChange s ws .answer .device ≡ closedDevice) × (freshChange s ws .marks ≡ ws))
     go true true e f = rw (e, f) (record { first = refl; refused = λ h. absurd (h refl) })
     go true false e f = rw (e, f) (record { first = refl; refused = λ h. (refl, refl) })

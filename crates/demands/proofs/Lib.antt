@@ -4,4 +4,8 @@ pub mod StepLaws
 pub mod SessionLaws
 pub mod AnswerLaws
 pub mod ClosedLaws
-pub mod Theorems
+pub mod Demand1
+pub mod Demand2
+pub mod Structures
+pub mod Demand3
+pub mod Determinacy

@@ -8,9 +8,9 @@ use lib.Dec.{eqb}
 use lib.ListN.{length, take, replicate, length-replicate}
 use lib.Seq.{length-take-le}
 use borrow.Author.Tests.{eq-eqb, eqb-true}
-use Rattle.rules.specs.Settings.{settingsOk, identifiersOf}
+use Rattle.rules.specs.Settings.{markWords, settingsOk, identifiersOf}
 use Rattle.rules.specs.Device.{cleaned, freshController, freshOf}
-use Rattle.rules.specs.Machine.{Answer, freshSlot, State, fresh, Call, Event, step, after, events, lent, stored}
+use Rattle.rules.specs.Machine.{Answer, freshSlot, State, opened, Call, Event, step, after, events, lent, stored}
 use Rattle.rules.specs.History.{historyOf}
 use Rattle.rules.specs.Demands.{lentBytes}
 use Rattle.rules.specs.declared.Settings.{Settings}
@@ -38,31 +38,22 @@ off-listed : (n : ℕ) → All Listed (replicate n freshController)
 off-listed zero = tt
 off-listed (suc n) = ((λ g m e. let z : _≡_ {A = ℕ} 0 1 = cc in absurd (omega arith)), off-listed n)
 
--- what fresh leaves is the rules' fresh device, or closed as theirs
+-- what an accepted fresh leaves is the rules' fresh device
 pub record Begins (s : Settings) (l : Left) : Type 0 where
-  pub state : view (l .device) (l .marks) ≡ fresh s
+  pub state : view (l .device) (l .marks) ≡ opened s
   pub fits : Fits (l .device) (l .marks)
 
-pub begins : (s : Settings) (ws : List ℕ) → length (s .identifiers) ≡ 8 → length ws ≡ 512 → Begins s (begun s ws)
-unfolding fresh freshChange freshOf
-begins s ws eight whole = go (settingsOk s) refl
-  where
-    go : (b : Bool) → settingsOk s ≡ b → Begins s (begun s ws)
-    go true e =
-        let few = settingsOk-count s e in
-        rw (e, eq-eqb (length ws) 512 whole, whole)
-        (record {
-          state =
-              rw e (ap (λ l. record { settings = cleaned s; slots = l })
-              (ap (slotsFrom (replicate 512 0) 0) (take-replicate (s .count) 8 freshController few)
-              ∙ slots-fresh (replicate 512 0) (identifiersOf s) 0 (s .count) (length-take-le (s .count) (s .identifiers) (omega (arith, eight)))));
-          fits = record { controllers = length-replicate 8 freshController; listed = off-listed 8; words = length-replicate {A = ℕ} 512 0 };
-        })
-    go false e =
-        rw e (record {
-          state = rw e;
-          fits = record { controllers = length-replicate 8 freshController; listed = off-listed 8; words = whole };
-        })
+pub begins : (s : Settings) (ws : List ℕ) → length (s .identifiers) ≡ 8 → settingsOk s ≡ true → length ws ≡ markWords → Begins s (begun s ws)
+unfolding freshChange freshOf
+begins s ws eight e whole =
+    rw (e, eq-eqb (length ws) markWords whole, whole)
+    (record {
+      state =
+          ap (λ l. record { settings = cleaned s; slots = l })
+          (ap (slotsFrom (replicate markWords 0) 0) (take-replicate (s .count) 8 freshController (settingsOk-count s e))
+          ∙ slots-fresh (replicate markWords 0) (identifiersOf s) 0 (s .count) (length-take-le (s .count) (s .identifiers) (omega (arith, eight, settingsOk-count s e))));
+      fits = record { controllers = length-replicate 8 freshController; listed = off-listed 8; words = length-replicate {A = ℕ} markWords 0 };
+    })
 
 -- ---- the calls
 
@@ -71,18 +62,15 @@ pub record Same (l : Left) (st : State) (ks : List Call) : Type 0 where
   pub state : view (leftAfter l ks .device) (leftAfter l ks .marks) ≡ after st ks
   pub told : answersTo l ks ≡ events st ks
   pub bytes : (a : ℕ) → bytesTo a l ks ≡ lentBytes a (historyOf a (answersTo l ks))
-  pub fits : Fits (leftAfter l ks .device) (leftAfter l ks .marks)
 
-pub same : (ks : List Call) (l : Left) (st : State) → view (l .device) (l .marks) ≡ st → Fits (l .device) (l .marks) → Same l st ks
-same [] l st e h = record { state = e; told = refl; bytes = λ a. refl; fits = h }
-same (k ∷ ks) l st e h =
-    let w : Like (k .id) (lent (k .op)) (run (l .device) (l .marks) k) ((step st k) .0) ((step st k) .1) = rw e at (call-step (l .device) (l .marks) h k) in
-    let r = same ks (next l k) ((step st k) .1) (w .state) (w .fits) in
+-- one call, and then the others
+pub same-next : (k : Call) (ks : List Call) (l : Left) (st : State) → outcome l k .answer ≡ (step st k) .0 → outcome l k .bytes ≡ stored (k .id) (lent (k .op)) (outcome l k .answer)
+    → Same (next l k) ((step st k) .1) ks → Same l st (k ∷ ks)
+same-next k ks l st answer bytes r =
     record {
       state = r .state;
-      told = ap₂ (λ (a : Answer) (es : List Event). record { call = k; answer = a } ∷ es) (w .answer) (r .told);
-      bytes = λ a. bytes-of a (eqb (k .id) a) refl (w .bytes) (r .bytes a);
-      fits = r .fits;
+      told = ap₂ (λ (a : Answer) (es : List Event). record { call = k; answer = a } ∷ es) answer (r .told);
+      bytes = λ a. bytes-of a (eqb (k .id) a) refl bytes (r .bytes a);
     }
   where
     bytes-of : (a : ℕ) (b : Bool) → eqb (k .id) a ≡ b → outcome l k .bytes ≡ stored (k .id) (lent (k .op)) (outcome l k .answer)
@@ -91,3 +79,14 @@ same (k ∷ ks) l st e h =
         ≡ lentBytes a (cond b (record { op = k .op; answer = outcome l k .answer } ∷ historyOf a (answersTo (next l k) ks)) (historyOf a (answersTo (next l k) ks)))
     bytes-of a true q p ih = ap₂ (λ (x : List ℕ) (xs : List (List ℕ)). x ∷ xs) (p ∙ rw (eqb-true (k .id) a q)) ih
     bytes-of a false q p ih = ih
+
+pub same : (ks : List Call) (l : Left) (st : State) → view (l .device) (l .marks) ≡ st → Fits (l .device) (l .marks) → Same l st ks
+same [] l st e h = record { state = e; told = refl; bytes = λ a. refl }
+same (k ∷ ks) l st e h =
+    let w : Like (k .id) (lent (k .op)) (run (l .device) (l .marks) k) ((step st k) .0) ((step st k) .1) = rw e at (call-step (l .device) (l .marks) h k) in
+    same-next k ks l st (w .answer) (w .bytes) (same ks (next l k) ((step st k) .1) (w .state) (w .fits))
+
+-- what each call leaves fits the next
+pub fits-after : (ks : List Call) (l : Left) → Fits (l .device) (l .marks) → Fits (leftAfter l ks .device) (leftAfter l ks .marks)
+fits-after [] l h = h
+fits-after (k ∷ ks) l h = fits-after ks (next l k) (call-step (l .device) (l .marks) h k .fits)

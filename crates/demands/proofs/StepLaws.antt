@@ -6,7 +6,7 @@ use mathlib.Core.List.{List, [], _∷_}
 use mathlib.Core.Option.{Option, none, some}
 use Prim.Native.Nat.{ℕ, zero, suc, _+_, _≤_, _<_}
 use native.Mathlib.Omega.{arith}
-use lib.Dec.{leb, eqb}
+use lib.Dec.{eqb}
 use lib.ListN.{length, getD, set, take, replicate, length-replicate, length-set}
 use lib.Seq.{set-getD}
 use borrow.Author.Tests.{ne-eqb}
@@ -14,12 +14,12 @@ use Rattle.bits.proofs.Share.{getShare-length}
 use Rattle.bits.proofs.Flat.{flat-length}
 use Rattle.little.proofs.Put.{put-take-front, put-length}
 use Rattle.rules.specs.Lists.{join}
-use Rattle.rules.specs.Refusals.{Test, _else_, verdict}
-use Rattle.rules.specs.Settings.{placeOf}
+use Rattle.rules.specs.Refusals.{Test, verdict}
+use Rattle.rules.specs.Settings.{markWords, placeOf}
 use Rattle.rules.specs.Units.{Unit, Write, units, clear, mark}
 use Rattle.rules.specs.StartData.{granularityOf, countOf, rangesOf, noRange, placed}
 use Rattle.rules.specs.Report.{room, marksLeft, reportedRuns}
-use Rattle.rules.specs.Order.{Op, start, stop, write, receive, suspend, resume, Seen, order}
+use Rattle.rules.specs.Order.{Op, start, stop, write, receive, suspend, resume, Seen, startShared, order}
 use Rattle.rules.specs.Device.{soundDevice}
 use Rattle.rules.specs.Ranges.{listTests}
 use Rattle.rules.specs.Machine.{Answer, refused, done, wrote, reported, on, Slot, slot, accepted, slotStep, State, slotAt, withSlot, seenAt, stepAt, Call, step, lent, stored, noReport}
@@ -38,7 +38,7 @@ use Rattle.rules.proofs.Isolation.{withSlot-slotAt}
 use Rattle.record.specs.Record.{soundWith, noController, controllerAt, withController, isOn, seenIn}
 use Rattle.ranges.proofs.RangeLaws.{listTests-numbers, listTests-facts}
 use Rattle.record.proofs.RecordLaws.{soundDevice-facts, soundDevice-held}
-use Rattle.calls.specs.Calls.{shareAt, marksAt, withMarks, withClear, Change, changed, started, startDone, startChange, stopped, stopDone, stopChange, flagged, flagDone, suspendChange, resumeChange, Note, noted, noteIn, writeDone, writeNote, Receipt, received, receiveIn, receiveDone, receiveReceipt}
+use Rattle.calls.specs.Calls.{shareSize, shareAt, marksAt, withMarks, withClear, Change, changed, started, startDone, startChange, stopped, stopDone, stopChange, flagged, flagDone, suspendChange, resumeChange, Note, noted, noteIn, writeDone, writeNote, Receipt, received, receiveIn, receiveDone, receiveReceipt}
 use Rattle.calls.specs.declared.Changed.{Changed}
 use Rattle.demands.specs.View.{marksOf, slotOf, view, Outcome, answered, changes, flags, notes, receipts, runAs, run}
 use Rattle.demands.proofs.MarkLaws.{clear-length, clear-own, clear-other, put-length as marks-length, put-own, put-other}
@@ -47,7 +47,7 @@ use Rattle.demands.proofs.ViewLaws.{Listed, Fits, slot-at, seen-same, p
 -- ---- the tables
 
 -- no test of a call has the number 0
-order-numbers : (s : Settings) (v : Seen) (o : Op) → All (λ (t : Test). 1 ≤ t .number) (order s v o)
+pub order-numbers : (s : Settings) (v : Seen) (o : Op) → All (λ (t : Test). 1 ≤ t .number) (order s v o)
 unfolding order
 order-numbers s v (start x) = (
   omega arith,
@@ -65,7 +65,7 @@ order-numbers s v (start x) = (
               omega arith,
               (
                 omega arith,
-                All-append (λ (t : Test). 1 ≤ t .number) (listTests s (granularityOf x) (countOf x) (rangesOf x)) ((leb (countOf x + v .counts) (s .limit) else 12) ∷ [])
+                All-append (λ (t : Test). 1 ≤ t .number) (listTests s (granularityOf x) (countOf x) (rangesOf x)) (startShared s (v .counts) x)
                     (listTests-numbers s (granularityOf x) (countOf x) (rangesOf x)) (omega arith, tt),
               ),
             ),
@@ -160,7 +160,7 @@ module _ (d : Device) (ws : List ℕ) (fits : Fits d ws) (id : ℕ) where
 
     sure : soundDevice d ≡ true
     unfolding soundWith
-    sure = and-left (soundDevice d) (eqb (length ws) 512) sound
+    sure = and-left (soundDevice d) (eqb (length ws) markWords) sound
 
     most : d .settings .count ≤ 8
     most = soundDevice-facts d sure .count
@@ -171,11 +171,11 @@ module _ (d : Device) (ws : List ℕ) (fits : Fits d ws) (id : ℕ) where
     listed : Listed c
     listed = All-getD Listed (d .controllers) i noController (λ g n e. let z : _≡_ {A = ℕ} 0 1 = cc in absurd (omega arith)) (fits .listed)
 
-    held : (j g n : ℕ) → j < d .settings .count → getD (d .controllers) j noController .tracking ≡ On g n → length (units g (take n (getD (d .controllers) j noController .ranges))) ≤ 4096
+    held : (j g n : ℕ) → j < d .settings .count → getD (d .controllers) j noController .tracking ≡ On g n → length (units g (take n (getD (d .controllers) j noController .ranges))) ≤ shareSize
     held j g n h e = soundDevice-held d j g n sure h (omega (arith, most, fits .controllers)) e .total
 
     -- it is replaced, and the marks of other places are as they were
-    replaced : (e : Controller) (ws′ : List ℕ) → ((j n : ℕ) → j ≢ i → j < 8 → n ≤ 4096 → marksAt ws′ (shareAt j) n ≡ marksAt ws (shareAt j) n)
+    replaced : (e : Controller) (ws′ : List ℕ) → ((j n : ℕ) → j ≢ i → j < 8 → n ≤ shareSize → marksAt ws′ (shareAt j) n ≡ marksAt ws (shareAt j) n)
         → view (withController d i e) ws′ ≡ withSlot st (some i) (slotOf ws′ (shareAt i) e)
     replaced e ws′ same = view-with d ws ws′ i e (fits .controllers) most used (λ j other h. go j other h (getD (d .controllers) j noController .tracking) refl)
       where
@@ -187,7 +187,7 @@ module _ (d : Device) (ws : List ℕ) (fits : Fits d ws) (id : ℕ) where
             let k = getD (d .controllers) j noController in
             ap (λ m. slot (k .suspended) (on g (take n (k .ranges)) m)) (same j (length (units g (take n (k .ranges)))) other (omega (arith, most)) (held j g n h q))
 
-    still : (e : Controller) (ws′ : List ℕ) → Listed e → length ws′ ≡ 512 → Fits (withController d i e) ws′
+    still : (e : Controller) (ws′ : List ℕ) → Listed e → length ws′ ≡ markWords → Fits (withController d i e) ws′
     still e ws′ h k =
         record {
           controllers = length-set (d .controllers) i e ∙ fits .controllers;
@@ -257,7 +257,7 @@ module _ (d : Device) (ws : List ℕ) (fits : Fits d ws) (id : ℕ) where
         → view d (withMarks ws (shareAt i) p) ≡ withSlot st (some i) (slot (c .suspended) (on g (take n (c .ranges)) p))
     marks-put g n p e h =
         let us = units g (take n (c .ranges)) in
-        let few : length p ≤ 4096 = omega (arith, h, held i g n used e) in
+        let few : length p ≤ shareSize = omega (arith, h, held i g n used e) in
         let ws′ = withMarks ws (shareAt i) p in
         sym (ap (λ (r : Device). view r ws′) same-record)
         ∙ replaced c ws′ (put-other ws (fits .words) i below p few)

@@ -12,7 +12,7 @@ use lib.ListN.{length, getD, set, take, length-take, length-set}
 use lib.Seq.{ext-getD, getD-set-same, getD-set-other, length-take-le}
 use borrow.Author.Tests.{eq-eqb, eqb-true, eqb-false}
 use Rattle.rules.specs.Lists.{sum}
-use Rattle.rules.specs.Settings.{placeOf}
+use Rattle.rules.specs.Settings.{markWords, placeOf}
 use Rattle.rules.specs.Device.{heldCount, heldIn, heldOf, controllersOf, sound, soundDevice}
 use Rattle.rules.specs.Machine.{Slot, slot, freshSlot, isTracked, heldBy, slotAt, withSlot, soundState, countsIn, seenAt}
 use Rattle.rules.specs.declared.Range.{Range}
@@ -35,7 +35,7 @@ Listed c = (g n : ℕ) → c .tracking ≡ On g n → n ≤ length (c .ranges)
 pub record Fits (d : Device) (ws : List ℕ) : Type 0 where
   pub controllers : length (d .controllers) ≡ 8
   pub listed : All Listed (d .controllers)
-  pub words : length ws ≡ 512
+  pub words : length ws ≡ markWords
 
 -- ---- the slot at a place
 
@@ -84,7 +84,7 @@ module _ (d : Device) (ws : List ℕ) (fits : Fits d ws) where
 
   sound-with : soundWith d (length ws) ≡ soundState (view d ws)
   unfolding soundWith
-  sound-with = rw (eq-eqb (length ws) 512 (fits .words)) (and-true (soundDevice d) ∙ sym sound-same)
+  sound-with = rw (eq-eqb (length ws) markWords (fits .words)) (and-true (soundDevice d) ∙ sym sound-same)
 
   counts-same : countsOf d ≡ countsIn (view d ws)
   counts-same = ap (λ hs. sum (map heldCount hs)) (sym held-same)

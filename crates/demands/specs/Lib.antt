@@ -1,3 +1,7 @@
 pub mod View
 pub mod Sessions
-pub mod Demands
+pub mod Demand1
+pub mod Demand2
+pub mod Structures
+pub mod Demand3
+pub mod Determinacy

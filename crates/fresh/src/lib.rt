@@ -4,6 +4,7 @@
 use calls::Changed;
 use rules::Controller;
 use rules::Device;
+use rules::MARK_WORDS;
 use rules::Settings;
 use rules::Tracking;
 ghost use mathlib.Core.Path.{_≡_};
@@ -68,11 +69,11 @@ pub fn fresh(s: Settings, marks: &mut [u64]) -> Changed
         let device = closed();
         return Changed { number: 16, device };
     }
-    if marks.len() != 512 {
+    if marks.len() != MARK_WORDS {
         let device = closed();
         return Changed { number: 1, device };
     }
-    bits::clear_span(marks, 0, 32768);
+    bits::clear_span(marks, 0, 64 * MARK_WORDS);
     let device = untracked(clean(s));
     Changed { number: 0, device }
 }

@@ -1,4 +1,3 @@
 mod WordLaws
 mod GatherLaws
 mod LineLaws
-pub mod Promise

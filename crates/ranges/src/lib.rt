@@ -2,6 +2,7 @@
 
 use pieces::NextPiece;
 use rules::Bytes;
+use rules::MOST_UNITS;
 use rules::Range;
 use rules::Settings;
 use rules::Units;
@@ -142,11 +143,11 @@ fn units_ok(g: u8, n: usize, ranges: [Range; 16]) -> bool
     ensures { λ x. ⌜ x ≡ unitsOk g (take n ranges) ⌝ }
 {
     let most = lengths(n, ranges);
-    if most.0 <= 4096 {
+    if most.0 <= MOST_UNITS {
         return true;
     }
     let total = units_in(g, n, ranges);
-    total.0 <= 4096
+    total.0 <= MOST_UNITS
 }
 
 // The refusal of n listed ranges: the first of 9, 10 and 11 that they break, or 0. Ranges past the first n are not looked at.

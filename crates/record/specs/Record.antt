@@ -7,7 +7,7 @@ use mathlib.Core.Option.{Option, none, some}
 use lib.Dec.{eqb}
 use lib.ListN.{getD, set}
 use Rattle.rules.specs.Lists.{sum, isSome}
-use Rattle.rules.specs.Settings.{placeOf}
+use Rattle.rules.specs.Settings.{markWords, placeOf}
 use Rattle.rules.specs.Order.{Seen}
 use Rattle.rules.specs.Device.{heldCount, heldOf, controllersOf, soundDevice}
 use Rattle.rules.specs.declared.Tracking.{Tracking}
@@ -17,9 +17,9 @@ use Rattle.rules.specs.declared.Device.{Device}
 use Rattle.record.specs.declared.Place.{Place}
 use Rattle.record.specs.declared.Place.the-variants as place
 
--- refusal 1: the record is sound and the marks are 512 words
+-- refusal 1: the record is sound and the marks have their words
 unfoldable pub soundWith : Device → ℕ → Bool
-soundWith d words = soundDevice d && eqb words 512
+soundWith d words = soundDevice d && eqb words markWords
 
 -- refusals 1 and 2, or the place of the call's controller
 abbrev pub placeAt : Option ℕ → Place

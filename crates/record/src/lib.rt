@@ -3,6 +3,7 @@
 
 use rules::Controller;
 use rules::Device;
+use rules::MARK_WORDS;
 use rules::Settings;
 use rules::Tracking;
 use settings::Found;
@@ -88,12 +89,12 @@ pub fn sound(d: Device) -> bool
     counts(d) <= s.limit as usize
 }
 
-// Where a call that lends so many words of marks finds its controller. Refused, in this order: 1 where the words are not 512 or the record is
+// Where a call that lends so many words of marks finds its controller. Refused, in this order: 1 where there are not as many as marks have or the record is
 // unsound, 2 where the identifier is not in the settings.
 pub fn locate(d: Device, words: usize, id: u16) -> Place
     ensures { λ r. ⌜ r ≡ whereIs d words id ⌝ }
 {
-    if words != 512 {
+    if words != MARK_WORDS {
         return Place::Refused(1);
     }
     if !sound(d) {

@@ -9,10 +9,9 @@ use native.Mathlib.Decide.{decLe}
 use lib.Dec.{ltb, eqb}
 use lib.ListN.{length}
 use borrow.Author.Tests.{leb-true, ltb-true, eq-eqb, le-ltb, lt-ltb}
-use Rattle.rules.specs.Refusals.{Test, _else_, refusal, passes}
+use Rattle.rules.specs.Refusals.{Test, _else_, refusal, orZero, passes}
 use Rattle.rules.specs.Report.{Descriptor}
-use Rattle.rules.specs.ReportReader.{reportSize, countIn, granularityIn, descriptorsIn, descriptorTests, reportTests, indexTests, orZero}
-use Rattle.report_reader.specs.Reading.{bit}
+use Rattle.rules.specs.ReportReader.{reportSize, countIn, granularityIn, descriptorsIn, descriptorTests, reportTests, indexTests, bit}
 use Rattle.rules.proofs.ListLaws.{All, All-append}
 use Rattle.rules.proofs.RefusalLaws.{Passed, verdict-passed, verdict-number, passes-Passed, Passed-left, Passed-right, refusal-none, refusal-first, refusal-rest}
 

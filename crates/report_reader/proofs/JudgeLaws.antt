@@ -9,13 +9,13 @@ use lib.Dec.{eqb}
 use lib.ListN.{length}
 use borrow.Author.Tests.{le-leb, lt-leb, eq-eqb, ne-eqb}
 use Rattle.little.proofs.Records.{recordsAt-length}
-use Rattle.rules.specs.Refusals.{refusal}
-use Rattle.rules.specs.ReportReader.{reportSize, versionIn, moreIn, countIn, granularityIn, descriptorAt, descriptorsIn, descriptorTests, reportTests, indexOf}
+use Rattle.rules.specs.Refusals.{refusal, placeIn}
+use Rattle.rules.specs.ReportReader.{reportSize, versionIn, moreIn, countIn, granularityIn, descriptorAt, descriptorsIn, descriptorTests, reportTests}
 use Rattle.report_reader.specs.declared.Judged.{Judged}
 use Rattle.report_reader.proofs.ReadingLaws.{firstBad, descriptors-bad, descriptors-good}
 
 abbrev pub judgedOf : List ℕ → Judged
-judgedOf x = record { number = refusal (reportTests x); index = indexOf (reportTests x) }
+judgedOf x = record { number = refusal (reportTests x); index = placeIn (reportTests x) }
 
 abbrev judged : ℕ → ℕ → Judged
 judged n i = record { number = n; index = i }
@@ -51,7 +51,7 @@ module _ (x : List ℕ) where
             unfolding reportTests
             refusal-last = rw (le-leb 16 (length x) h, eq-eqb (versionIn x) 0 v, le-leb (granularityIn x) 20 g, m, le-leb (reportSize (countIn x)) (length x) r)
 
-            index-last : indexOf (reportTests x) ≡ indexOf (descriptorTests (granularityIn x) 0 (descriptorsIn x))
+            index-last : placeIn (reportTests x) ≡ placeIn (descriptorTests (granularityIn x) 0 (descriptorsIn x))
             unfolding reportTests
             index-last = rw (le-leb 16 (length x) h, eq-eqb (versionIn x) 0 v, le-leb (granularityIn x) 20 g, m, le-leb (reportSize (countIn x)) (length x) r)
 

@@ -3,4 +3,3 @@ pub mod JudgeLaws
 pub mod AnswerLaws
 pub mod RunFacts
 pub mod ReadBack
-pub mod Promise

@@ -2,10 +2,11 @@
 use mathlib.Core.Path.{_≡_, refl, sym, ap, ap₂, _∙_}
 use mathlib.Core.Bool.{Bool, true, false, _&&_, and-false, true≢false}
 use mathlib.Core.List.{List, [], _∷_, _++_, map, append-assoc}
+use mathlib.Core.Option.{some}
 use Prim.Native.Nat.{ℕ, zero, suc, _+_, _-_, _*_, _/_, _%_, _^_, _≤_, _<_}
 use native.Mathlib.Omega.{arith}
 use lib.Dec.{eqb}
-use lib.ListN.{length, getD, take, drop, length-map, length-take}
+use lib.ListN.{length, getD, getElem?, take, drop, length-map, length-take}
 use lib.Seq.{drop-nil}
 use borrow.Author.Tests.{ne-eqb}
 use Rattle.little.specs.Little.{numberBytes, put, records}
@@ -15,15 +16,16 @@ use Rattle.little.proofs.Records.{records-here, recordsAt-is}
 use Rattle.rules.specs.Lists.{nonEmpty}
 use Rattle.rules.specs.Units.{units, pending}
 use Rattle.rules.specs.Report.{runs, Descriptor, descriptor, Report, room, reportOn, flag, descriptorBytes, reportBytes}
-use Rattle.rules.specs.ReportReader.{versionIn, moreIn, suspendedIn, identifierIn, countIn, granularityIn, descriptorAt, descriptorsIn, descriptorTests}
+use Rattle.rules.specs.ReportReader.{versionIn, moreIn, suspendedIn, identifierIn, countIn, granularityIn, descriptorAt, descriptorOf, descriptorsIn, descriptorTests, bit, reportRefusal, reportRefusalAt, reportAddress, reportLength}
 use Rattle.rules.specs.Demands.{ReadBack}
 use Rattle.rules.specs.declared.Range.{Range}
-use Rattle.rules.proofs.ListLaws.{All}
+use Rattle.rules.proofs.ListLaws.{All, getElem?-at}
 use Rattle.rules.proofs.RefusalLaws.{Passed, verdict-passed}
 use Rattle.report_data.proofs.Blocks.{descriptorBytes-length, reportBytes-length}
 use Rattle.ranges.proofs.RangeLaws.{RowFacts}
 use Rattle.report_reader.specs.declared.Judged.{Judged}
 use Rattle.report_reader.proofs.JudgeLaws.{judged-good}
+use Rattle.report_reader.proofs.AnswerLaws.{accepted-answer, index-past, index-within, index-answer}
 use Rattle.report_reader.proofs.RunFacts.{Fitting, listed-fit, runs-few}
 
 -- ---- any report whose fields fit their bytes
@@ -134,23 +136,41 @@ module _ (id : ℕ) (r : Report) (x : List ℕ) (fits : 16 + 16 * length (r .des
     none-bad i [] h = tt
     none-bad i (d ∷ ds) h = (h .0 .good, none-bad (suc i) ds (h .1))
 
-    pub report-back : (r .more ≡ true → 0 < length (r .descriptors)) → ReadBack id r stored
-    report-back more =
-        record {
-          accepted =
-              sym (ap (λ (j : Judged). j .number) (judged-good stored (omega (arith, put-length x 0 (reportBytes id r), fits)) version-back (omega (arith, granularity-back, g)) (no-more (r .more) refl)
-              (omega (arith, put-length x 0 (reportBytes id r), fits, count-back)) (countIn stored)
-              (sym (rw (granularity-back, runs-back, count-back) (verdict-passed (descriptorTests (r .granularity) 0 (r .descriptors)) (length (r .descriptors)) (λ k j. j) (none-bad 0 (r .descriptors) each)))) (omega arith)));
-          identifier = identifier-back;
-          suspended = suspended-back;
-          more = more-back;
-          granularity = granularity-back;
-          runs = runs-back;
-        }
-      where
-        no-more : (b : Bool) → r .more ≡ b → (moreIn stored && eqb (countIn stored) 0) ≡ false
-        no-more true e = rw (count-back, ne-eqb (length (r .descriptors)) 0 (λ z. absurd (omega (arith, more e, z)))) (and-false (moreIn stored))
-        no-more false e = rw (more-back, e)
+    none-more : (b : Bool) → r .more ≡ b → (r .more ≡ true → 0 < length (r .descriptors)) → (moreIn stored && eqb (countIn stored) 0) ≡ false
+    none-more true e filled = rw (count-back, ne-eqb (length (r .descriptors)) 0 (λ z. absurd (omega (arith, filled e, z)))) (and-false (moreIn stored))
+    none-more false e filled = rw (more-back, e)
+
+    module _ (filled : r .more ≡ true → 0 < length (r .descriptors)) where
+      is-accepted : reportRefusal stored ≡ 0
+      is-accepted =
+          sym (ap (λ (j : Judged). j .number) (judged-good stored (omega (arith, put-length x 0 (reportBytes id r), fits)) version-back (omega (arith, granularity-back, g)) (none-more (r .more) refl filled)
+          (omega (arith, put-length x 0 (reportBytes id r), fits, count-back)) (countIn stored)
+          (sym (rw (granularity-back, runs-back, count-back) (verdict-passed (descriptorTests (r .granularity) 0 (r .descriptors)) (length (r .descriptors)) (λ k j. j) (none-bad 0 (r .descriptors) each)))) (omega arith)))
+
+      -- a run at its index
+      run-back : (i : ℕ) (d : Descriptor) → getElem? (r .descriptors) i ≡ some d
+          → (reportRefusalAt stored i ≡ 0) × (reportAddress stored i ≡ d .address) × (reportLength stored i ≡ d .length)
+      run-back i d at =
+          let h = getElem?-at (r .descriptors) i d none at in
+          let there : reportRefusalAt stored i ≡ 0 = sym (index-within stored is-accepted i (omega (arith, count-back, h .0))) in
+          let is : descriptorOf stored i ≡ d = descriptor-back i (h .0) ∙ h .1 in (
+            there,
+            sym (index-answer stored i there (descriptorOf stored i .address)) ∙ ap (λ (e : Descriptor). e .address) is,
+            sym (index-answer stored i there (descriptorOf stored i .length)) ∙ ap (λ (e : Descriptor). e .length) is,
+          )
+
+      pub report-back : ReadBack id r stored
+      report-back =
+          record {
+            accepted = is-accepted;
+            identifier = sym (accepted-answer stored is-accepted (identifierIn stored)) ∙ identifier-back;
+            suspended = sym (accepted-answer stored is-accepted (bit (suspendedIn stored))) ∙ ap bit suspended-back;
+            more = sym (accepted-answer stored is-accepted (bit (moreIn stored))) ∙ ap bit more-back;
+            granularity = sym (accepted-answer stored is-accepted (granularityIn stored)) ∙ granularity-back;
+            count = sym (accepted-answer stored is-accepted (countIn stored)) ∙ count-back;
+            run = run-back;
+            past = λ i h. sym (index-past stored is-accepted i (omega (arith, count-back, h)));
+          }
 
 -- ---- a report on ranges that pass 9 and 11
 

@@ -8,9 +8,9 @@ use native.Mathlib.Nat.{sub-zero}
 use native.Mathlib.Numerals.{add-one}
 use lib.ListN.{length}
 use Rattle.little.specs.Little.{recordsAt}
-use Rattle.rules.specs.Refusals.{verdict, refusal}
+use Rattle.rules.specs.Refusals.{verdict, refusal, placeIn}
 use Rattle.rules.specs.Report.{Descriptor}
-use Rattle.rules.specs.ReportReader.{descriptorAt, goodDescriptor, descriptorTests, indexOf}
+use Rattle.rules.specs.ReportReader.{descriptorAt, goodDescriptor, descriptorTests}
 
 -- ---- the first bad descriptor, one by one
 
@@ -46,25 +46,25 @@ module _ (x : List ℕ) (g n : ℕ) where
 
 -- there is one: 17, with its index
 pub descriptors-bad : (g n i : ℕ) (ds : List Descriptor) → i + length ds ≤ n → firstBad g ds n i < n
-    → (refusal (descriptorTests g i ds) ≡ 17) × (indexOf (descriptorTests g i ds) ≡ firstBad g ds n i)
+    → (refusal (descriptorTests g i ds) ≡ 17) × (placeIn (descriptorTests g i ds) ≡ firstBad g ds n i)
 descriptors-bad g n i [] l h = absurd (omega arith)
 descriptors-bad g n i (d ∷ ds) l h = go (descriptors-bad g n (suc i) ds (omega (arith, l))) (goodDescriptor g d) h
   where
     go : (firstBad g ds n (suc i) < n
-        → (refusal (descriptorTests g (suc i) ds) ≡ 17) × (indexOf (descriptorTests g (suc i) ds) ≡ firstBad g ds n (suc i)))
+        → (refusal (descriptorTests g (suc i) ds) ≡ 17) × (placeIn (descriptorTests g (suc i) ds) ≡ firstBad g ds n (suc i)))
         → (b : Bool) → cond b (firstBad g ds n (suc i)) i < n
-        → (cond b (refusal (descriptorTests g (suc i) ds)) 17 ≡ 17) × (cond b (indexOf (descriptorTests g (suc i) ds)) i ≡ cond b (firstBad g ds n (suc i)) i)
+        → (cond b (refusal (descriptorTests g (suc i) ds)) 17 ≡ 17) × (cond b (placeIn (descriptorTests g (suc i) ds)) i ≡ cond b (firstBad g ds n (suc i)) i)
     go later true k = later k
     go later false k = (refl, refl)
 
 -- there is none
 pub descriptors-good : (g n i : ℕ) (ds : List Descriptor) → i + length ds ≤ n → n ≤ firstBad g ds n i
-    → (refusal (descriptorTests g i ds) ≡ 0) × (indexOf (descriptorTests g i ds) ≡ 0)
+    → (refusal (descriptorTests g i ds) ≡ 0) × (placeIn (descriptorTests g i ds) ≡ 0)
 descriptors-good g n i [] l h = (refl, refl)
 descriptors-good g n i (d ∷ ds) l h = go (descriptors-good g n (suc i) ds (omega (arith, l))) (goodDescriptor g d) h
   where
-    go : (n ≤ firstBad g ds n (suc i) → (refusal (descriptorTests g (suc i) ds) ≡ 0) × (indexOf (descriptorTests g (suc i) ds) ≡ 0))
+    go : (n ≤ firstBad g ds n (suc i) → (refusal (descriptorTests g (suc i) ds) ≡ 0) × (placeIn (descriptorTests g (suc i) ds) ≡ 0))
         → (b : Bool) → n ≤ cond b (firstBad g ds n (suc i)) i
-        → (cond b (refusal (descriptorTests g (suc i) ds)) 17 ≡ 0) × (cond b (indexOf (descriptorTests g (suc i) ds)) i ≡ 0)
+        → (cond b (refusal (descriptorTests g (suc i) ds)) 17 ≡ 0) × (cond b (placeIn (descriptorTests g (suc i) ds)) i ≡ 0)
     go later true k = later k
     go later false k = absurd (omega (arith, l))

@@ -1,6 +1,6 @@
 -- What the reader's own functions promise each other; what a report is refused for stands in the rules' ReportReader.antt.
 use Prim.Native.Nat.{ℕ}
-use mathlib.Core.Bool.{Bool, _&&_, cond}
+use mathlib.Core.Bool.{Bool, _&&_}
 use mathlib.Core.List.{List}
 use lib.Dec.{eqb}
 use Rattle.rules.specs.Report.{Descriptor}
@@ -14,7 +14,3 @@ rangeOf d = record { start = d .address; length = d .length }
 -- More To Report is set with no descriptors
 abbrev pub moreOfNone : List ℕ → ℕ → Bool
 moreOfNone x n = moreIn x && eqb n 0
-
--- a Bool as C has it
-abbrev pub bit : Bool → ℕ
-bit b = cond b 1 0

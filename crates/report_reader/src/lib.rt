@@ -6,9 +6,9 @@ ghost use mathlib.Core.Path.{_≡_};
 ghost use Prim.Native.Nat.{_+_, _≤_};
 ghost use lib.ListN.{length};
 ghost use Rattle.little.specs.Little.{recordsAt};
-ghost use Rattle.rules.specs.Refusals.{refusal, verdict};
-ghost use Rattle.rules.specs.ReportReader.{reportSize, moreIn, suspendedIn, identifierIn, countIn, granularityIn, descriptorAt, descriptorOf, descriptorTests, reportTests, indexTests, indexOf, orZero};
-ghost use Rattle.report_reader.specs.Reading.{rangeOf, moreOfNone, bit};
+ghost use Rattle.rules.specs.Refusals.{verdict};
+ghost use Rattle.rules.specs.ReportReader.{reportSize, countIn, granularityIn, descriptorAt, descriptorTests, reportRefusal, reportBadIndex, reportSuspended, reportMore, reportIdentifier, reportGranularity, reportCount, reportRefusalAt, reportAddress, reportLength};
+ghost use Rattle.report_reader.specs.Reading.{rangeOf, moreOfNone};
 
 // A report's refusal, and the index that it is about; zeros where it is accepted.
 pub struct Judged {
@@ -73,7 +73,7 @@ fn more_of_none(report: &[u8], n: usize) -> bool
 
 // What a report is refused for.
 fn judge(report: &[u8]) -> Judged
-    ensures { λ r. ⌜ r ≡ record { number = refusal (reportTests (now (report .entry))); index = indexOf (reportTests (now (report .entry))) } ⌝ }
+    ensures { λ r. ⌜ r ≡ record { number = reportRefusal (now (report .entry)); index = reportBadIndex (now (report .entry)) } ⌝ }
 {
     if report.len() < 16 {
         return Judged {
@@ -121,7 +121,7 @@ fn judge(report: &[u8]) -> Judged
 // descriptors, 8 descriptors not wholly there, 17 a bad descriptor: of length 0, off its unit, or ending past 2^64. The first that hits answers.
 #[no_mangle]
 pub extern "C" fn tmc_report_refusal(report: &[u8]) -> u8
-    ensures { λ r. ⌜ r ≡ refusal (reportTests (now (report .entry))) ⌝ }
+    ensures { λ r. ⌜ r ≡ reportRefusal (now (report .entry)) ⌝ }
 {
     let judged = judge(report);
     judged.number
@@ -130,7 +130,7 @@ pub extern "C" fn tmc_report_refusal(report: &[u8]) -> u8
 // The index of the first bad descriptor where a report is refused with 17, else 0.
 #[no_mangle]
 pub extern "C" fn tmc_report_bad_index(report: &[u8]) -> u64
-    ensures { λ r. ⌜ r ≡ indexOf (reportTests (now (report .entry))) ⌝ }
+    ensures { λ r. ⌜ r ≡ reportBadIndex (now (report .entry)) ⌝ }
 {
     let judged = judge(report);
     judged.index as u64
@@ -141,7 +141,7 @@ pub extern "C" fn tmc_report_bad_index(report: &[u8]) -> u64
 // Whether the controller was suspended: 1 or 0.
 #[no_mangle]
 pub extern "C" fn tmc_report_suspended(report: &[u8]) -> u8
-    ensures { λ r. ⌜ r ≡ orZero (reportTests (now (report .entry))) (bit (suspendedIn (now (report .entry)))) ⌝ }
+    ensures { λ r. ⌜ r ≡ reportSuspended (now (report .entry)) ⌝ }
 {
     if tmc_report_refusal(report) != 0 {
         return 0;
@@ -152,7 +152,7 @@ pub extern "C" fn tmc_report_suspended(report: &[u8]) -> u8
 // Whether there is more to report: 1 or 0.
 #[no_mangle]
 pub extern "C" fn tmc_report_more(report: &[u8]) -> u8
-    ensures { λ r. ⌜ r ≡ orZero (reportTests (now (report .entry))) (bit (moreIn (now (report .entry)))) ⌝ }
+    ensures { λ r. ⌜ r ≡ reportMore (now (report .entry)) ⌝ }
 {
     if tmc_report_refusal(report) != 0 {
         return 0;
@@ -163,7 +163,7 @@ pub extern "C" fn tmc_report_more(report: &[u8]) -> u8
 // The controller's identifier.
 #[no_mangle]
 pub extern "C" fn tmc_report_identifier(report: &[u8]) -> u16
-    ensures { λ r. ⌜ r ≡ orZero (reportTests (now (report .entry))) (identifierIn (now (report .entry))) ⌝ }
+    ensures { λ r. ⌜ r ≡ reportIdentifier (now (report .entry)) ⌝ }
 {
     if tmc_report_refusal(report) != 0 {
         return 0;
@@ -174,7 +174,7 @@ pub extern "C" fn tmc_report_identifier(report: &[u8]) -> u16
 // The granularity n: a unit is 2^n times 4 KiB.
 #[no_mangle]
 pub extern "C" fn tmc_report_granularity(report: &[u8]) -> u16
-    ensures { λ r. ⌜ r ≡ orZero (reportTests (now (report .entry))) (granularityIn (now (report .entry))) ⌝ }
+    ensures { λ r. ⌜ r ≡ reportGranularity (now (report .entry)) ⌝ }
 {
     if tmc_report_refusal(report) != 0 {
         return 0;
@@ -185,7 +185,7 @@ pub extern "C" fn tmc_report_granularity(report: &[u8]) -> u16
 // The number of descriptors.
 #[no_mangle]
 pub extern "C" fn tmc_report_count(report: &[u8]) -> u32
-    ensures { λ r. ⌜ r ≡ orZero (reportTests (now (report .entry))) (countIn (now (report .entry))) ⌝ }
+    ensures { λ r. ⌜ r ≡ reportCount (now (report .entry)) ⌝ }
 {
     if tmc_report_refusal(report) != 0 {
         return 0;
@@ -198,7 +198,7 @@ pub extern "C" fn tmc_report_count(report: &[u8]) -> u32
 // Why the descriptor at an index is refused, 0 where it is there: what the report is refused for, then 33 past the last descriptor.
 #[no_mangle]
 pub extern "C" fn tmc_report_refusal_at(report: &[u8], index: u64) -> u8
-    ensures { λ r. ⌜ r ≡ refusal (indexTests (now (report .entry)) index) ⌝ }
+    ensures { λ r. ⌜ r ≡ reportRefusalAt (now (report .entry)) index ⌝ }
 {
     let number = tmc_report_refusal(report);
     if number != 0 {
@@ -214,7 +214,7 @@ pub extern "C" fn tmc_report_refusal_at(report: &[u8], index: u64) -> u8
 // The first address of the run at an index.
 #[no_mangle]
 pub extern "C" fn tmc_report_address(report: &[u8], index: u64) -> u64
-    ensures { λ r. ⌜ r ≡ orZero (indexTests (now (report .entry)) index) (descriptorOf (now (report .entry)) index .address) ⌝ }
+    ensures { λ r. ⌜ r ≡ reportAddress (now (report .entry)) index ⌝ }
 {
     if tmc_report_refusal_at(report, index) != 0 {
         return 0;
@@ -225,7 +225,7 @@ pub extern "C" fn tmc_report_address(report: &[u8], index: u64) -> u64
 // The length of the run at an index, in units.
 #[no_mangle]
 pub extern "C" fn tmc_report_length(report: &[u8], index: u64) -> u32
-    ensures { λ r. ⌜ r ≡ orZero (indexTests (now (report .entry)) index) (descriptorOf (now (report .entry)) index .length) ⌝ }
+    ensures { λ r. ⌜ r ≡ reportLength (now (report .entry)) index ⌝ }
 {
     if tmc_report_refusal_at(report, index) != 0 {
         return 0;

@@ -13,19 +13,18 @@ use lib.Seq.{set-getD}
 use borrow.Author.Tests.{eqb-true, eqb-false, leb-true, le-leb}
 use Rattle.rules.specs.Lists.{member, sum, isSome}
 use Rattle.rules.specs.Refusals.{Test, _else_, verdict}
-use Rattle.rules.specs.Settings.{settingsOk, identifiersOf, placeOf, granularityOk}
-use Rattle.rules.specs.Ranges.{listTests}
-use Rattle.rules.specs.StartData.{headerThere, versionOk, rangesThere, granularityOf, countOf, rangesOf}
-use Rattle.rules.specs.Order.{Op, start, stop, write, receive, suspend, resume, Seen, order}
-use Rattle.rules.specs.Device.{heldCount, cleaned}
-use Rattle.rules.specs.Machine.{Answer, refused, off, on, Slot, slot, freshSlot, isSuspended, isTracked, heldBy, accepted, slotStep, State, closed, fresh, soundState, countsIn, slotAt, withSlot, slotOf, seenAt, stepAt, Call, Event, step, after, events, numberOf}
+use Rattle.rules.specs.Settings.{identifiersOf, placeOf}
+use Rattle.rules.specs.StartData.{countOf}
+use Rattle.rules.specs.Order.{Op, start, stop, write, receive, suspend, resume, Seen, startOwn, startShared, order}
+use Rattle.rules.specs.Device.{heldCount}
+use Rattle.rules.specs.Machine.{Answer, refused, off, on, Slot, slot, freshSlot, isSuspended, isTracked, heldBy, accepted, slotStep, State, fresh, soundState, countsIn, slotAt, withSlot, slotOf, seenAt, stepAt, Call, Event, step, after, events, numberOf}
 use Rattle.rules.specs.History.{Did, only, historyOf}
 use Rattle.rules.specs.Demands.{unhindered, sharedRefusals}
 use Rattle.rules.specs.declared.Settings.{Settings}
 use Rattle.rules.proofs.ListLaws.{and-left, and-right}
 use Rattle.rules.proofs.RefusalLaws.{verdict-append, verdict-same}
 use Rattle.rules.proofs.SlotHistory.{did}
-use Rattle.rules.proofs.StateLaws.{Fits, Sized, placeOf-fits, ownStep, step-settings, step-sized, step-own-answer, step-own, step-other, fresh-sized, fresh-slot}
+use Rattle.rules.proofs.StateLaws.{Fits, Sized, placeOf-fits, ownStep, step-settings, step-sized, step-own-answer, step-own, step-other, fresh-has, fresh-sized, fresh-slot}
 use Rattle.rules.proofs.SoundLaws.{step-sound}
 
 -- ---- what a controller's call sees, with n counts tracked
@@ -38,19 +37,6 @@ abbrev aloneStep : Bool → Settings → ℕ → Slot → Op → Answer × Slot
 aloneStep b s a c o = slotStep s (seenFor b s a c 0) c o
 
 -- ---- the counts matter to a start that is refused with 12, and to nothing else
-
--- the tests of a start before the last
-abbrev startBefore : Settings → Seen → List ℕ → List Test
-startBefore s v x =
-    (v .sound else 1)
-    ∷ (v .known else 2)
-    ∷ (not (v .suspended) else 4)
-    ∷ (not (v .tracked) else 3)
-    ∷ (headerThere x else 8)
-    ∷ (versionOk x else 6)
-    ∷ (granularityOk s (granularityOf x) else 7)
-    ∷ (rangesThere x else 8)
-    ∷ listTests s (granularityOf x) (countOf x) (rangesOf x)
 
 limit-same : {A : Type 0} (k n l : ℕ) (y : A) (refuse : ℕ → ℕ → A) → verdict ((leb (k + n) l else 12) ∷ []) y refuse ≢ refuse 12 0
     → verdict ((leb (k + 0) l else 12) ∷ []) y refuse ≡ verdict ((leb (k + n) l else 12) ∷ []) y refuse
@@ -70,10 +56,10 @@ slotStep-same b s a c n (start x) f =
     ∙ sym (verdict-append before (last n) y refuse)
   where
     before : List Test
-    before = startBefore s (seenFor b s a c 0) x
+    before = startOwn s (seenFor b s a c 0) x
 
     last : ℕ → List Test
-    last m = (leb (countOf x + m) (s .limit) else 12) ∷ []
+    last m = startShared s m x
 
     y : Answer × Slot
     y = accepted c (start x)
@@ -253,21 +239,18 @@ fresh-counts : (xs : List ℕ) → sum (map heldCount (map heldBy (map (λ (i : 
 fresh-counts [] = refl
 fresh-counts (x ∷ xs) = zero-add _ ∙ fresh-counts xs
 
-fresh-lonely : (s : Settings) (a : ℕ) → Lonely a (fresh s)
-unfolding fresh
-fresh-lonely s a = rw (fresh-slot s a) (go (settingsOk s))
-  where
-    go : (b : Bool) → countsIn (cond b (record { settings = cleaned s; slots = map (λ (i : ℕ). freshSlot) (identifiersOf s) }) closed) ≡ 0
-    go true = fresh-counts (identifiersOf s)
-    go false = refl
+fresh-lonely : (s : Settings) (words a : ℕ) → Lonely a (fresh s words)
+fresh-lonely s words a = rw (fresh-slot s words a) (fresh-has (λ st. countsIn st ≡ 0) s words (fresh-counts (identifiersOf s)) refl)
 
 -- a session in which a is not hindered is, for it, the session of its calls alone
-pub history-alone : (s : Settings) (a : ℕ) (ks : List Call) → unhindered (historyOf a (events (fresh s) ks)) ≡ true
-    → historyOf a (events (fresh s) ks) ≡ historyOf a (events (fresh s) (only a ks))
-history-alone s a ks f =
-    seems-unhindered a ks (fresh s) (fresh-sized s) f .history ∙ sym (seems-alone a ks (fresh s) (fresh-sized s) (fresh-lonely s a) .history)
+pub history-alone : (s : Settings) (words a : ℕ) (ks : List Call) → unhindered (historyOf a (events (fresh s words) ks)) ≡ true
+    → historyOf a (events (fresh s words) ks) ≡ historyOf a (events (fresh s words) (only a ks))
+history-alone s words a ks f =
+    seems-unhindered a ks (fresh s words) (fresh-sized s words) f .history
+    ∙ sym (seems-alone a ks (fresh s words) (fresh-sized s words) (fresh-lonely s words a) .history)
 
-pub slot-alone : (s : Settings) (a : ℕ) (ks : List Call) → unhindered (historyOf a (events (fresh s) ks)) ≡ true
-    → slotOf (after (fresh s) ks) a ≡ slotOf (after (fresh s) (only a ks)) a
-slot-alone s a ks f =
-    seems-unhindered a ks (fresh s) (fresh-sized s) f .end ∙ sym (seems-alone a ks (fresh s) (fresh-sized s) (fresh-lonely s a) .end)
+pub slot-alone : (s : Settings) (words a : ℕ) (ks : List Call) → unhindered (historyOf a (events (fresh s words) ks)) ≡ true
+    → slotOf (after (fresh s words) ks) a ≡ slotOf (after (fresh s words) (only a ks)) a
+slot-alone s words a ks f =
+    seems-unhindered a ks (fresh s words) (fresh-sized s words) f .end
+    ∙ sym (seems-alone a ks (fresh s words) (fresh-sized s words) (fresh-lonely s words a) .end)

@@ -11,7 +11,6 @@ pub mod Sessions
 pub mod Isolation
 pub mod StartLaws
 pub mod ReportLaws
-pub mod OnceLaws
+pub mod ListedLaws
 pub mod Theorems
 pub mod ScanLaws
-pub mod Promise

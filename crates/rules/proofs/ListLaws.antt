@@ -107,6 +107,23 @@ All-kept f (x ∷ xs) = go (All-kept f xs) (f x) refl
     go k true e = (e, k)
     go k false e = k
 
+-- a relation holds of each element and each later one
+abbrev pub Pairwise : {A : Type 0} → (A → A → Type 0) → List A → Type 0
+Pairwise R [] = Unit {0}
+Pairwise R (x ∷ xs) = All (R x) xs × Pairwise R xs
+
+pub Pairwise-append : {A : Type 0} (R : A → A → Type 0) (xs ys : List A) → Pairwise R xs → Pairwise R ys → All (λ x. All (R x) ys) xs → Pairwise R (xs ++ ys)
+Pairwise-append R [] ys p q c = q
+Pairwise-append R (x ∷ xs) ys p q c = (All-append (R x) xs ys (p .0) (c .0), Pairwise-append R xs ys (p .1) q (c .1))
+
+pub Pairwise-keep : {A : Type 0} (R : A → A → Type 0) (f : A → Bool) (xs : List A) → Pairwise R xs → Pairwise R (keep f xs)
+Pairwise-keep R f [] h = tt
+Pairwise-keep R f (x ∷ xs) h = go (Pairwise-keep R f xs (h .1)) (f x)
+  where
+    go : Pairwise R (keep f xs) → (b : Bool) → Pairwise R (cond b (x ∷ keep f xs) (keep f xs))
+    go k true = (All-keep (R x) f xs (h .0), k)
+    go k false = k
+
 pub All-always : {A : Type 0} {P : A → Type 0} → ((x : A) → P x) → (xs : List A) → All P xs
 All-always f [] = tt
 All-always f (x ∷ xs) = (f x, All-always f xs)
@@ -137,6 +154,19 @@ map-set f (y ∷ xs) (suc i) x = ap (λ l. f y ∷ l) (map-set f xs i x)
 
 pub some-inj : {A : Type 0} {x y : A} → some x ≡ some y → x ≡ y
 some-inj e = cc
+
+-- what stands at an index, and that the index is one
+pub getElem?-at : {A : Type 0} (xs : List A) (m : ℕ) (x d : A) → getElem? xs m ≡ some x → (m < length xs) × (getD xs m d ≡ x)
+getElem?-at [] m x d e = let z : _≡_ {A = ℕ} 0 1 = cc in absurd (omega arith)
+getElem?-at (y ∷ xs) zero x d e = (omega arith, some-inj e)
+getElem?-at (y ∷ xs) (suc m) x d e = let r = getElem?-at xs m x d e in (omega (arith, r .0), r .1)
+
+pub Pairwise-at : {A : Type 0} (R : A → A → Type 0) (xs : List A) → Pairwise R xs → (m n : ℕ) (x y : A) → m < n → getElem? xs m ≡ some x → getElem? xs n ≡ some y → R x y
+Pairwise-at R [] h m n x y l e f = absurd (let z : _≡_ {A = ℕ} 0 1 = cc in omega arith)
+Pairwise-at R (z ∷ xs) h zero zero x y l e f = absurd (omega arith)
+Pairwise-at R (z ∷ xs) h zero (suc n) x y l e f = subst (λ w. R w y) (some-inj e) (All-at (R z) xs n y (h .0) f)
+Pairwise-at R (z ∷ xs) h (suc m) zero x y l e f = absurd (omega arith)
+Pairwise-at R (z ∷ xs) h (suc m) (suc n) x y l e f = Pairwise-at R xs (h .1) m n x y (omega arith) e f
 
 -- ---- all, every, member
 

@@ -9,7 +9,7 @@ use Rattle.rules.specs.Refusals.{Test, _else_}
 use Rattle.rules.specs.Settings.{granularityOk, unitSize}
 use Rattle.rules.specs.Ranges.{rowsTests, rangeTests, listTests, powersOk, unitsOk}
 use Rattle.rules.specs.StartData.{granularityOf, countOf, rangesOf}
-use Rattle.rules.specs.Order.{Seen, startOrder}
+use Rattle.rules.specs.Order.{Seen, startShared, startOrder}
 use Rattle.rules.specs.declared.Range.{Range}
 use Rattle.rules.specs.declared.Settings.{Settings}
 use Rattle.rules.proofs.ListLaws.{All, All-left, All-right}
@@ -48,7 +48,7 @@ startOrder-passed s v x h =
     tests = listTests s (granularityOf x) (countOf x) (rangesOf x)
 
     last : List Test
-    last = (leb (countOf x + v .counts) (s .limit) else 12) ∷ []
+    last = startShared s (v .counts) x
 
     rest : Passed (tests ++ last)
     rest = h .1 .1 .1 .1 .1 .1 .1 .1

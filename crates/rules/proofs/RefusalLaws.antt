@@ -55,6 +55,18 @@ pub verdict-passed : {A : Type 0} (ts : List Test) (done : A) (refuse : ℕ → 
 verdict-passed [] done refuse h = refl
 verdict-passed (t ∷ ts) done refuse h = rw (h .0) (verdict-passed ts done refuse (h .1))
 
+-- a verdict whose number is 0, where no test has that number, is what is done, and all tests are passed
+pub verdict-done : {A : Type 0} (number : A → ℕ) (ts : List Test) (done : A) (refuse : ℕ → A) → ((n : ℕ) → number (refuse n) ≡ n) → All (λ (t : Test). 1 ≤ t .number) ts
+    → number (verdict ts done (λ n i. refuse n)) ≡ 0 → (verdict ts done (λ n i. refuse n) ≡ done) × Passed ts
+verdict-done number [] done refuse f h e = (refl, tt)
+verdict-done number (t ∷ ts) done refuse f h e = go (t .ok) refl (verdict-done number ts done refuse f (h .1)) e
+  where
+    go : (b : Bool) → t .ok ≡ b → (number (verdict ts done (λ n i. refuse n)) ≡ 0 → (verdict ts done (λ n i. refuse n) ≡ done) × Passed ts)
+        → number (cond b (verdict ts done (λ n i. refuse n)) (refuse (t .number))) ≡ 0
+        → (cond b (verdict ts done (λ n i. refuse n)) (refuse (t .number)) ≡ done) × ((t .ok ≡ true) × Passed ts)
+    go true q ih e = let r = ih e in (r .0, (q, r .1))
+    go false q ih e = absurd (omega (arith, h .0, f (t .number), e))
+
 -- two ends of which the second is the first unless that is a certain one: so are the verdicts
 pub verdict-same : {A : Type 0} (x : A) (ts : List Test) (k l : A) (refuse : ℕ → ℕ → A) → (k ≢ x → l ≡ k) → verdict ts k refuse ≢ x → verdict ts l refuse ≡ verdict ts k refuse
 verdict-same x [] k l refuse f = f

@@ -36,9 +36,9 @@ known-run a (k ∷ ks) st z h t = go (eqb (k .id) a) refl (known-run a ks ((step
         (rw (step-own st k a z own, step-own-answer st k a own) (known-step (st .settings) (seenAt st (placeOf (st .settings) a)) h (slotOf st a) (k .op) t)))
     go false q ih = ih h (rw (step-other st k a (eqb-false (k .id) a q)) t)
 
-pub known-session : (s : Settings) (a : ℕ) (ks : List Call) → KnownSlot (historyOf a (events (fresh s) ks)) (slotOf (after (fresh s) ks) a)
-known-session s a ks = known-run a ks (fresh s) (fresh-sized s) [] (rw (fresh-slot s a) known-fresh)
+pub known-session : (s : Settings) (words a : ℕ) (ks : List Call) → KnownSlot (historyOf a (events (fresh s words) ks)) (slotOf (after (fresh s words) ks) a)
+known-session s words a ks = known-run a ks (fresh s words) (fresh-sized s words) [] (rw (fresh-slot s words a) known-fresh)
 
 -- after any calls from a fresh device a controller's slot is what the history of its own calls and answers tells
-pub slot-told : (s : Settings) (a : ℕ) (ks : List Call) → slotOf (after (fresh s) ks) a ≡ slotBy (historyOf a (events (fresh s) ks))
-slot-told s a ks = known-is (historyOf a (events (fresh s) ks)) (slotOf (after (fresh s) ks) a) (known-session s a ks)
+pub slot-told : (s : Settings) (words a : ℕ) (ks : List Call) → slotOf (after (fresh s words) ks) a ≡ slotBy (historyOf a (events (fresh s words) ks))
+slot-told s words a ks = known-is (historyOf a (events (fresh s words) ks)) (slotOf (after (fresh s words) ks) a) (known-session s words a ks)

@@ -1,7 +1,8 @@
 -- From a fresh device no sequence of calls leads to an unsound one: a call leaves its own slot sound and the counts within the limit.
 -- Assumes nothing.
 use mathlib.Core.Path.{_≡_, refl, _∙_}
-use mathlib.Core.Bool.{Bool, true, false, _||_}
+use mathlib.Core.Logic.{_≢_}
+use mathlib.Core.Bool.{Bool, true, false, _||_, cond}
 use mathlib.Core.List.{List, [], _∷_, map}
 use mathlib.Core.Option.{Option, none, some}
 use Prim.Native.Nat.{ℕ, zero, suc, _+_, _≤_}
@@ -10,15 +11,16 @@ use lib.Dec.{eqb}
 use lib.ListN.{length, getD, set}
 use borrow.Author.Tests.{leb-true, le-leb}
 use Rattle.rules.specs.Lists.{all, sum}
-use Rattle.rules.specs.Settings.{settingsOk, identifiersOf, placeOf}
+use Rattle.rules.specs.Refusals.{refusal}
+use Rattle.rules.specs.Settings.{markWords, settingsOk, identifiersOf, placeOf}
 use Rattle.rules.specs.Ranges.{listTests}
 use Rattle.rules.specs.StartData.{granularityOf, countOf, rangesOf}
-use Rattle.rules.specs.Order.{Op, start, stop, write, receive, suspend, resume, Seen, order}
+use Rattle.rules.specs.Order.{Op, start, stop, write, receive, suspend, resume, Seen, freshOrder, order}
 use Rattle.rules.specs.Device.{Held, heldOk, heldCount, sound, soundRules, cleaned}
-use Rattle.rules.specs.Machine.{Answer, refused, Marks, off, on, Slot, slot, freshSlot, heldBy, accepted, slotStep, State, closed, fresh, soundState, seenAt, stepAt, Call, step, after}
+use Rattle.rules.specs.Machine.{Answer, refused, Marks, off, on, Slot, slot, freshSlot, heldBy, accepted, slotStep, State, closed, opened, fresh, soundState, seenAt, stepAt, Call, step, after}
 use Rattle.rules.specs.declared.Settings.{Settings}
 use Rattle.rules.proofs.ListLaws.{all-set, every-at, and-left, and-right, and-intro, map-set}
-use Rattle.rules.proofs.RefusalLaws.{Passed, verdict-has, passes-all}
+use Rattle.rules.proofs.RefusalLaws.{Passed, verdict-has, verdict-number, passes-all}
 use Rattle.rules.proofs.StartLaws.{rangesOf-length}
 use Rattle.rules.proofs.OrderLaws.{StartPassed, startOrder-passed}
 use Rattle.rules.proofs.StateLaws.{cleaned-identifiers}
@@ -126,16 +128,25 @@ cleaned-ok : (s : Settings) → settingsOk (cleaned s) ≡ settingsOk s
 unfolding settingsOk
 cleaned-ok s = rw (cleaned-identifiers s)
 
-pub fresh-sound : (s : Settings) → settingsOk s ≡ true → soundState (fresh s) ≡ true
-unfolding fresh
-fresh-sound s e =
-    rw e (sound-intro (cleaned s) _ (cleaned-ok s ∙ e) (fresh-held (cleaned s) (identifiersOf s) .0) (omega (arith, fresh-held (cleaned s) (identifiersOf s) .1)))
+opened-sound : (s : Settings) → settingsOk s ≡ true → soundState (opened s) ≡ true
+opened-sound s e =
+    sound-intro (cleaned s) _ (cleaned-ok s ∙ e) (fresh-held (cleaned s) (identifiersOf s) .0) (omega (arith, fresh-held (cleaned s) (identifiersOf s) .1))
 
 -- the closed device is unsound
 pub closed-unsound : soundState closed ≡ false
 unfolding sound settingsOk
 closed-unsound = refl
 
-pub fresh-closed : (s : Settings) → settingsOk s ≡ false → fresh s ≡ closed
+-- fresh opens the device or is refused
+pub fresh-opens : (s : Settings) (words : ℕ) → refusal (freshOrder s words) ≡ 0 → (fresh s words ≡ opened s) × (soundState (opened s) ≡ true)
 unfolding fresh
-fresh-closed s e = rw e
+fresh-opens s words = go (settingsOk s) (eqb words markWords) refl
+  where
+    go : (a b : Bool) → settingsOk s ≡ a → _≡_ {A = ℕ} (cond a (cond b 0 1) 16) 0 → (cond a (cond b (opened s) closed) closed ≡ opened s) × (soundState (opened s) ≡ true)
+    go true true e z = (refl, opened-sound s e)
+    go true false e z = absurd (omega (arith, z))
+    go false b e z = absurd (omega (arith, z))
+
+pub fresh-closed : (s : Settings) (words : ℕ) → refusal (freshOrder s words) ≢ 0 → fresh s words ≡ closed
+unfolding fresh
+fresh-closed s words h = verdict-number (freshOrder s words) (opened s) (λ n. closed) h

@@ -9,12 +9,14 @@ use Prim.Native.Nat.{ℕ, zero, suc, _+_, _-_, _<_}
 use native.Mathlib.Omega.{arith}
 use lib.ListN.{length, take, getD, length-set, length-map, replicate}
 use lib.Seq.{getD-set-same, getD-set-other}
-use Rattle.rules.specs.Settings.{identifiersOf, settingsOk, placeOf}
-use Rattle.rules.specs.Order.{Op, start, stop, write, receive, suspend, resume, Seen, order}
+use Rattle.rules.specs.Lists.{placeFrom}
+use Rattle.rules.specs.Settings.{identifiersOf, placeOf}
+use Rattle.rules.specs.Order.{Op, start, stop, write, receive, suspend, resume, Seen, freshOrder, order}
 use Rattle.rules.specs.Device.{cleaned, closedSettings}
-use Rattle.rules.specs.Machine.{Answer, refused, Slot, freshSlot, slotStep, State, closed, fresh, slotAt, withSlot, slotOf, seenAt, stepAt, Call, step}
+use Rattle.rules.specs.Machine.{Answer, refused, Slot, freshSlot, slotStep, State, closed, opened, fresh, slotAt, withSlot, slotOf, seenAt, stepAt, Call, step, after}
 use Rattle.rules.specs.declared.Settings.{Settings}
 use Rattle.rules.proofs.ListLaws.{placeFrom-is}
+use Rattle.rules.proofs.RefusalLaws.{verdict-has}
 
 -- ---- where a controller stands
 
@@ -79,6 +81,10 @@ step-settings st k = go (placeOf (st .settings) (k .id))
     go none = refl
     go (some i) = refl
 
+pub after-settings : (ks : List Call) (st : State) → after st ks .settings ≡ st .settings
+after-settings [] st = refl
+after-settings (k ∷ ks) st = after-settings ks ((step st k) .1) ∙ step-settings st k
+
 pub step-sized : (st : State) (k : Call) → Sized st → Sized ((step st k) .1)
 unfolding step
 step-sized st k z = go (placeOf (st .settings) (k .id))
@@ -130,13 +136,18 @@ cleaned-take (suc n) (x ∷ l) =
 pub cleaned-identifiers : (s : Settings) → identifiersOf (cleaned s) ≡ identifiersOf s
 cleaned-identifiers s = cleaned-take (s .count) (s .identifiers)
 
-pub fresh-sized : (s : Settings) → Sized (fresh s)
+-- the same identifiers stand in the same places
+pub cleaned-place : (s : Settings) (a : ℕ) → placeOf (cleaned s) a ≡ placeOf s a
+unfolding placeOf
+cleaned-place s a = ap (λ l. placeFrom 0 l a) (cleaned-identifiers s)
+
+-- fresh is what it opens, or closed
+pub fresh-has : (P : State → Type 0) (s : Settings) (words : ℕ) → P (opened s) → P closed → P (fresh s words)
 unfolding fresh
-fresh-sized s = go (settingsOk s)
-  where
-    go : (b : Bool) → Sized (cond b (record { settings = cleaned s; slots = map (λ (i : ℕ). freshSlot) (identifiersOf s) }) closed)
-    go true = length-map (identifiersOf s) (λ (i : ℕ). freshSlot) ∙ ap length (sym (cleaned-identifiers s))
-    go false = refl
+fresh-has P s words o c = verdict-has P (λ n i. closed) (λ n i. c) (freshOrder s words) (opened s) (λ h. o)
+
+pub fresh-sized : (s : Settings) (words : ℕ) → Sized (fresh s words)
+fresh-sized s words = fresh-has Sized s words (length-map (identifiersOf s) (λ (i : ℕ). freshSlot) ∙ ap length (sym (cleaned-identifiers s))) refl
 
 fresh-slots : (xs : List ℕ) (p : Option ℕ) (s : Settings) → slotAt (record { settings = s; slots = map (λ (i : ℕ). freshSlot) xs }) p ≡ freshSlot
 fresh-slots xs none s = refl
@@ -144,10 +155,6 @@ fresh-slots [] (some i) s = refl
 fresh-slots (x ∷ xs) (some zero) s = refl
 fresh-slots (x ∷ xs) (some (suc i)) s = fresh-slots xs (some i) s
 
-pub fresh-slot : (s : Settings) (a : ℕ) → slotOf (fresh s) a ≡ freshSlot
-unfolding fresh
-fresh-slot s a = go (settingsOk s)
-  where
-    go : (b : Bool) → slotOf (cond b (record { settings = cleaned s; slots = map (λ (i : ℕ). freshSlot) (identifiersOf s) }) closed) a ≡ freshSlot
-    go true = fresh-slots (identifiersOf s) (placeOf (cleaned s) a) (cleaned s)
-    go false = fresh-slots [] (placeOf closedSettings a) closedSettings
+pub fresh-slot : (s : Settings) (words a : ℕ) → slotOf (fresh s words) a ≡ freshSlot
+fresh-slot s words a =
+    fresh-has (λ st. slotOf st a ≡ freshSlot) s words (fresh-slots (identifiersOf s) (placeOf (cleaned s) a) (cleaned s)) (fresh-slots [] (placeOf closedSettings a) closedSettings)

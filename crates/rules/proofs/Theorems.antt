@@ -16,17 +16,17 @@ use Rattle.rules.specs.Ranges.{rangeTests, powersOk, unitsOk}
 use Rattle.rules.specs.StartData.{rangesOf, startBytes}
 use Rattle.rules.specs.Order.{Op, start, stop, write, receive, suspend, resume, order}
 use Rattle.rules.specs.Device.{sound, heldOk}
-use Rattle.rules.specs.Machine.{Answer, refused, off, on, Slot, slot, pendingIn, accepted, State, fresh, closed, slotAt, withSlot, slotOf, seenAt, stepAt, Call, step, after}
+use Rattle.rules.specs.Machine.{Answer, refused, off, on, Slot, slot, pendingIn, accepted, State, opened, fresh, closed, slotAt, withSlot, slotOf, seenAt, stepAt, Call, step, after}
 use Rattle.rules.specs.History.{Did, only, pendingBy}
-use Rattle.rules.specs.Demands.{sessionEnd, sessionHistory, Refusals, Soundness, Pending, Demand2, Agree, unhindered, lentBytes, Demand3, Granularity}
-use Rattle.rules.specs.Worked.{Case, cases, answered}
+use Rattle.rules.specs.Demands.{sessionEnd, sessionHistory, Refusals, Soundness, Pending, Demand2, Agree, unhindered, lentBytes, Demand3, Granularities}
+use Rattle.rules.specs.Worked.{cases, Worked}
 use Rattle.rules.specs.declared.Settings.{Settings}
 use Rattle.rules.proofs.ListLaws.{map-at, some-inj}
 use Rattle.rules.proofs.RefusalLaws.{verdict-has}
-use Rattle.rules.proofs.OnceLaws.{once}
+use Rattle.rules.proofs.ListedLaws.{units-listed}
 use Rattle.rules.proofs.UnitLaws.{unitsFrom-sized, touches-iff}
 use Rattle.rules.proofs.SlotHistory.{Known, pendingBy-iff}
-use Rattle.rules.proofs.SoundLaws.{after-sound, fresh-sound, fresh-closed, closed-unsound}
+use Rattle.rules.proofs.SoundLaws.{after-sound, fresh-opens, fresh-closed, closed-unsound}
 use Rattle.rules.proofs.Sessions.{known-session, slot-told}
 use Rattle.rules.proofs.Isolation.{withSlot-slotAt, step-unsound, history-alone, slot-alone}
 use Rattle.rules.proofs.ReportLaws.{reports-map, writes-always}
@@ -71,20 +71,20 @@ after-closed (k ∷ ks) = ap (λ (r : Answer × State). after (r .1) ks) (step-u
 pub soundness : Soundness
 soundness =
     record {
-      kept = λ s ks e. after-sound ks (fresh s) (fresh-sound s e);
-      closed = λ s ks k e.
-          rw (fresh-closed s e, after-closed ks) (ap (λ (r : Answer × State). r .0) (step-unsound closed k closed-unsound));
+      kept = λ s words ks e. let f = fresh-opens s words e in rw (f .0) (after-sound ks (opened s) (f .1));
+      closed = λ s words ks k e.
+          rw (fresh-closed s words e, after-closed ks) (ap (λ (r : Answer × State). r .0) (step-unsound closed k closed-unsound));
     }
 
 -- ---- demand 2
 
-pending-exactly : (s : Settings) (ks : List Call) (a : ℕ) → Pending s ks a
-pending-exactly s ks a =
+pending-exactly : (s : Settings) (words : ℕ) (ks : List Call) (a : ℕ) → Pending s words ks a
+pending-exactly s words ks a =
     record {
-      told = slot-told s a ks;
+      told = slot-told s words a ks;
       exactly = λ b g rs p e n u at.
-          let h : List Did = sessionHistory s ks a in
-          let k : Known h b (on g rs p) = rw e at (known-session s a ks) in
+          let h : List Did = sessionHistory s words ks a in
+          let k : Known h b (on g rs p) = rw e at (known-session s words a ks) in
           let m : getElem? p n ≡ some (pendingBy h u) = ap (λ l. getElem? l n) (k .marks .0) ∙ map-at (pendingBy h) (units g rs) n u at in (
             (λ t. pendingBy-iff h u .0 (some-inj (sym m ∙ t))),
             (λ w. m ∙ ap some (pendingBy-iff h u .1 w)),
@@ -101,43 +101,44 @@ shares-a-byte w u z = (
 pub demand-2 : Demand2
 demand-2 =
     record {
-      once = once;
+      listed = units-listed;
       pending = pending-exactly;
-      reports = λ s ks a b g rs p e k.
-          let h : List Did = sessionHistory s ks a in
-          let w : Known h b (on g rs p) = rw e at (known-session s a ks) in
+      reports = λ s words ks a b g rs p e k.
+          let h : List Did = sessionHistory s words ks a in
+          let w : Known h b (on g rs p) = rw e at (known-session s words a ks) in
           rw (w .marks .0) (reports-map b (pendingBy h) g k (units g rs) (unitsFrom-sized (unitSize g) 0 [] rs) (w .marks .1));
       touches = λ w u. record { exactly = λ z. shares-a-byte w u z; none = λ e. rw e };
-      writes = λ s ks a b g rs p e w. writes-always w (units g rs) p;
+      room = λ bytes h. record { fits = omega arith; no-more = omega arith };
+      writes = writes-always;
     }
 
 -- ---- demand 3
 
-agree-alone : (s : Settings) (a : ℕ) (ks : List Call) → unhindered (sessionHistory s ks a) ≡ true → Agree s a ks (only a ks)
-agree-alone s a ks f =
+agree-alone : (s : Settings) (words a : ℕ) (ks : List Call) → unhindered (sessionHistory s words ks a) ≡ true → Agree s words a ks (only a ks)
+agree-alone s words a ks f =
     record {
-      answers = history-alone s a ks f;
-      bytes = ap (lentBytes a) (history-alone s a ks f);
-      units = ap pendingIn (slot-alone s a ks f);
+      answers = history-alone s words a ks f;
+      bytes = ap (lentBytes a) (history-alone s words a ks f);
+      units = ap pendingIn (slot-alone s words a ks f);
     }
 
 pub demand-3 : Demand3
 demand-3 =
     record {
       alone = agree-alone;
-      together = λ s a ks ks′ e f f′.
-          let l = agree-alone s a ks f in
-          let r = agree-alone s a ks′ f′ in
+      together = λ s words a ks ks′ e f f′.
+          let l = agree-alone s words a ks f in
+          let r = agree-alone s words a ks′ f′ in
           record {
-            answers = l .answers ∙ ap (λ k. sessionHistory s k a) e ∙ sym (r .answers);
-            bytes = l .bytes ∙ ap (λ k. lentBytes a (sessionHistory s k a)) e ∙ sym (r .bytes);
-            units = l .units ∙ ap (λ k. pendingIn (slotOf (sessionEnd s k) a)) e ∙ sym (r .units);
+            answers = l .answers ∙ ap (λ k. sessionHistory s words k a) e ∙ sym (r .answers);
+            bytes = l .bytes ∙ ap (λ k. lentBytes a (sessionHistory s words k a)) e ∙ sym (r .bytes);
+            units = l .units ∙ ap (λ k. pendingIn (slotOf (sessionEnd s words k) a)) e ∙ sym (r .units);
           };
     }
 
 -- ---- granularities, all of 0 to 20 at once
 
-pub granularity : (g : ℕ) → g ≤ 20 → Granularity g
+pub granularity : Granularities
 granularity g h =
     record {
       least = pow-mono {i = 12} {j = 12 + g} (omega arith);
@@ -152,6 +153,6 @@ granularity g h =
 
 -- ---- the worked numbers of document 01
 
-pub worked : map answered cases ≡ map (λ (c : Case). c .answers) cases
+pub worked : Worked
 unfolding cases settingsOk placeOf granularityOk rangeTests powersOk unitsOk rangesOf startBytes fresh step order sound heldOk numberAt numberBytes records recordsAt
 worked = refl

@@ -16,7 +16,7 @@ use Rattle.rules.specs.Lists.{any, keep, sum}
 use Rattle.rules.specs.Settings.{unitSize}
 use Rattle.rules.specs.Units.{Unit, unitsOfRow, covers, uncovered, unitsFrom, Write, touches, mark, newly, pending}
 use Rattle.rules.specs.declared.Range.{Range}
-use Rattle.rules.proofs.ListLaws.{All, All-map, All-both, All-append, All-keep, All-kept, and-left, and-right, and-intro, any-left, any-last, keep-length}
+use Rattle.rules.proofs.ListLaws.{All, All-map, All-both, All-append, All-keep, All-kept, Pairwise, Pairwise-append, Pairwise-keep, and-left, and-right, and-intro, any-left, any-last, keep-length}
 
 -- ---- bytes of units
 
@@ -28,15 +28,10 @@ abbrev pub Free : Unit → Unit → Type 0
 Free u v = (x : ℕ) → In x u → In x v → ⊥
 
 abbrev pub Apart : List Unit → Type 0
-Apart [] = Prim.Unit {0}
-Apart (u ∷ us) = All (Free u) us × Apart us
+Apart us = Pairwise Free us
 
 abbrev pub Sized : ℕ → List Unit → Type 0
 Sized s us = All (λ u. u .size ≡ s) us
-
-pub Apart-append : (xs ys : List Unit) → Apart xs → Apart ys → All (λ u. All (Free u) ys) xs → Apart (xs ++ ys)
-Apart-append [] ys p q c = q
-Apart-append (x ∷ xs) ys p q c = (All-append (Free x) xs ys (p .0) (c .0), Apart-append xs ys (p .1) q (c .1))
 
 -- ---- units of one row, one after the other from an address on
 
@@ -125,7 +120,7 @@ unitsOfRow-aligned : (row s a n : ℕ) → a % s ≡ 0 → All (λ u. u .address
 unitsOfRow-aligned row s a zero e = tt
 unitsOfRow-aligned row s a (suc n) e = (e, unitsOfRow-aligned row s (a + s) n (add-mod-right a s ∙ e))
 
-unitsFrom-aligned : (s row : ℕ) (before rs : List Range) → All (Aligned s) rs → All (λ u. u .address % s ≡ 0) (unitsFrom s row before rs)
+pub unitsFrom-aligned : (s row : ℕ) (before rs : List Range) → All (Aligned s) rs → All (λ u. u .address % s ≡ 0) (unitsFrom s row before rs)
 unitsFrom-aligned s row before [] h = tt
 unitsFrom-aligned s row before (r ∷ rs) h =
     All-append (λ u. u .address % s ≡ 0) (keep (uncovered s before) (unitsOfRow row s (r .start) (r .length))) (unitsFrom s (suc row) (before ++ r ∷ []) rs)
@@ -146,14 +141,6 @@ aligned-gap s x y z e f h = go (decLe (y / s) (x / s))
     go (yes a) = absurd (omega (arith, low, high, h, mul-le-mul-right {m = y / s} {n = x / s} s a))
     go (no a) = omega (arith, low, high, suc-mul (x / s) s, mul-le-mul-right {m = suc (x / s)} {n = y / s} s (omega arith))
 
-Apart-keep : (f : Unit → Bool) (us : List Unit) → Apart us → Apart (keep f us)
-Apart-keep f [] h = tt
-Apart-keep f (u ∷ us) h = go (Apart-keep f us (h .1)) (f u)
-  where
-    go : Apart (keep f us) → (b : Bool) → Apart (cond b (u ∷ keep f us) (keep f us))
-    go k true = (All-keep (Free u) f us (h .0), k)
-    go k false = k
-
 -- a unit of a range, and one that begins at a multiple of the unit and that the range does not cover
 covered-not : (s : ℕ) (r : Range) (u v : Unit) → 0 < s → Aligned s r → (r .start ≤ u .address) × (u .address + u .size ≤ r .start + r .length * s) × (u .size ≡ s)
     → covers s r (v .address) ≡ false → v .address % s ≡ 0 → v .size ≡ s → Free u v
@@ -168,8 +155,8 @@ covered-not s r u v z e w c d n x i j = go (decLe (r .start) (v .address)) (decL
 pub unitsFrom-apart : (s row : ℕ) (before rs : List Range) → 0 < s → All (Aligned s) rs → Apart (unitsFrom s row before rs)
 unitsFrom-apart s row before [] z h = tt
 unitsFrom-apart s row before (r ∷ rs) z h =
-    Apart-append (keep (uncovered s before) own) later
-    (Apart-keep (uncovered s before) own (chain-apart s (r .start) own (unitsOfRow-chain row s (r .start) (r .length))))
+    Pairwise-append Free (keep (uncovered s before) own) later
+    (Pairwise-keep Free (uncovered s before) own (chain-apart s (r .start) own (unitsOfRow-chain row s (r .start) (r .length))))
     (unitsFrom-apart s (suc row) (before ++ r ∷ []) rs z (h .1))
     (All-map (λ u w. All-map (λ v q. covered-not s r u v z (h .0) w (any-last (λ q. covers s q (v .address)) before r (q .0)) (q .1 .0) (q .1 .1)) later known)
     (keep (uncovered s before) own)

@@ -1,8 +1,8 @@
 -- What is asked of the rules, as statements, each proved in proofs/Theorems.antt. A session is any list of calls from a fresh device, each call given what
--- the last one left; settings that break 16 make the closed device, and the statements hold of it too.
+-- the last one left; a refused fresh makes the closed device, and the statements hold of it too.
 use Prim.Native.Nat.{ℕ, suc, _+_, _%_, _^_, _≤_, _<_}
 use mathlib.Core.Path.{_≡_}
-use mathlib.Core.Logic.{_↔_}
+use mathlib.Core.Logic.{_≢_, _↔_, _⊎_}
 use mathlib.Core.Bool.{Bool, true, false, _&&_, not}
 use mathlib.Core.List.{List, [], _∷_, map}
 use mathlib.Core.Option.{none, some}
@@ -10,23 +10,24 @@ use lib.Dec.{eqb}
 use lib.ListN.{length, take, drop, getD, getElem?}
 use Rattle.rules.specs.Lists.{all, any, join, member}
 use Rattle.rules.specs.Refusals.{refusal}
-use Rattle.rules.specs.Settings.{settingsOk, unitSize, bytesOf}
+use Rattle.rules.specs.Settings.{unitSize, bytesOf}
 use Rattle.rules.specs.Units.{Unit, Write, covers, units, touches, mark, newly, pending}
 use Rattle.rules.specs.StartData.{noRange, startSize, startBytes, startData, startWritten, placed}
-use Rattle.rules.specs.Report.{follows, runs, Descriptor, descriptor, Report, reportOn, marksLeft}
-use Rattle.rules.specs.ReportReader.{moreIn, suspendedIn, identifierIn, granularityIn, descriptorsIn, reportTests}
+use Rattle.rules.specs.Report.{follows, runs, Descriptor, descriptor, Report, room, reportOn, marksLeft}
+use Rattle.rules.specs.ReportReader.{reportSize, bit, reportRefusal, reportSuspended, reportMore, reportIdentifier, reportGranularity, reportCount, reportRefusalAt, reportAddress, reportLength}
+use Rattle.rules.specs.Order.{freshOrder}
 use Rattle.rules.specs.Machine.{refused, slot, on, pendingIn, State, fresh, soundState, slotOf, Call, step, after, events, lent, stored, numberOf, newlyOf, noReport, reportOf}
 use Rattle.rules.specs.History.{Did, only, historyOf, PendingBy, lists, slotBy}
 use Rattle.rules.specs.declared.Range.{Range}
 use Rattle.rules.specs.declared.Settings.{Settings}
 use Rattle.rules.specs.declared.Header.the-variants.{Is}
 
--- the device that a session leaves, and a controller's history in it
-abbrev pub sessionEnd : Settings → List Call → State
-sessionEnd s ks = after (fresh s) ks
+-- the device that a session leaves, from settings and a number of mark words, and a controller's history in it
+abbrev pub sessionEnd : Settings → ℕ → List Call → State
+sessionEnd s words ks = after (fresh s words) ks
 
-abbrev pub sessionHistory : Settings → List Call → ℕ → List Did
-sessionHistory s ks a = historyOf a (events (fresh s) ks)
+abbrev pub sessionHistory : Settings → ℕ → List Call → ℕ → List Did
+sessionHistory s words ks a = historyOf a (events (fresh s words) ks)
 
 -- ---- demand 1, as far as it speaks of the rules
 
@@ -39,23 +40,30 @@ pub record Refusals : Type 0 where
 
 -- "From a fresh device no sequence of calls leads to an unsound record, save the closed device of a refused fresh", which answers 1 to every call
 pub record Soundness : Type 0 where
-  pub kept : (s : Settings) (ks : List Call) → settingsOk s ≡ true → soundState (sessionEnd s ks) ≡ true
-  pub closed : (s : Settings) (ks : List Call) (k : Call) → settingsOk s ≡ false → (step (sessionEnd s ks) k) .0 ≡ refused 1
+  pub kept : (s : Settings) (words : ℕ) (ks : List Call) → refusal (freshOrder s words) ≡ 0 → soundState (sessionEnd s words ks) ≡ true
+  pub closed : (s : Settings) (words : ℕ) (ks : List Call) (k : Call) → refusal (freshOrder s words) ≢ 0 → (step (sessionEnd s words ks) k) .0 ≡ refused 1
 
 -- ---- demand 2
 
 -- "A unit of a tracked range is pending exactly if an accepted write by its controller touched it after tracking last started and after it was
 -- last reported": for a controller that is tracked after a session, and each unit of its ranges
-pub record Pending (s : Settings) (ks : List Call) (a : ℕ) : Type 0 where
+pub record Pending (s : Settings) (words : ℕ) (ks : List Call) (a : ℕ) : Type 0 where
   -- what the controller's slot holds is told by its calls and answers alone
-  pub told : slotOf (sessionEnd s ks) a ≡ slotBy (sessionHistory s ks a)
-  pub exactly : (b : Bool) (g : ℕ) (rs : List Range) (p : List Bool) → slotOf (sessionEnd s ks) a ≡ slot b (on g rs p)
+  pub told : slotOf (sessionEnd s words ks) a ≡ slotBy (sessionHistory s words ks a)
+  pub exactly : (b : Bool) (g : ℕ) (rs : List Range) (p : List Bool) → slotOf (sessionEnd s words ks) a ≡ slot b (on g rs p)
       → (n : ℕ) (u : Unit) → getElem? (units g rs) n ≡ some u
-      → (getElem? p n ≡ some true) ↔ PendingBy (sessionHistory s ks a) u
+      → (getElem? p n ≡ some true) ↔ PendingBy (sessionHistory s words ks a) u
 
--- W2: "A unit covered by several ranges counts once and belongs to the earliest listed", of ranges that begin at multiples of the unit
-pub record Once (g : ℕ) (rs : List Range) : Type 0 where
-  -- a unit is covered by the range in whose row it stands, and by none that is listed before
+-- which units ranges have, and their order: of ranges that begin at multiples of the unit
+pub record UnitsListed (g : ℕ) (rs : List Range) : Type 0 where
+  -- "A granularity n means a unit of 2^n times 4 KiB": each has that size, and stands at a multiple of it
+  pub sized : (m : ℕ) (u : Unit) → getElem? (units g rs) m ≡ some u → u .size ≡ unitSize g
+  pub multiple : (m : ℕ) (u : Unit) → getElem? (units g rs) m ≡ some u → u .address % unitSize g ≡ 0
+  -- "in the order of the ranges as listed and by address within a range"
+  pub in-order : (m n : ℕ) (u v : Unit) → m < n → getElem? (units g rs) m ≡ some u → getElem? (units g rs) n ≡ some v
+      → (u .row < v .row) ⊎ ((u .row ≡ v .row) × (u .address < v .address))
+  -- W2: "A unit covered by several ranges counts once and belongs to the earliest listed": it is covered by the range in whose row it stands, and by none
+  -- that is listed before
   pub own : (m : ℕ) (u : Unit) → getElem? (units g rs) m ≡ some u → covers (unitSize g) (getD rs (u .row) noRange) (u .address) ≡ true
   pub earliest : (m : ℕ) (u : Unit) → getElem? (units g rs) m ≡ some u → any (λ r. covers (unitSize g) r (u .address)) (take (u .row) rs) ≡ false
   -- each one that a range covers is there
@@ -104,6 +112,11 @@ pub record Reports (b : Bool) (g k : ℕ) (us : List Unit) (p : List Bool) : Typ
   -- More is clear exactly when nothing stays pending
   pub more : (reportOn b g k us p .more ≡ false) ↔ (pending us (marksLeft k us p) ≡ [])
 
+-- "That fit": a buffer of so many bytes has room for as many descriptors as fit behind 16 bytes, and one more would not fit
+pub record Room (bytes : ℕ) : Type 0 where
+  pub fits : reportSize (room bytes) ≤ bytes
+  pub no-more : bytes < reportSize (suc (room bytes))
+
 -- "A written range … touches each unit with which it shares a byte. Length 0 touches none."
 pub record Touches (w : Write) (u : Unit) : Type 0 where
   pub exactly : 0 < u .size
@@ -124,13 +137,13 @@ pub record Writes (w : Write) (us : List Unit) (p : List Bool) : Type 0 where
 
 -- all of it, after any session and of any controller
 pub record Demand2 : Type 1 where
-  pub once : (g : ℕ) (rs : List Range) → all (λ (r : Range). eqb (r .start % unitSize g) 0) rs ≡ true → Once g rs
-  pub pending : (s : Settings) (ks : List Call) (a : ℕ) → Pending s ks a
-  pub reports : (s : Settings) (ks : List Call) (a : ℕ) (b : Bool) (g : ℕ) (rs : List Range) (p : List Bool)
-      → slotOf (sessionEnd s ks) a ≡ slot b (on g rs p) → (k : ℕ) → Reports b g k (units g rs) p
+  pub listed : (g : ℕ) (rs : List Range) → all (λ (r : Range). eqb (r .start % unitSize g) 0) rs ≡ true → UnitsListed g rs
+  pub pending : (s : Settings) (words : ℕ) (ks : List Call) (a : ℕ) → Pending s words ks a
+  pub reports : (s : Settings) (words : ℕ) (ks : List Call) (a : ℕ) (b : Bool) (g : ℕ) (rs : List Range) (p : List Bool)
+      → slotOf (sessionEnd s words ks) a ≡ slot b (on g rs p) → (k : ℕ) → Reports b g k (units g rs) p
+  pub room : (bytes : ℕ) → 16 ≤ bytes → Room bytes
   pub touches : (w : Write) (u : Unit) → Touches w u
-  pub writes : (s : Settings) (ks : List Call) (a : ℕ) (b : Bool) (g : ℕ) (rs : List Range) (p : List Bool)
-      → slotOf (sessionEnd s ks) a ≡ slot b (on g rs p) → (w : Write) → Writes w (units g rs) p
+  pub writes : (w : Write) (us : List Unit) (p : List Bool) → Writes w us p
 
 -- ---- "Start structures are read and written without loss"
 
@@ -156,14 +169,19 @@ pub record WithoutLoss : Type 0 where
 
 -- ---- W1: the host's reader "accepts each report the core can write, returning exactly its runs"
 
--- the bytes of a report r on a controller, read back
+-- the bytes of a report r on a controller, asked with each question of the reader
 pub record ReadBack (id : ℕ) (r : Report) (x : List ℕ) : Type 0 where
-  pub accepted : refusal (reportTests x) ≡ 0
-  pub identifier : identifierIn x ≡ id
-  pub suspended : suspendedIn x ≡ r .suspended
-  pub more : moreIn x ≡ r .more
-  pub granularity : granularityIn x ≡ r .granularity
-  pub runs : descriptorsIn x ≡ r .descriptors
+  pub accepted : reportRefusal x ≡ 0
+  pub identifier : reportIdentifier x ≡ id
+  pub suspended : reportSuspended x ≡ bit (r .suspended)
+  pub more : reportMore x ≡ bit (r .more)
+  pub granularity : reportGranularity x ≡ r .granularity
+  pub count : reportCount x ≡ length (r .descriptors)
+  -- each run at its index
+  pub run : (i : ℕ) (d : Descriptor) → getElem? (r .descriptors) i ≡ some d
+      → (reportRefusalAt x i ≡ 0) × (reportAddress x i ≡ d .address) × (reportLength x i ≡ d .length)
+  -- and none from the count on
+  pub past : (i : ℕ) → length (r .descriptors) ≤ i → reportRefusalAt x i ≡ 33
 
 -- ---- demand 3
 
@@ -180,17 +198,18 @@ abbrev pub lentBytes : ℕ → List Did → List (List ℕ)
 lentBytes a h = map (λ (d : Did). stored a (lent (d .op)) (d .answer)) h
 
 -- two sessions agree for a controller: every answer, every byte lent, and its pending units
-pub record Agree (s : Settings) (a : ℕ) (ks ks′ : List Call) : Type 0 where
-  pub answers : sessionHistory s ks a ≡ sessionHistory s ks′ a
-  pub bytes : lentBytes a (sessionHistory s ks a) ≡ lentBytes a (sessionHistory s ks′ a)
-  pub units : pendingIn (slotOf (sessionEnd s ks) a) ≡ pendingIn (slotOf (sessionEnd s ks′) a)
+pub record Agree (s : Settings) (words a : ℕ) (ks ks′ : List Call) : Type 0 where
+  pub answers : sessionHistory s words ks a ≡ sessionHistory s words ks′ a
+  pub bytes : lentBytes a (sessionHistory s words ks a) ≡ lentBytes a (sessionHistory s words ks′ a)
+  pub units : pendingIn (slotOf (sessionEnd s words ks) a) ≡ pendingIn (slotOf (sessionEnd s words ks′) a)
 
 -- "Two sessions from the same settings in which controller A gets the same calls, while the others get anything: if in neither a start for A is refused
--- for the shared descriptor limit," A's answers, bytes and pending units "agree, and equal what demand 2's rules give for A's calls alone"
+-- for the shared descriptor limit, every answer to A, every byte of A's reports and A's pending units agree, and equal what demand 2's rules give for A's
+-- calls alone"
 pub record Demand3 : Type 0 where
-  pub alone : (s : Settings) (a : ℕ) (ks : List Call) → unhindered (sessionHistory s ks a) ≡ true → Agree s a ks (only a ks)
-  pub together : (s : Settings) (a : ℕ) (ks ks′ : List Call) → only a ks ≡ only a ks′
-      → unhindered (sessionHistory s ks a) ≡ true → unhindered (sessionHistory s ks′ a) ≡ true → Agree s a ks ks′
+  pub alone : (s : Settings) (words a : ℕ) (ks : List Call) → unhindered (sessionHistory s words ks a) ≡ true → Agree s words a ks (only a ks)
+  pub together : (s : Settings) (words a : ℕ) (ks ks′ : List Call) → only a ks ≡ only a ks′
+      → unhindered (sessionHistory s words ks a) ≡ true → unhindered (sessionHistory s words ks′ a) ≡ true → Agree s words a ks ks′
 
 -- ---- granularities
 
@@ -199,3 +218,7 @@ pub record Granularity (g : ℕ) : Type 0 where
   pub least : 4096 ≤ unitSize g
   pub whole : 2 ^ 64 % unitSize g ≡ 0
   pub fits : (units : ℕ) → units < 2 ^ 32 → bytesOf g units < 2 ^ 64
+
+-- "A fact about granularity is proved once for all 0 to 20"
+abbrev pub Granularities : Type 0
+Granularities = (g : ℕ) → g ≤ 20 → Granularity g

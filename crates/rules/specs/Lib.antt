@@ -12,3 +12,4 @@ pub mod Machine
 pub mod History
 pub mod Demands
 pub mod Worked
+pub mod Promise

@@ -1,7 +1,7 @@
 -- Document 01 as a machine: a device is its settings and a slot for each controller; a call to a controller is answered and leaves a device.
 -- One call sees the settings, its own controller's slot and what `Seen` says of the device, and changes that slot alone.
 use Prim.Native.Nat.{ℕ}
-use mathlib.Core.Bool.{Bool, true, false, _||_, cond}
+use mathlib.Core.Bool.{Bool, true, false, _||_}
 use mathlib.Core.List.{List, [], _∷_, map}
 use mathlib.Core.Option.{Option, none, some}
 use lib.Dec.{eqb}
@@ -9,11 +9,11 @@ use lib.ListN.{length, getD, set}
 use Rattle.little.specs.Little.{put}
 use Rattle.rules.specs.Lists.{sum, isSome}
 use Rattle.rules.specs.Refusals.{verdict}
-use Rattle.rules.specs.Settings.{settingsOk, identifiersOf, placeOf}
+use Rattle.rules.specs.Settings.{identifiersOf, placeOf}
 use Rattle.rules.specs.Units.{Unit, units, clear, mark, newly, pending}
 use Rattle.rules.specs.StartData.{granularityOf, rangesOf}
 use Rattle.rules.specs.Report.{Report, room, reportOn, marksLeft, reportBytes}
-use Rattle.rules.specs.Order.{Op, start, stop, write, receive, suspend, resume, Seen, order}
+use Rattle.rules.specs.Order.{Op, start, stop, write, receive, suspend, resume, Seen, freshOrder, order}
 use Rattle.rules.specs.Device.{Held, heldCount, sound, cleaned, closedSettings}
 use Rattle.rules.specs.declared.Range.{Range}
 use Rattle.rules.specs.declared.Settings.{Settings}
@@ -83,9 +83,12 @@ pub record State : Type 0 where
 abbrev pub closed : State
 closed = record { settings = closedSettings; slots = [] }
 
--- the device that fresh makes of settings (a refused one is closed)
-unfoldable pub fresh : Settings → State
-fresh s = cond (settingsOk s) (record { settings = cleaned s; slots = map (λ (i : ℕ). freshSlot) (identifiersOf s) }) closed
+-- the device that fresh makes of settings and a number of mark words (a refused one is closed)
+abbrev pub opened : Settings → State
+opened s = record { settings = cleaned s; slots = map (λ (i : ℕ). freshSlot) (identifiersOf s) }
+
+unfoldable pub fresh : Settings → ℕ → State
+fresh s words = verdict (freshOrder s words) (opened s) (λ n i. closed)
 
 abbrev pub soundState : State → Bool
 soundState st = sound (st .settings) (map heldBy (st .slots))

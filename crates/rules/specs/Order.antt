@@ -6,10 +6,10 @@ use mathlib.Core.List.{List, [], _∷_, _++_}
 use lib.Dec.{leb, eqb}
 use lib.ListN.{length}
 use Rattle.rules.specs.Refusals.{Test, _else_}
-use Rattle.rules.specs.Settings.{settingsOk, granularityOk}
+use Rattle.rules.specs.Settings.{markWords, settingsOk, granularityOk}
 use Rattle.rules.specs.Units.{Write}
 use Rattle.rules.specs.Ranges.{listTests}
-use Rattle.rules.specs.StartData.{headerThere, versionOk, rangesThere, granularityOf, countOf, rangesOf}
+use Rattle.rules.specs.StartData.{headerTests, rangesThere, granularityOf, countOf, rangesOf}
 use Rattle.rules.specs.declared.Settings.{Settings}
 
 -- a call to one controller, with the bytes that are lent with it: a start structure, or a report's buffer
@@ -34,22 +34,39 @@ pub record Seen : Type 0 where
 abbrev pub freshOrder : Settings → ℕ → List Test
 freshOrder s words =
     (settingsOk s else 16)
-    ∷ (eqb words 512 else 1)
+    ∷ (eqb words markWords else 1)
     ∷ []
 
--- Start. The counts of others are looked at last: 12
-abbrev pub startOrder : Settings → Seen → List ℕ → List Test
-startOrder s v x =
+-- ---- start, in parts that follow one another
+
+-- the controller: running, and not tracked yet
+abbrev pub startWho : Seen → List Test
+startWho v =
     (v .sound else 1)
     ∷ (v .known else 2)
     ∷ (not (v .suspended) else 4)
     ∷ (not (v .tracked) else 3)
-    ∷ (headerThere x else 8)
-    ∷ (versionOk x else 6)
-    ∷ (granularityOk s (granularityOf x) else 7)
+    ∷ []
+
+-- the structure behind its header, by itself: 7, 8 (listed ranges), 9, 10, 11
+abbrev pub startListed : Settings → List ℕ → List Test
+startListed s x =
+    (granularityOk s (granularityOf x) else 7)
     ∷ (rangesThere x else 8)
-    ∷ (listTests s (granularityOf x) (countOf x) (rangesOf x)
-    ++ (leb (countOf x + v .counts) (s .limit) else 12) ∷ [])
+    ∷ listTests s (granularityOf x) (countOf x) (rangesOf x)
+
+-- what concerns the controller alone
+abbrev pub startOwn : Settings → Seen → List ℕ → List Test
+startOwn s v x = startWho v ++ (headerTests x ++ startListed s x)
+
+-- what controllers share, with so many counts tracked now: 12
+abbrev pub startShared : Settings → ℕ → List ℕ → List Test
+startShared s counts x = (leb (countOf x + counts) (s .limit) else 12) ∷ []
+
+abbrev pub startOrder : Settings → Seen → List ℕ → List Test
+startOrder s v x = startOwn s v x ++ startShared s (v .counts) x
+
+-- ---- the other calls
 
 abbrev pub stopOrder : Seen → List Test
 stopOrder v =

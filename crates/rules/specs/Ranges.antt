@@ -7,7 +7,7 @@ use lib.Dec.{leb, eqb}
 use lib.ListN.{length}
 use Rattle.rules.specs.Lists.{all, someBelow}
 use Rattle.rules.specs.Refusals.{Test, _else_, _place_}
-use Rattle.rules.specs.Settings.{unitSize, bytesOf}
+use Rattle.rules.specs.Settings.{mostUnits, unitSize, bytesOf}
 use Rattle.rules.specs.Units.{units}
 use Rattle.rules.specs.declared.Range.{Range}
 use Rattle.rules.specs.declared.Settings.{Settings}
@@ -44,9 +44,9 @@ isPower n = someBelow 32 (λ k. eqb n (2 ^ k))
 unfoldable pub powersOk : Settings → List Range → Bool
 powersOk s rs = not (s .powers) || all (λ (r : Range). isPower (r .length)) rs
 
--- 11: at most 4,096 different units
+-- 11: at most so many different units
 unfoldable pub unitsOk : ℕ → List Range → Bool
-unitsOk g rs = leb (length (units g rs)) 4096
+unitsOk g rs = leb (length (units g rs)) mostUnits
 
 -- 9, 10 and 11
 abbrev pub listTests : Settings → ℕ → ℕ → List Range → List Test

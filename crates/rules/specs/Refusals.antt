@@ -29,6 +29,14 @@ verdict (t ∷ ts) done refuse = cond (t .ok) (verdict ts done refuse) (refuse (
 abbrev pub refusal : List Test → ℕ
 refusal ts = verdict ts 0 (λ n i. n)
 
+-- the place that it answers, 0 where all tests are passed
+abbrev pub placeIn : List Test → ℕ
+placeIn ts = verdict ts 0 (λ n i. i)
+
+-- a number where all tests are passed, else 0
+abbrev pub orZero : List Test → ℕ → ℕ
+orZero ts n = verdict ts n (λ k i. 0)
+
 -- whether all tests of a table are passed
 abbrev pub passes : List Test → Bool
 passes ts = all (λ (t : Test). t .ok) ts

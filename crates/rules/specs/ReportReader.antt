@@ -1,12 +1,12 @@
 -- Document 02, W1: the host's reader of a report (NVMe: Tracked Memory Changed data structure): its header, and its descriptors by index.
 -- Reserved bits and bytes are not looked at. What a report's writer stores stands in Report.antt.
 use Prim.Native.Nat.{ℕ, suc, _+_, _*_, _/_, _%_}
-use mathlib.Core.Bool.{Bool, not, _&&_}
+use mathlib.Core.Bool.{Bool, not, _&&_, cond}
 use mathlib.Core.List.{List, [], _∷_, _++_}
 use lib.Dec.{leb, ltb, eqb}
 use lib.ListN.{length, getD}
 use Rattle.little.specs.Little.{numberAt, recordsAt}
-use Rattle.rules.specs.Refusals.{Test, _else_, _place_, verdict, passes}
+use Rattle.rules.specs.Refusals.{Test, _else_, _place_, refusal, placeIn, orZero, passes}
 use Rattle.rules.specs.Ranges.{rowTests}
 use Rattle.rules.specs.Report.{Descriptor}
 
@@ -72,12 +72,41 @@ reportTests x =
 abbrev pub indexTests : List ℕ → ℕ → List Test
 indexTests x i = reportTests x ++ (ltb i (countIn x) else 33) ∷ []
 
--- ---- answers
+-- ---- answers: what each function of the reader answers, of a report's bytes and an index. Refused, each but the refusal and its index is 0
 
--- the index that a refusal is about: that of the first bad descriptor, else 0
-abbrev pub indexOf : List Test → ℕ
-indexOf ts = verdict ts 0 (λ n i. i)
+-- a Bool as C has it
+abbrev pub bit : Bool → ℕ
+bit b = cond b 1 0
 
--- a number where all tests are passed, else 0
-abbrev pub orZero : List Test → ℕ → ℕ
-orZero ts n = verdict ts n (λ k i. 0)
+-- what the report is refused for, or 0
+abbrev pub reportRefusal : List ℕ → ℕ
+reportRefusal x = refusal (reportTests x)
+
+-- the index that the refusal is about: that of the first bad descriptor, else 0
+abbrev pub reportBadIndex : List ℕ → ℕ
+reportBadIndex x = placeIn (reportTests x)
+
+abbrev pub reportSuspended : List ℕ → ℕ
+reportSuspended x = orZero (reportTests x) (bit (suspendedIn x))
+
+abbrev pub reportMore : List ℕ → ℕ
+reportMore x = orZero (reportTests x) (bit (moreIn x))
+
+abbrev pub reportIdentifier : List ℕ → ℕ
+reportIdentifier x = orZero (reportTests x) (identifierIn x)
+
+abbrev pub reportGranularity : List ℕ → ℕ
+reportGranularity x = orZero (reportTests x) (granularityIn x)
+
+abbrev pub reportCount : List ℕ → ℕ
+reportCount x = orZero (reportTests x) (countIn x)
+
+-- what the descriptor at an index is refused for, or 0
+abbrev pub reportRefusalAt : List ℕ → ℕ → ℕ
+reportRefusalAt x i = refusal (indexTests x i)
+
+abbrev pub reportAddress : List ℕ → ℕ → ℕ
+reportAddress x i = orZero (indexTests x i) (descriptorOf x i .address)
+
+abbrev pub reportLength : List ℕ → ℕ → ℕ
+reportLength x i = orZero (indexTests x i) (descriptorOf x i .length)

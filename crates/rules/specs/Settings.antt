@@ -1,4 +1,4 @@
--- Document 01, "Settings and sizes": the settings and their rule (16), and what a granularity means.
+-- Document 01, "Settings and sizes": the settings and their rule (16), the sizes, and what a granularity means.
 use Prim.Native.Nat.{ℕ, _+_, _*_, _^_}
 use mathlib.Core.Bool.{Bool, _&&_, not}
 use mathlib.Core.List.{List, [], _∷_}
@@ -7,6 +7,8 @@ use lib.ListN.{take}
 use lib.Dec.{leb}
 use Rattle.rules.specs.Lists.{every, member, different, placeFrom}
 use Rattle.rules.specs.declared.Settings.{Settings}
+
+-- ---- settings
 
 -- the controllers' identifiers
 abbrev pub identifiersOf : Settings → List ℕ
@@ -35,6 +37,18 @@ placeOf s id = placeFrom 0 (identifiersOf s) id
 -- whether a granularity passes 7: not below the least, not above the greatest
 unfoldable pub granularityOk : Settings → ℕ → Bool
 granularityOk s g = leb (s .least) g && leb g (s .greatest)
+
+-- ---- sizes
+
+-- the lent words of marks
+abbrev pub markWords : ℕ
+markWords = 512
+
+-- the most units that a controller's ranges may have
+abbrev pub mostUnits : ℕ
+mostUnits = 4096
+
+-- ---- granularities
 
 -- the bytes of a unit: 2^n times 4 KiB
 abbrev pub unitSize : ℕ → ℕ

@@ -1,9 +1,11 @@
 -- Document 01, "Settled by worked numbers": the marked cases (*), in their order, as one table of sessions with the answers that the document gives.
--- That the rules give these answers is one computed claim (proofs/Theorems.antt).
+-- That the rules give these answers is one claim, `Worked`, proved by computing (proofs/Theorems.antt).
 use Prim.Native.Nat.{ℕ, zero, suc, _+_, _-_, _^_}
+use mathlib.Core.Path.{_≡_}
 use mathlib.Core.Bool.{Bool, true, false}
 use mathlib.Core.List.{List, [], _∷_, map}
 use lib.ListN.{replicate}
+use Rattle.rules.specs.Settings.{markWords}
 use Rattle.rules.specs.StartData.{startBytes}
 use Rattle.rules.specs.Report.{Descriptor}
 use Rattle.rules.specs.Order.{start, write, receive}
@@ -98,4 +100,8 @@ settings powers =
 
 -- what the rules answer
 abbrev pub answered : Case → List Answer
-answered c = map (λ (e : Event). e .answer) (events (fresh (settings (c .powers))) (c .calls))
+answered c = map (λ (e : Event). e .answer) (events (fresh (settings (c .powers)) markWords) (c .calls))
+
+-- each case is answered as the document says
+abbrev pub Worked : Type 0
+Worked = map answered cases ≡ map (λ (c : Case). c .answers) cases

@@ -4,6 +4,12 @@ ghost use mathlib.Core.Path.{_≡_};
 ghost use lib.ListN.{replicate};
 ghost use Rattle.rules.specs.StartData.{noRange};
 
+// The lent words of marks.
+pub const MARK_WORDS: usize = 512;
+
+// The most units that a controller's ranges may have.
+pub const MOST_UNITS: u64 = 4096;
+
 // A length in units.
 pub struct Units(pub u64);
 

@@ -1,20 +1,22 @@
--- What the readers' answers tell whoever calls them: of the bytes, the number and the place. All but `of-header` is the crate's interface. Assumes nothing.
-use mathlib.Core.Path.{_≡_, refl}
-use mathlib.Core.Bool.{Bool, true, false, and-false}
+-- What the readers' answers tell whoever calls them: of the bytes, the number and the place. All but `says-by` is the crate's interface. Assumes nothing.
+use mathlib.Core.Path.{_≡_, refl, ap, _∙_}
+use mathlib.Core.Logic.{_≢_}
+use mathlib.Core.Bool.{Bool, true, false, cond, and-false}
 use mathlib.Core.List.{List, [], _∷_}
 use Prim.Native.Nat.{ℕ, _≤_, _<_}
 use native.Mathlib.Omega.{arith}
 use lib.Dec.{leb}
 use lib.ListN.{length, replicate}
 use borrow.Author.Tests.{le-leb, lt-leb}
-use Rattle.little.specs.Little.{recordsAt}
-use Rattle.rules.specs.Refusals.{_else_, verdict, refusal}
-use Rattle.rules.specs.StartData.{granularityOf, countOf, rangesOf, rangeAt, startSize, noRange, headerThere, versionOk, headerTests, headerOf, readTests, startData, placed}
+use Rattle.little.specs.Little.{put, recordsAt}
+use Rattle.rules.specs.Refusals.{Test, _else_, verdict, refusal, placeIn, orZero}
+use Rattle.rules.specs.StartData.{granularityOf, countOf, rangesOf, rangeAt, startSize, noRange, headerThere, versionOk, headerTests, headerOf, readTests, startData, placed, startBytes, writeTests, startWritten}
+use Rattle.rules.specs.declared.Range.{Range}
 use Rattle.rules.specs.declared.Header.{Header}
 use Rattle.rules.specs.declared.Header.the-variants.{Is, Refused}
 use Rattle.rules.specs.declared.StartData.{StartData}
-use Rattle.rules.proofs.RefusalLaws.{verdict-has, verdict-map}
-use Rattle.start_data.specs.Answer.{headerNumber, headerPlace, rangesRead}
+use Rattle.rules.proofs.RefusalLaws.{verdict-has, verdict-map, verdict-number}
+use Rattle.start_data.specs.Answer.{headerSays, saidBy, HeaderRead, StartRead, rangesRead}
 
 -- ---- a header
 
@@ -50,30 +52,51 @@ headerOf-refused x k at = go (headerThere x) (versionOk x) refl refl
     go true false t v e = is 6 0 e (otherVersion t v)
     go false version t v e = is 8 0 e (noHeader t)
 
--- ---- the number and the place that each reader answers
+-- ---- what each reader's answer says
+
+-- of a table's verdict that is a header
+says-by : (ts : List Test) (x : List ℕ) → verdict ts (headerSays (Is (granularityOf x) (countOf x))) (λ k at. headerSays (Refused k at)) ≡ saidBy ts x
+says-by [] x = refl
+says-by (t ∷ ts) x = go (t .ok) (says-by ts x)
+  where
+    go : (b : Bool) → verdict ts (headerSays (Is (granularityOf x) (countOf x))) (λ k at. headerSays (Refused k at)) ≡ saidBy ts x
+        → cond b (verdict ts (headerSays (Is (granularityOf x) (countOf x))) (λ k at. headerSays (Refused k at))) (headerSays (Refused (t .number) (t .place)))
+        ≡ record { number = cond b (refusal ts) (t .number); place = cond b (placeIn ts) (t .place); granularity = cond b (orZero ts (granularityOf x)) 0; count = cond b (orZero ts (countOf x)) 0 }
+    go true e = e
+    go false e = refl
 
 module _ (x : List ℕ) where
-  pub headerOf-number : headerNumber (headerOf x) ≡ refusal (headerTests x)
+  pub headerOf-says : headerSays (headerOf x) ≡ saidBy (headerTests x) x
   unfolding headerOf
-  headerOf-number = verdict-map headerNumber (headerTests x) (Is (granularityOf x) (countOf x)) Refused
+  headerOf-says = verdict-map headerSays (headerTests x) (Is (granularityOf x) (countOf x)) Refused ∙ says-by (headerTests x) x
 
-  pub headerOf-place : headerPlace (headerOf x) ≡ verdict (headerTests x) 0 (λ k at. at)
-  unfolding headerOf
-  headerOf-place = verdict-map headerPlace (headerTests x) (Is (granularityOf x) (countOf x)) Refused
-
-  -- of a header in the structure's answer
-  of-header : (f : Header → ℕ) → f (startData x .header) ≡ verdict (readTests x) (f (Is (granularityOf x) (countOf x))) (λ k at. f (Refused k at))
+  pub startData-says : headerSays (startData x .header) ≡ saidBy (readTests x) x
   unfolding startData
-  of-header f =
-      verdict-map (λ (d : StartData). f (d .header)) (readTests x)
+  startData-says =
+      verdict-map (λ (d : StartData). headerSays (d .header)) (readTests x)
       (record { header = Is (granularityOf x) (countOf x); ranges = placed (rangesOf x) })
       (λ k at. record { header = Refused k at; ranges = placed [] })
+      ∙ says-by (readTests x) x
 
-  pub startData-number : headerNumber (startData x .header) ≡ refusal (readTests x)
-  startData-number = of-header headerNumber
+  pub header-read : (h : Header) → h ≡ headerOf x → HeaderRead x h
+  header-read h e = record { is = e; says = ap headerSays e ∙ headerOf-says }
 
-  pub startData-place : headerPlace (startData x .header) ≡ verdict (readTests x) 0 (λ k at. at)
-  startData-place = of-header headerPlace
+  pub start-read : (r : StartData) → r ≡ startData x → StartRead x r
+  start-read r e = record { is = e; says = ap (λ (d : StartData). headerSays (d .header)) e ∙ startData-says }
+
+  -- a refused structure comes with no range
+  pub startData-none : refusal (readTests x) ≢ 0 → startData x .ranges ≡ placed []
+  unfolding startData
+  startData-none h =
+      verdict-map (λ (d : StartData). d .ranges) (readTests x)
+      (record { header = Is (granularityOf x) (countOf x); ranges = placed (rangesOf x) })
+      (λ k at. record { header = Refused k at; ranges = placed [] })
+      ∙ verdict-number (readTests x) (placed (rangesOf x)) (λ k. placed []) h
+
+-- a refused writer changes no byte
+pub startWritten-refused : (buffer : List ℕ) (g n : ℕ) (rs : List Range) → refusal (writeTests (length buffer) n) ≢ 0 → startWritten buffer g n rs ≡ buffer
+unfolding startWritten
+startWritten-refused buffer g n rs h = verdict-number (writeTests (length buffer) n) (put buffer 0 (startBytes g rs)) (λ k. buffer) h
 
 -- ---- the ranges
 

@@ -1,3 +1,2 @@
 pub mod Answers
 mod Cases
-pub mod Promise

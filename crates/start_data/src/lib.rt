@@ -8,13 +8,13 @@ ghost use Prim.Native.Nat.{_+_, _≤_};
 ghost use lib.ListN.{length, take, replicate};
 ghost use Rattle.little.specs.Little.{put, records, recordsAt};
 ghost use Rattle.rules.specs.Refusals.{refusal};
-ghost use Rattle.start_data.specs.Answer.{rangesRead};
-ghost use Rattle.rules.specs.StartData.{rangeAt, startSize, headerOf, startData, noRange, placed, rangeBytes, headerBytes, writeTests, startWritten};
+ghost use Rattle.start_data.specs.Answer.{HeaderRead, StartRead, rangesRead};
+ghost use Rattle.rules.specs.StartData.{rangeAt, startSize, noRange, placed, rangeBytes, headerBytes, writeTests, startWritten};
 
 // The header: its granularity and its count of ranges, whatever that is. Refused with 8 where the 8 bytes are not there, then with 6 where the
 // version is not 0, both at place 0. Reserved bytes and all bytes after the header are not looked at.
 pub fn read_header(s: &[u8]) -> Header
-    ensures { λ r. ⌜ r ≡ headerOf (now (s .entry)) ⌝ }
+    ensures { λ r. ⌜ HeaderRead (now (s .entry)) r ⌝ }
 {
     if s.len() < 8 {
         return Header::Refused(8, 0);
@@ -78,7 +78,7 @@ fn refused(header: Header) -> StartData
 // The structure: its header and its listed ranges. Refused as the header is, then with 9 at place 4, the count's, where more than 16 ranges are
 // listed, then with 8 at the place of the first range that is not wholly there. A refusal comes with no range: zeros in all places.
 pub fn read_start(s: &[u8]) -> StartData
-    ensures { λ r. ⌜ r ≡ startData (now (s .entry)) ⌝ }
+    ensures { λ r. ⌜ StartRead (now (s .entry)) r ⌝ }
 {
     let header = read_header(s);
     let Header::Is(_, listed) = header else {

@@ -16,7 +16,7 @@ use Rattle.rules.specs.Refusals.{Test, _else_, verdict, refusal, passes}
 use Rattle.rules.specs.Settings.{placeOf, granularityOk}
 use Rattle.rules.specs.Ranges.{rangeTests, listTests}
 use Rattle.rules.specs.StartData.{granularityOf, countOf, rangesOf, rangeAt, startSize, headerOf, noRange, placed}
-use Rattle.rules.specs.Order.{startOrder}
+use Rattle.rules.specs.Order.{startListed, startShared, startOrder}
 use Rattle.rules.specs.declared.Device.{Device}
 use Rattle.rules.specs.declared.Settings.{Settings}
 use Rattle.rules.specs.declared.Tracking.the-variants.{Off, On}
@@ -27,10 +27,13 @@ use Rattle.record.specs.Record.{noController, withController, whereIs, seenIn, 
 use Rattle.record.specs.declared.Place.the-variants.{At, Refused}
 use Rattle.record.proofs.RecordLaws.{Located, whereIs-at, whereIs-refused}
 use Rattle.ranges.proofs.RangeLaws.{listTests-numbers}
-use Rattle.start_data.specs.Answer.{headerNumber}
+use Rattle.start_data.specs.Answer.{headerSays}
 use Rattle.start_data.proofs.Answers.{headerOf-is, HeaderIs, headerOf-refused, HeaderRefused, noHeader, otherVersion}
 use Rattle.calls.specs.Calls.{changed, withClear, shareAt, startDone, startChange}
-use Rattle.track_send.specs.Inner.{listedTests}
+
+-- the tests of a start after those of its header: 7, 8 (listed ranges), 9, 10, 11 and 12
+abbrev listedTests : Settings → ℕ → List ℕ → List Test
+listedTests s counts x = startListed s x ++ startShared s counts x
 
 -- ---- 7 and what follows it
 
@@ -127,9 +130,9 @@ module _ (d : Device) (ws : List ℕ) (id : ℕ) (x : List ℕ) where
       start-tracked g n t = rw (l .place, l .seen, f, t)
 
       module _ (t : getD (d .controllers) i noController .tracking ≡ Off) where
-        pub start-header : (k m at : ℕ) → headerOf x ≡ header.Refused k at → m ≡ headerNumber (headerOf x) → startChange d ws id x ≡ changed m d ws
+        pub start-header : (k m at : ℕ) → headerOf x ≡ header.Refused k at → m ≡ headerSays (headerOf x) .number → startChange d ws id x ≡ changed m d ws
         unfolding startChange
-        start-header k m at q r = go k at (headerOf-refused x k at q) ∙ ap (λ n. changed n d ws) (sym (r ∙ ap headerNumber q))
+        start-header k m at q r = go k at (headerOf-refused x k at q) ∙ ap (λ n. changed n d ws) (sym (r ∙ ap (λ h. headerSays h .number) q))
           where
             go : (k at : ℕ) → HeaderRefused x k at → startChange d ws id x ≡ changed k d ws
             go k at (noHeader a) = rw (l .place, l .seen, f, t, a)

@@ -14,12 +14,12 @@ use Rattle.rules.specs.declared.Tracking.the-variants.{Off, On}
 use Rattle.record.specs.Record.{noController, withController, whereIs, seenIn}
 use Rattle.record.specs.declared.Place.the-variants.{At, Refused}
 use Rattle.record.proofs.RecordLaws.{Located, whereIs-at, whereIs-refused}
-use Rattle.calls.specs.Calls.{changed, withClear, shareAt, stopped, stopDone, stopChange}
+use Rattle.calls.specs.Calls.{changed, withClear, shareSize, shareAt, stopped, stopDone, stopChange}
 
 -- words that have a share clear
-pub cleared : (ws ws′ : List ℕ) (base : ℕ) → length ws′ ≡ length ws → Words ws′ → flat ws′ ≡ fill false (flat ws) base 4096 → ws′ ≡ withClear ws base
+pub cleared : (ws ws′ : List ℕ) (base : ℕ) → length ws′ ≡ length ws → Words ws′ → flat ws′ ≡ fill false (flat ws) base shareSize → ws′ ≡ withClear ws base
 unfolding withClear
-cleared ws ws′ base n h e = pack-only (length ws) ws′ (fill false (flat ws) base 4096) n h e
+cleared ws ws′ base n h e = pack-only (length ws) ws′ (fill false (flat ws) base shareSize) n h e
 
 module _ (d : Device) (id : ℕ) where
   -- ---- stop

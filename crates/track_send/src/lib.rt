@@ -9,31 +9,33 @@ use rules::Header;
 use rules::Tracking;
 ghost use mathlib.Core.Path.{_≡_};
 ghost use mathlib.Core.Bool.{true};
+ghost use mathlib.Core.List.{_++_};
 ghost use Prim.Native.Nat.{_<_};
 ghost use lib.ListN.{length};
 ghost use Rattle.rules.specs.Refusals.{refusal};
+ghost use Rattle.rules.specs.Settings.{markWords};
 ghost use Rattle.rules.specs.StartData.{headerOf};
 ghost use Rattle.rules.specs.declared.Header.the-variants.{Is};
 ghost use Rattle.rules.specs.Device.{soundDevice};
 ghost use Rattle.record.specs.Record.{countsOf};
-ghost use Rattle.start_data.specs.Answer.{headerNumber};
+ghost use Rattle.start_data.specs.Answer.{headerSays};
 ghost use Rattle.calls.specs.Calls.{shareAt, withClear, startChange, stopChange};
-ghost use Rattle.track_send.specs.Inner.{listedTests};
+ghost use Rattle.rules.specs.Order.{startListed, startShared};
 
 // Makes the share of the controller at place i clear.
 fn clear_share(marks: &mut [u64], i: usize)
-    requires { ⌜ (i < 8) × (length (now marks) ≡ 512) ⌝ }
+    requires { ⌜ (i < 8) × (length (now marks) ≡ markWords) ⌝ }
     ensures { λ _. ⌜ now (marks .exit) ≡ withClear (now (marks .entry)) (shareAt i) ⌝ }
 {
-    let base = 4096 * i;
-    bits::clear_span(marks, base, base + 4096);
+    let base = calls::share_at(i);
+    bits::clear_span(marks, base, base + calls::SHARE);
 }
 
 // ---- start
 
 // The number of a refused header.
 fn header_number(h: Header) -> u8
-    ensures { λ r. ⌜ r ≡ headerNumber h ⌝ }
+    ensures { λ r. ⌜ r ≡ headerSays h .number ⌝ }
 {
     match h {
         Header::Is(_, _) => 0,
@@ -44,7 +46,7 @@ fn header_number(h: Header) -> u8
 // The first of 7, 8 (listed ranges), 9, 10, 11 and 12 that a start structure with this granularity and count breaks, or 0.
 fn list_number(d: Device, g: u8, n: u32, data: &[u8]) -> u8
     requires { ⌜ (soundDevice d ≡ true) × (headerOf (now «data») ≡ Is g n) ⌝ }
-    ensures { λ r. ⌜ r ≡ refusal (listedTests (d .settings) (countsOf d) (now («data» .entry))) ⌝ }
+    ensures { λ r. ⌜ r ≡ refusal (startListed (d .settings) (now («data» .entry)) ++ startShared (d .settings) (countsOf d) (now («data» .entry))) ⌝ }
 {
     let s = d.settings;
     if !settings::granularity_ok(s, g) {

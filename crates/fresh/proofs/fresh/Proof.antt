@@ -33,6 +33,9 @@ returns-2 c =
     let q = c .before .before in
     leaves _ 1 _ _ _ _ (fresh-words _ _ (sym (q .before .settings-ok .ensures) ∙ not-false _ (q .if1 .left)) (c .before .if2 .taken)) (c .closed2 .ensures) refl
 
+mul-clear-span : tie.Need-mul-clear-span
+mul-clear-span c = search needs
+
 clear-span-requires : tie.Need-clear-span-requires
 clear-span-requires c κs = search needs
 
@@ -65,6 +68,7 @@ fresh-spec =
     returns
     closed-requires-2
     returns-2
+    mul-clear-span
     clear-span-requires
     clean-requires
     untracked-requires

@@ -1,5 +1,6 @@
 -- `start_data::read_start` is right because it goes on from the header's answer and makes the tests of `readTests` that are left, in their order.
 use borrow.Author.Needs.{needs}
+use Rattle.start_data.proofs.Answers.{start-read}
 use Rattle.start_data.proofs.Cases.{read-start-refused, read-start-there, read-start-many, read-start-short, read-start-whole}
 use Rattle.start_data.proofs.read_start.Statement.{statement}
 use Rattle.start_data.proofs.read_start.Tie as tie
@@ -17,13 +18,13 @@ refused-requires : tie.Need-refused-requires
 refused-requires c κs = search needs
 
 returns : tie.Need-returns
-returns c = search read-start-refused
+returns c = search (start-read, read-start-refused)
 
 refused-requires-2 : tie.Need-refused-requires-2
 refused-requires-2 c κs = search needs
 
 returns-2 : tie.Need-returns-2
-returns-2 c = search read-start-many
+returns-2 c = search (start-read, read-start-many)
 
 cast-n : tie.Need-cast-n
 cast-n c = search needs
@@ -47,13 +48,13 @@ refused-requires-3 : tie.Need-refused-requires-3
 refused-requires-3 c κs = search needs
 
 returns-3 : tie.Need-returns-3
-returns-3 c = search read-start-short
+returns-3 c = search (start-read, read-start-short)
 
 listed-ranges-requires : tie.Need-listed-ranges-requires
 listed-ranges-requires c κs = search needs
 
 returns-4 : tie.Need-returns-4
-returns-4 c = search read-start-whole
+returns-4 c = search (start-read, read-start-whole)
 
 pub read-start-spec : {M : Type 1} → statement M
 read-start-spec =

@@ -9,7 +9,7 @@ use borrow.Author.Needs.{needs}
 use Rattle.rules.specs.StartData.{headerOf, startSize}
 use Rattle.rules.specs.declared.Header.the-variants.{Is}
 use Rattle.record.specs.Record.{whereIs}
-use Rattle.start_data.specs.Answer.{headerNumber}
+use Rattle.start_data.specs.Answer.{headerSays}
 use Rattle.start_data.proofs.Answers.{rangesRead-there}
 use Rattle.record.specs.declared.Place.the-variants.{At, Refused}
 use Rattle.record.proofs.RecordLaws.{whereIs-at}
@@ -35,7 +35,7 @@ below c = whereIs-at _ _ _ _ (found c) .below
 
 -- the header that was read
 listed : (c : tie.After-known-told2) → headerOf (now (c .before .before .before .before .before .before .before .before .before .before .before .before .before .before .args .«data»)) ≡ Is (c .before .header .given .0 .0) (c .before .header .given .0 .1 .0)
-listed c = sym (c .before .before .before .read-header .ensures) ∙ c .before .header .given .1
+listed c = sym (c .before .before .before .read-header .ensures .is) ∙ c .before .header .given .1
 
 -- its number of ranges, once they have passed
 few : (c : tie.Else2) → (c .before .before .before .header .given .0 .1 .0 ≤ 16) × (startSize (c .before .before .before .header .given .0 .1 .0) ≤ length (now (c .before .before .before .before .before .before .before .before .before .before .before .before .before .before .before .before .args .«data»)))
@@ -88,8 +88,8 @@ header-number-requires c κs = search needs
 
 returns-4 : tie.Need-returns-4
 returns-4 c =
-    let e = sym (c .before .before .before .read-header .ensures) in
-    leaves-unchanged _ _ _ _ (start-header _ _ _ _ _ (found (c .before .before .before .before .before .before .before .before)) (c .before .before .before .before .before .before .if1 .left) (c .before .before .before .before .enum-told2 .given .1) _ _ _ (e ∙ c .before .enum-told4 .given .1) (c .header-number .ensures ∙ ap headerNumber (sym e)))
+    let e = sym (c .before .before .before .read-header .ensures .is) in
+    leaves-unchanged _ _ _ _ (start-header _ _ _ _ _ (found (c .before .before .before .before .before .before .before .before)) (c .before .before .before .before .before .before .if1 .left) (c .before .before .before .before .enum-told2 .given .1) _ _ _ (e ∙ c .before .enum-told4 .given .1) (c .header-number .ensures ∙ ap (λ h. headerSays h .number) (sym e)))
 
 list-number-requires : tie.Need-list-number-requires
 list-number-requires c κs = (whereIs-at _ _ _ _ (found (c .before .before .before .before .before .before .before .before)) .sound, listed c)

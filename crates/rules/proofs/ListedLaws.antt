@@ -1,5 +1,7 @@
--- Each unit of ranges that begin at multiples of the unit is there once, in the row of the earliest listed range that covers it. Assumes nothing.
+-- The units of ranges that begin at multiples of the unit: each is there once, in the row of the earliest listed range that covers it, and they stand in order.
+-- Assumes nothing.
 use mathlib.Core.Path.{_≡_, refl, sym, ap, subst, _∙_}
+use mathlib.Core.Logic.{_⊎_, inl, inr}
 use mathlib.Core.Bool.{Bool, true, false, _||_, not, cond, true≢false}
 use mathlib.Core.List.{List, [], _∷_, _++_, append-assoc}
 use mathlib.Core.Option.{none, some}
@@ -15,10 +17,10 @@ use Rattle.rules.specs.Lists.{all, any, keep}
 use Rattle.rules.specs.Settings.{unitSize}
 use Rattle.rules.specs.Units.{Unit, unitsOfRow, covers, uncovered, unitsFrom, units}
 use Rattle.rules.specs.StartData.{noRange}
-use Rattle.rules.specs.Demands.{Once}
+use Rattle.rules.specs.Demands.{UnitsListed}
 use Rattle.rules.specs.declared.Range.{Range}
-use Rattle.rules.proofs.ListLaws.{All, All-map, All-both, All-append, All-keep, All-kept, All-at, and-left, and-right, and-intro, or-intro-left, or-intro-right, or-neither, any-snoc, some-inj}
-use Rattle.rules.proofs.UnitLaws.{In, Free, Apart, Aligned, aligned-gap, unitSize-pos, unitsOfRow-row, unitsOfRow-within, unitsFrom-apart}
+use Rattle.rules.proofs.ListLaws.{All, All-map, All-both, All-append, All-keep, All-kept, All-at, Pairwise, Pairwise-append, Pairwise-keep, Pairwise-at, and-left, and-right, and-intro, or-intro-left, or-intro-right, or-neither, any-snoc, some-inj}
+use Rattle.rules.proofs.UnitLaws.{In, Free, Apart, Aligned, aligned-gap, unitSize-pos, unitsOfRow-row, unitsOfRow-within, unitsFrom-sized, unitsFrom-aligned, unitsFrom-apart}
 
 -- ---- a unit stands in the row of the earliest range that covers it
 
@@ -115,6 +117,49 @@ Apart-at (w ∷ us) h zero (suc n) u v e f x i j = absurd (All-at (Free w) us n 
 Apart-at (w ∷ us) h (suc m) zero u v e f x i j = absurd (All-at (Free w) us m u (h .0) e x (subst (In x) (sym (some-inj f)) j) i)
 Apart-at (w ∷ us) h (suc m) (suc n) u v e f x i j = ap suc (Apart-at us (h .1) m n u v e f x i j)
 
+-- ---- in order: by row, then by address
+
+abbrev Before : Unit → Unit → Type 0
+Before u v = (u .row < v .row) ⊎ ((u .row ≡ v .row) × (u .address < v .address))
+
+row-ordered : (row s a n : ℕ) → 0 < s → Pairwise Before (unitsOfRow row s a n)
+row-ordered row s a zero z = tt
+row-ordered row s a (suc n) z = (
+  All-map (λ v w. inr (sym (w .0), omega (arith, w .1 .0)))
+      (unitsOfRow row s (a + s) n)
+      (All-both (λ v. v .row ≡ row) (λ v. (a + s ≤ v .address) × (v .address + v .size ≤ a + s + n * s) × (v .size ≡ s)) (unitsOfRow row s (a + s) n)
+      (unitsOfRow-row row s (a + s) n) (unitsOfRow-within row s (record { start = a + s; length = n }))),
+  row-ordered row s (a + s) n z,
+)
+
+from-row : (s row : ℕ) (before rs : List Range) → All (λ v. row ≤ v .row) (unitsFrom s row before rs)
+from-row s row before [] = tt
+from-row s row before (r ∷ rs) =
+    All-append (λ v. row ≤ v .row) (keep (uncovered s before) us) later
+    (All-keep (λ v. row ≤ v .row) (uncovered s before) us (All-map (λ v e. omega (arith, e)) us (unitsOfRow-row row s (r .start) (r .length))))
+    (All-map (λ v h. omega (arith, h)) later (from-row s (suc row) (before ++ r ∷ []) rs))
+  where
+    us : List Unit
+    us = unitsOfRow row s (r .start) (r .length)
+
+    later : List Unit
+    later = unitsFrom s (suc row) (before ++ r ∷ []) rs
+
+units-ordered : (s row : ℕ) (before rs : List Range) → 0 < s → Pairwise Before (unitsFrom s row before rs)
+units-ordered s row before [] z = tt
+units-ordered s row before (r ∷ rs) z =
+    Pairwise-append Before (keep (uncovered s before) us) later
+    (Pairwise-keep Before (uncovered s before) us (row-ordered row s (r .start) (r .length) z))
+    (units-ordered s (suc row) (before ++ r ∷ []) rs z)
+    (All-map (λ u e. All-map (λ v h. inl (omega (arith, e, h))) later (from-row s (suc row) (before ++ r ∷ []) rs)) (keep (uncovered s before) us)
+    (All-keep (λ u. u .row ≡ row) (uncovered s before) us (unitsOfRow-row row s (r .start) (r .length))))
+  where
+    us : List Unit
+    us = unitsOfRow row s (r .start) (r .length)
+
+    later : List Unit
+    later = unitsFrom s (suc row) (before ++ r ∷ []) rs
+
 -- ---- all of it
 
 aligned-of : (s : ℕ) (rs : List Range) → all (λ (r : Range). eqb (r .start % s) 0) rs ≡ true → All (Aligned s) rs
@@ -124,12 +169,15 @@ aligned-of s (r ∷ rs) e = (
   aligned-of s rs (and-right (eqb (r .start % s) 0) (all (λ (q : Range). eqb (q .start % s) 0) rs) e),
 )
 
-pub once : (g : ℕ) (rs : List Range) → all (λ (r : Range). eqb (r .start % unitSize g) 0) rs ≡ true → Once g rs
-once g rs e =
+pub units-listed : (g : ℕ) (rs : List Range) → all (λ (r : Range). eqb (r .start % unitSize g) 0) rs ≡ true → UnitsListed g rs
+units-listed g rs e =
     let s = unitSize g in
     let h = aligned-of s rs e in
     let o = own-from s 0 [] rs (unitSize-pos g) refl in
     record {
+      sized = λ m u q. All-at (λ v. v .size ≡ s) (units g rs) m u (unitsFrom-sized s 0 [] rs) q;
+      multiple = λ m u q. All-at (λ v. v .address % s ≡ 0) (units g rs) m u (unitsFrom-aligned s 0 [] rs h) q;
+      in-order = λ m n u v l p q. Pairwise-at Before (units g rs) (units-ordered s 0 [] rs (unitSize-pos g)) m n u v l p q;
       own = λ m u q. All-at (Own s rs) (units g rs) m u o q .0;
       earliest = λ m u q. All-at (Own s rs) (units g rs) m u o q .1;
       there = λ x d c. all-begin s 0 [] rs x (unitSize-pos g) h d refl c;

@@ -1,0 +1,328 @@
+-- Demand 2, proved of the calls: what a session leaves is what the rules' session leaves, and of that the rules' demand 2 is proved. Assumes nothing.
+use mathlib.Core.Path.{_≡_, refl, sym, ap, ap₂, subst, _∙_}
+use mathlib.Core.Logic.{_↔_}
+use mathlib.Core.Bool.{Bool, true, false, _||_, true≢false}
+use mathlib.Core.List.{List, [], _∷_, map}
+use mathlib.Core.Option.{Option, none, some}
+use Prim.Native.Nat.{ℕ, zero, suc, _+_, _*_, _%_, _≤_, _<_}
+use native.Mathlib.Omega.{arith}
+use lib.Dec.{eqb}
+use lib.ListN.{length, take, getD, getElem?, replicate, length-map, length-take}
+use borrow.Author.Tests.{eq-eqb, leb-true, not-true}
+use Rattle.bits.specs.Flat.{flat}
+use Rattle.bits.proofs.Share.{getShare-at}
+use Rattle.little.proofs.Put.{put-take-front}
+use Rattle.rules.specs.Lists.{join}
+use Rattle.rules.specs.Settings.{markWords, placeOf, unitSize}
+use Rattle.rules.specs.Units.{Unit, Write, units, touches, mark, newly}
+use Rattle.rules.specs.StartData.{granularityOf, countOf, rangesOf, placed}
+use Rattle.rules.specs.Report.{descriptor, room, marksLeft, reportedRuns, reportBytes}
+use Rattle.rules.specs.Order.{Op, start, stop, write, receive, order, startOrder, stopOrder, writeOrder, receiveOrder}
+use Rattle.rules.specs.Device.{cleaned, freshDevice, freshOf}
+use Rattle.rules.specs.Machine.{off, on, slot, isSuspended, refused, noReport, State, slotOf, slotAt, Call, lent}
+use Rattle.rules.specs.History.{Did, pendingBy, PendingBy, tracksBy, suspendedBy, marksBy, slotBy}
+use Rattle.rules.specs.Demands.{UnitsListed}
+use Rattle.rules.specs.declared.Range.{Range}
+use Rattle.rules.specs.declared.Settings.{Settings}
+use Rattle.rules.specs.declared.Tracking.{Tracking}
+use Rattle.rules.specs.declared.Tracking.the-variants.{Off, On}
+use Rattle.rules.specs.declared.Controller.{Controller}
+use Rattle.rules.specs.declared.Device.{Device}
+use Rattle.rules.proofs.ListLaws.{All-map, All-all, getElem?-at}
+use Rattle.rules.proofs.RefusalLaws.{verdict-has, verdict-done}
+use Rattle.rules.proofs.UnitLaws.{mark-length, mark-at}
+use Rattle.rules.proofs.RunLaws.{clearFirst-length}
+use Rattle.rules.proofs.SlotHistory.{pendingBy-iff}
+use Rattle.rules.proofs.StateLaws.{cleaned-place, after-settings}
+use Rattle.rules.proofs.SoundLaws.{fresh-opens}
+use Rattle.rules.proofs.Theorems as rules
+use Rattle.record.specs.Record.{soundWith, controllerAt, withController, seenIn}
+use Rattle.ranges.proofs.RangeLaws.{HeldFacts}
+use Rattle.record.proofs.RecordLaws.{soundDevice-facts, soundDevice-held}
+use Rattle.report_data.proofs.Blocks.{reportBytes-length, report-rest}
+use Rattle.report_reader.proofs.ReadBack.{reads-back}
+use Rattle.calls.specs.Calls.{shareSize, shareAt, marksAt, withMarks, withClear, freshChange, Change, changed, startDone, startChange, stopDone, stopChange, Note, noted, writeDone, writeNote, Receipt, received, reportIn, receiveDone, receiveReceipt}
+use Rattle.demands.specs.View.{marksOf, view, run}
+use Rattle.demands.specs.Sessions.{begun, outcome, endOf, historyIn}
+use Rattle.demands.specs.Demand2.{bitOf, toldOf, Elsewhere, Replaced, Wrote, Received, Tracked, Moves, starts, stops, writes, Stands, Demand2}
+use Rattle.demands.proofs.MarkLaws.{clear-bit, clear-elsewhere, put-bit, put-elsewhere}
+use Rattle.demands.proofs.ViewLaws.{Fits, slot-at, placeOf-used}
+use Rattle.demands.proofs.StepLaws.{order-numbers}
+use Rattle.demands.proofs.SessionLaws.{begins, fits-after}
+use Rattle.demands.proofs.ClosedLaws.{fresh-done, session, history-same, slot-same, equals}
+use Rattle.demands.proofs.AnswerLaws.{fresh-answers}
+use Rattle.demands.proofs.Demand1.{soundness}
+
+-- ---- fresh
+
+fresh-is : (s : Settings) (ws : List ℕ) → freshChange s ws .answer .number ≡ 0 → (freshChange s ws .answer .device ≡ freshDevice s) × (freshChange s ws .marks ≡ replicate markWords 0)
+unfolding freshChange freshOf
+fresh-is s ws e = let f = fresh-done s ws e in rw (f .0, eq-eqb (length ws) markWords (f .1), f .1) (refl, refl)
+
+-- ---- laws of lists
+
+getD-map : (f : Unit → Bool) (us : List Unit) (m : ℕ) (u : Unit) → (m < length us) × (getD us m u ≡ u) → getD (map f us) m false ≡ f u
+getD-map f [] m u q = absurd (omega (arith, q .0))
+getD-map f (v ∷ us) zero u q = ap f (q .1)
+getD-map f (v ∷ us) (suc m) u q = getD-map f us m u (omega (arith, q .0), q .1)
+
+-- no more runs are listed than there is room for
+listed-few : (k : ℕ) (us : List Unit) (p : List Bool) → length (map descriptor (reportedRuns k us p)) ≤ k
+listed-few k us p = rw (length-map, length-take) (omega arith)
+
+-- ---- what a session leaves
+
+-- what the record holds of a controller that is tracked with granularity g and ranges rs
+record Held (c : Controller) (l : List ℕ) (i g : ℕ) (rs : List Range) (p : List Bool) : Type 0 where
+  n : ℕ
+  tracking : c .tracking ≡ On g n
+  ranges : take n (c .ranges) ≡ rs
+  marks : marksAt l (shareAt i) (length (units g rs)) ≡ p
+
+module _ (s : Settings) (ws : List ℕ) (ks : List Call) (eight : length (s .identifiers) ≡ 8) (made : freshChange s ws .answer .number ≡ 0) where
+  abbrev d : Device
+  d = endOf s ws ks .device
+
+  abbrev l : List ℕ
+  l = endOf s ws ks .marks
+
+  fits : Fits d l
+  fits = let f = fresh-done s ws made in fits-after ks (begun s ws) (begins s ws eight (f .0) (f .1) .fits)
+
+  sure : soundWith d (length l) ≡ true
+  unfolding soundWith
+  sure = let k = soundness .kept s ws ks eight made in rw (k .0, eq-eqb (length l) markWords (k .1))
+
+  settings-are : d .settings ≡ cleaned s
+  settings-are =
+      ap (λ (st : State). st .settings) (session s ws ks eight .state)
+      ∙ after-settings ks _
+      ∙ ap (λ (st : State). st .settings) (fresh-opens s (length ws) (sym (fresh-answers s ws .first) ∙ made) .0)
+
+  module _ (a : ℕ) where
+    abbrev h : List Did
+    h = historyIn s ws ks a
+
+    is-told : slotOf (view d l) a ≡ slotBy h
+    is-told = slot-same s ws ks eight a ∙ rules.demand-2 .pending s (length ws) ks a .told ∙ ap slotBy (sym (history-same s ws ks eight a))
+
+    place-of : placeOf (d .settings) a ≡ placeOf s a
+    place-of = ap (λ (t : Settings). placeOf t a) settings-are ∙ cleaned-place s a
+
+    -- ---- a controller at a place
+
+    module _ (i : ℕ) (at : placeOf s a ≡ some i) where
+      abbrev c : Controller
+      c = controllerAt d (some i)
+
+      place : placeOf (d .settings) a ≡ some i
+      place = place-of ∙ at
+
+      used : i < d .settings .count
+      used = placeOf-used d a i place
+
+      inside : i < 8
+      inside = omega (arith, used, soundDevice-facts d (soundness .kept s ws ks eight made .0) .count)
+
+      is-slot : slot (c .suspended) (marksOf l (shareAt i) (c .tracking) (c .ranges)) ≡ slot (suspendedBy false h) (marksBy h (tracksBy none h))
+      is-slot = sym (slot-at d l fits i used) ∙ sym (ap (slotAt (view d l)) place) ∙ is-told
+
+      flag-is : c .suspended ≡ suspendedBy false h
+      flag-is = ap isSuspended is-slot
+
+      marks-are : marksOf l (shareAt i) (c .tracking) (c .ranges) ≡ marksBy h (tracksBy none h)
+      marks-are = cc is-slot
+
+      -- ---- an accepted start, and an accepted stop
+
+      replaced : (t : Tracking) (rs : List Range) (r : Change) → r ≡ changed 0 (withController d i (record { tracking = t; suspended = false; ranges = placed rs })) (withClear l (shareAt i))
+          → Replaced d l i t false rs r
+      replaced t rs r e =
+          subst (Replaced d l i t false rs) (sym e)
+          (record { record-is = refl; clear = clear-bit l (fits .words) i inside; elsewhere = clear-elsewhere l (fits .words) i inside })
+
+      is-started : (x : List ℕ) → startChange d l a x .answer .number ≡ 0 → Replaced d l i (On (granularityOf x) (countOf x)) false (rangesOf x) (startChange d l a x)
+      unfolding startChange order
+      is-started x e =
+          let r = verdict-done (λ (k : Change). k .answer .number) (startOrder (d .settings) (seenIn d (length l) (some i)) x) (startDone d l x (some i)) (λ n. changed n d l)
+          (λ n. refl) (order-numbers (d .settings) (seenIn d (length l) (some i)) (start x)) (rw place at e) in
+          let running : c .suspended ≡ false = not-true (c .suspended) (r .1 .1 .1 .0) in
+          rw place (replaced _ _ _ (r .0 ∙ rw running))
+
+      is-stopped : stopChange d l a .answer .number ≡ 0 → Replaced d l i Off false [] (stopChange d l a)
+      unfolding stopChange order
+      is-stopped e =
+          let r = verdict-done (λ (k : Change). k .answer .number) (stopOrder (seenIn d (length l) (some i))) (stopDone d l (some i)) (λ n. changed n d l)
+          (λ n. refl) (order-numbers (d .settings) (seenIn d (length l) (some i)) stop) (rw place at e) in
+          let running : c .suspended ≡ false = not-true (c .suspended) (r .1 .1 .1 .0) in
+          rw place (replaced _ _ _ (r .0 ∙ rw running))
+
+      -- ---- suspended, as its calls and answers tell
+
+      is-refused : suspendedBy false h ≡ true → (o : Op) → Moves o → outcome (endOf s ws ks) (record { id = a; op = o }) ≡ record { answer = refused 4; device = d; marks = l; bytes = lent o }
+      unfolding run startChange stopChange writeNote
+      is-refused e o (starts x) = rw (place, sure, flag-is, e)
+      is-refused e o stops = rw (place, sure, flag-is, e)
+      is-refused e o (writes w) = rw (place, sure, flag-is, e)
+
+      -- ---- not tracked, as its calls and answers tell
+
+      is-off : tracksBy none h ≡ none → c .tracking ≡ Off
+      is-off e = go (c .tracking) (marks-are ∙ ap (marksBy h) e)
+        where
+          go : (t : Tracking) → marksOf l (shareAt i) t (c .ranges) ≡ off → t ≡ Off
+          go Off q = refl
+          go (On g n) q = let z : _≡_ {A = ℕ} 0 1 = cc in absurd (omega arith)
+
+      -- ---- tracked, as its calls and answers tell
+
+      module _ (g : ℕ) (rs : List Range) (by : tracksBy none h ≡ some (g, rs)) where
+        abbrev us : List Unit
+        us = units g rs
+
+        abbrev p : List Bool
+        p = toldOf h us
+
+        held : Held c l i g rs p
+        held = go (c .tracking) refl (marks-are ∙ ap (marksBy h) by)
+          where
+            go : (t : Tracking) → c .tracking ≡ t → marksOf l (shareAt i) t (c .ranges) ≡ on g rs p → Held c l i g rs p
+            go Off e q = let z : _≡_ {A = ℕ} 0 1 = cc in absurd (omega arith)
+            go (On k n) e q =
+                let same : k ≡ g = cc in
+                let listed : take n (c .ranges) ≡ rs = cc in
+                let kept : marksAt l (shareAt i) (length (units k (take n (c .ranges)))) ≡ p = cc in
+                record {
+                  n = n;
+                  tracking = e ∙ ap (λ x. On x n) same;
+                  ranges = listed;
+                  marks = ap₂ (λ (x : ℕ) (y : List Range). marksAt l (shareAt i) (length (units x y))) (sym same) (sym listed) ∙ kept;
+                }
+
+        facts : HeldFacts (d .settings) g (held .n) rs
+        facts =
+            subst (HeldFacts (d .settings) g (held .n)) (held .ranges)
+            (soundDevice-held d i g (held .n) (soundness .kept s ws ks eight made .0) used (omega (arith, inside, fits .controllers)) (held .tracking))
+
+        sized : length p ≡ length us
+        sized = length-map us (pendingBy h)
+
+        bit-is : (m : ℕ) → m < length us → bitOf l i m ≡ getD p m false
+        bit-is m k = sym (getShare-at (flat l) (shareAt i) (length us) m false k) ∙ ap (λ q. getD q m false) (held .marks)
+
+        is-listed : UnitsListed g rs
+        is-listed =
+            rules.demand-2 .listed g rs
+            (All-all (λ (r : Range). eqb (r .start % unitSize g) 0) rs (All-map (λ r f. eq-eqb (r .start % unitSize g) 0 (f .aligned)) rs (facts .rows)))
+
+        is-pending : (m : ℕ) (u : Unit) → getElem? us m ≡ some u → (bitOf l i m ≡ true) ↔ PendingBy h u
+        is-pending m u k =
+            let q = getElem?-at us m u u k in
+            let e : bitOf l i m ≡ pendingBy h u = bit-is m (q .0) ∙ getD-map (pendingBy h) us m u q in (
+              (λ t. pendingBy-iff h u .0 (sym e ∙ t)),
+              (λ w. e ∙ pendingBy-iff h u .1 w),
+            )
+
+        -- ---- an accepted write
+
+        written : (w : Write) → Wrote h i us w l (newly w us p) (withMarks l (shareAt i) (mark w us p))
+        written w =
+            let n : length (mark w us p) ≡ length us = mark-length w us p sized in
+            let few : length (mark w us p) ≤ shareSize = omega (arith, n, facts .total) in
+            record {
+              marked = λ m u k.
+                  let q = getElem?-at us m u u k in
+                  put-bit l (fits .words) i inside (mark w us p) few m (omega (arith, q .0, n))
+                  ∙ mark-at w us p m u sized (q .0)
+                  ∙ ap₂ (λ (x : Bool) (v : Unit). x || touches w v) (sym (bit-is m (q .0))) (q .1);
+              elsewhere = subst (λ k. Elsewhere i k l (withMarks l (shareAt i) (mark w us p))) n (put-elsewhere l (fits .words) i inside (mark w us p) few);
+              counted = refl;
+              writes = rules.demand-2 .writes w us p;
+            }
+
+        is-written : (w : Write) → writeNote d l a w .answer .number ≡ 0 → Wrote h i us w l (writeNote d l a w .answer .count) (writeNote d l a w .marks)
+        unfolding writeNote order
+        is-written w e =
+            let r = verdict-done (λ (k : Note). k .answer .number) (writeOrder (seenIn d (length l) (some i)) w) (writeDone d l w (some i)) (λ n. noted n 0 l)
+            (λ n. refl) (order-numbers (d .settings) (seenIn d (length l) (some i)) (write w)) (rw place at e) in
+            let is : writeDone d l w (some i) ≡ noted 0 (newly w us p) (withMarks l (shareAt i) (mark w us p)) = rw (held .tracking, held .ranges, held .marks) in
+            rw place (subst (λ (k : Note). Wrote h i us w l (k .answer .count) (k .marks)) (sym (r .0 ∙ is)) (written w))
+
+        -- ---- an accepted receive
+
+        abbrev made-of : List ℕ → Receipt
+        made-of x = reportIn l (shareAt i) a (suspendedBy false h) g us p x
+
+        stored : (x : List ℕ) → 32 ≤ length x → Received h a i g us x l (made-of x)
+        stored x long =
+            let k = room (length x) in
+            let q = marksLeft k us p in
+            let n : length q ≡ length us = clearFirst-length (length (join (reportedRuns k us p))) p ∙ sized in
+            let few : length q ≤ shareSize = omega (arith, n, facts .total) in
+            let r = made-of x .report in
+            let fit : 16 + 16 * length (r .descriptors) ≤ length x = omega (arith, long, listed-few k us p) in
+            record {
+              report = refl;
+              reports = rules.demand-2 .reports s (length ws) ks a (suspendedBy false h) g rs p (sym (slot-same s ws ks eight a) ∙ is-told ∙ ap (λ t. slot (suspendedBy false h) (marksBy h t)) by) k;
+              fits = rules.demand-2 .room (length x) (omega (arith, long));
+              answer = refl;
+              front = put-take-front x (16 + 16 * length (r .descriptors)) (reportBytes a r) (reportBytes-length a r) fit;
+              rest = report-rest a r x;
+              read-back = λ small. reads-back a g (suspendedBy false h) rs p x small (facts .small) (facts .rows) (facts .total) long;
+              left = λ m u e. put-bit l (fits .words) i inside q few m (omega (arith, n, getElem?-at us m u u e .0));
+              elsewhere = subst (λ j. Elsewhere i j l (withMarks l (shareAt i) q)) n (put-elsewhere l (fits .words) i inside q few);
+            }
+
+        is-received : (x : List ℕ) → receiveReceipt d l a x .answer .number ≡ 0 → Received h a i g us x l (receiveReceipt d l a x)
+        unfolding receiveReceipt order
+        is-received x e =
+            let r = verdict-done (λ (k : Receipt). k .answer .number) (receiveOrder (seenIn d (length l) (some i)) x) (receiveDone d l a x (some i)) (λ n. received n noReport l x)
+            (λ n. refl) (order-numbers (d .settings) (seenIn d (length l) (some i)) (receive x)) (rw place at e) in
+            rw place (subst (Received h a i g us x l) (sym (r .0 ∙ rw (held .tracking, held .ranges, held .marks, flag-is))) (stored x (leb-true 32 (length x) (r .1 .1 .1 .1 .0))))
+
+        is-tracked : Tracked s ws ks a i g rs
+        is-tracked = record { listed = is-listed; pending = is-pending; written = is-written; received = is-received }
+
+    -- ---- any controller
+
+    is-idle : (w : Write) → tracksBy none h ≡ none → (writeNote d l a w .answer .count ≡ 0) × (writeNote d l a w .marks ≡ l)
+    unfolding writeNote
+    is-idle w e = go (placeOf s a) refl
+      where
+        Idle : Note → Type 0
+        Idle n = (n .answer .count ≡ 0) × (n .marks ≡ l)
+
+        go : (q : Option ℕ) → placeOf s a ≡ q → Idle (writeNote d l a w)
+        go none k = rw (place-of ∙ k) (verdict-has Idle (λ n i. noted n 0 l) (λ n i. (refl, refl)) (writeOrder (seenIn d (length l) none) w) (writeDone d l w none) (λ t. (refl, refl)))
+        go (some i) k =
+            rw (place i k) (verdict-has Idle (λ n i. noted n 0 l) (λ n i. (refl, refl)) (writeOrder (seenIn d (length l) (some i)) w) (writeDone d l w (some i)) (λ t. rw (is-off i k e) (refl, refl)))
+
+    is-suspended : suspendedBy false h ≡ true → (o : Op) → Moves o → outcome (endOf s ws ks) (record { id = a; op = o }) ≡ record { answer = refused 4; device = d; marks = l; bytes = lent o }
+    is-suspended e = go (placeOf s a) refl
+      where
+        go : (q : Option ℕ) → placeOf s a ≡ q → (o : Op) → Moves o → outcome (endOf s ws ks) (record { id = a; op = o }) ≡ record { answer = refused 4; device = d; marks = l; bytes = lent o }
+        go none k = absurd (true≢false (sym e ∙ ap isSuspended (sym is-told ∙ ap (slotAt (view d l)) (place-of ∙ k))))
+        go (some i) k = is-refused i k e
+
+    pub is-standing : Stands s ws ks a
+    is-standing =
+        record {
+          told = is-told;
+          tracked = λ i g rs at by. is-tracked i at g rs by;
+          untracked = is-idle;
+          suspended = is-suspended;
+          started = λ i x at. is-started i at x;
+          stopped = λ i at. is-stopped i at;
+        }
+
+-- ---- all of it
+
+pub demand-2 : Demand2
+demand-2 =
+    record {
+      rules = λ s a ws ks eight. equals s ws ks eight a ks (record { answers = refl; bytes = refl; units = refl });
+      fresh = fresh-is;
+      settings = settings-are;
+      stands = is-standing;
+      touches = rules.demand-2 .touches;
+    }

@@ -1,0 +1,157 @@
+-- Demand 2, as statements about the calls of `tracker`, after any session of them: fresh, then any calls in any order. Its settings have the eight places of
+-- their type. What is said of a controller begins with what its own calls and answers tell (rules' History), not with what the record says.
+use Prim.Native.Nat.{ℕ, _+_, _^_, _≤_, _<_}
+use mathlib.Core.Path.{_≡_}
+use mathlib.Core.Logic.{_↔_}
+use mathlib.Core.Bool.{Bool, true, false, _||_}
+use mathlib.Core.List.{List, [], map}
+use mathlib.Core.Option.{none, some}
+use lib.ListN.{length, take, drop, getD, getElem?, replicate}
+use Rattle.bits.specs.Flat.{flat}
+use Rattle.rules.specs.Settings.{markWords, placeOf}
+use Rattle.rules.specs.Units.{Unit, Write, units, touches, newly}
+use Rattle.rules.specs.StartData.{granularityOf, countOf, rangesOf, placed}
+use Rattle.rules.specs.Report.{room, reportOn, marksLeft, reportBytes}
+use Rattle.rules.specs.ReportReader.{reportSize}
+use Rattle.rules.specs.Order.{Op, start, stop, write}
+use Rattle.rules.specs.Device.{cleaned, freshDevice}
+use Rattle.rules.specs.Machine.{refused, pendingIn, slotOf, lent}
+use Rattle.rules.specs.History.{Did, PendingBy, pendingBy, tracksBy, suspendedBy, slotBy}
+use Rattle.rules.specs.Demands.{sessionEnd, sessionHistory, lentBytes, UnitsListed, Reports, Room, ReadBack, Touches, Writes}
+use Rattle.rules.specs.Machine.{Call}
+use Rattle.rules.specs.declared.Range.{Range}
+use Rattle.rules.specs.declared.Tracking.{Tracking}
+use Rattle.rules.specs.declared.Tracking.the-variants.{Off, On}
+use Rattle.rules.specs.declared.Settings.{Settings}
+use Rattle.rules.specs.declared.Device.{Device}
+use Rattle.record.specs.Record.{withController}
+use Rattle.calls.specs.Calls.{shareSize, shareAt, Change, Receipt, freshChange, startChange, stopChange, writeNote, receiveReceipt}
+use Rattle.demands.specs.View.{view}
+use Rattle.demands.specs.Sessions.{Left, outcome, endOf, historyIn, bytesIn}
+
+-- ---- a session, beside the rules' session
+
+-- a controller's pending units
+abbrev pub pendingOf : Left → ℕ → List Unit
+pendingOf l a = pendingIn (slotOf (view (l .device) (l .marks)) a)
+
+-- a session of the calls is for a controller what the rules give for some calls: every answer, every byte lent with its calls, its reports' among them, and
+-- its pending units
+pub record Equals (s : Settings) (a : ℕ) (ws : List ℕ) (ks ks′ : List Call) : Type 0 where
+  pub answers : historyIn s ws ks a ≡ sessionHistory s (length ws) ks′ a
+  pub bytes : bytesIn s ws ks a ≡ lentBytes a (sessionHistory s (length ws) ks′ a)
+  pub units : pendingOf (endOf s ws ks) a ≡ pendingIn (slotOf (sessionEnd s (length ws) ks′) a)
+
+-- ---- marks in words
+
+-- the mark of unit m of the controller at a place: bit m of its share
+abbrev pub bitOf : List ℕ → ℕ → ℕ → Bool
+bitOf ws i m = getD (flat ws) (shareAt i + m) false
+
+-- words that differ at most in the first n bits of the share at a place: not in its bits past these, nor in any bit of another controller
+pub record Elsewhere (i n : ℕ) (ws ws′ : List ℕ) : Type 0 where
+  pub words : length ws′ ≡ length ws
+  pub below : (b : ℕ) → b < shareAt i → getD (flat ws′) b false ≡ getD (flat ws) b false
+  pub above : (b : ℕ) → shareAt i + n ≤ b → getD (flat ws′) b false ≡ getD (flat ws) b false
+
+-- the marks that a history tells of some units
+abbrev pub toldOf : List Did → List Unit → List Bool
+toldOf h us = map (pendingBy h) us
+
+-- ---- an accepted call
+
+-- a start or a stop of the controller at place i: its record is replaced, its share is clear, and all else is as it was
+pub record Replaced (d : Device) (ws : List ℕ) (i : ℕ) (tracking : Tracking) (suspended : Bool) (ranges : List Range) (c : Change) : Type 0 where
+  -- zeros stand in the places that are not in use
+  pub record-is : c .answer .device ≡ withController d i (record { tracking = tracking; suspended = suspended; ranges = placed ranges })
+  pub clear : (m : ℕ) → m < shareSize → bitOf (c .marks) i m ≡ false
+  pub elsewhere : Elsewhere i shareSize ws (c .marks)
+
+-- a write w by a controller at place i that is tracked with units us, of which a history h tells, on words ws: it answers a count and leaves ws′
+pub record Wrote (h : List Did) (i : ℕ) (us : List Unit) (w : Write) (ws : List ℕ) (count : ℕ) (ws′ : List ℕ) : Type 0 where
+  -- a unit is pending afterwards exactly if it was, or the write touches it
+  pub marked : (m : ℕ) (u : Unit) → getElem? us m ≡ some u → bitOf ws′ i m ≡ (bitOf ws i m || touches w u)
+  pub elsewhere : Elsewhere i (length us) ws ws′
+  -- the count is that of the units that were not pending before and are afterwards
+  pub counted : count ≡ newly w us (toldOf h us)
+  pub writes : Writes w us (toldOf h us)
+
+-- a receive into a buffer x on a controller a at place i that is tracked with granularity g and units us, of which a history h tells, on words ws
+pub record Received (h : List Did) (a i g : ℕ) (us : List Unit) (x : List ℕ) (ws : List ℕ) (r : Receipt) : Type 0 where
+  -- "A report lists the earliest pending runs that fit; More To Report is clear exactly when nothing stays pending"; it says suspended as the history does
+  pub report : r .report ≡ reportOn (suspendedBy false h) g (room (length x)) us (toldOf h us)
+  pub reports : Reports (suspendedBy false h) g (room (length x)) us (toldOf h us)
+  pub fits : Room (length x)
+  -- the answer says what the report's header says
+  pub answer : r .answer
+      ≡ record { number = 0; suspended = r .report .suspended; more = r .report .more; granularity = r .report .granularity; runs = length (r .report .descriptors) }
+  -- the report stands at the buffer's front; bytes after the last descriptor are unchanged
+  pub front : take (reportSize (length (r .report .descriptors))) (r .buffer) ≡ reportBytes a (r .report)
+  pub rest : drop (reportSize (length (r .report .descriptors))) (r .buffer) ≡ drop (reportSize (length (r .report .descriptors))) x
+  -- W1: the host's reader accepts it, and answers exactly its runs
+  pub read-back : a < 2 ^ 16 → ReadBack a (r .report) (r .buffer)
+  -- the units of the reported runs are made clear, later ones stay
+  pub left : (m : ℕ) (u : Unit) → getElem? us m ≡ some u → bitOf (r .marks) i m ≡ getD (marksLeft (room (length x)) us (toldOf h us)) m false
+  pub elsewhere : Elsewhere i (length us) ws (r .marks)
+
+-- ---- a controller after a session
+
+-- a controller a at place i, of which its calls and answers tell that it is tracked with granularity g and ranges rs
+pub record Tracked (s : Settings) (ws : List ℕ) (ks : List Call) (a i g : ℕ) (rs : List Range) : Type 0 where
+  -- its units: which, in what order, and that each is there once (W2)
+  pub listed : UnitsListed g rs
+  -- "a unit of a tracked range is pending exactly if an accepted write by its controller touched it after tracking last started and after it was last
+  -- reported"
+  pub pending : (m : ℕ) (u : Unit) → getElem? (units g rs) m ≡ some u → (bitOf (endOf s ws ks .marks) i m ≡ true) ↔ PendingBy (historyIn s ws ks a) u
+  pub written : (w : Write)
+      → let n = writeNote (endOf s ws ks .device) (endOf s ws ks .marks) a w in
+      n .answer .number ≡ 0 → Wrote (historyIn s ws ks a) i (units g rs) w (endOf s ws ks .marks) (n .answer .count) (n .marks)
+  pub received : (x : List ℕ)
+      → let r = receiveReceipt (endOf s ws ks .device) (endOf s ws ks .marks) a x in
+      r .answer .number ≡ 0 → Received (historyIn s ws ks a) a i g (units g rs) x (endOf s ws ks .marks) r
+
+-- the calls that a suspended controller is refused
+pub data Moves : Op → Type 0 where
+  starts : (x : List ℕ) → Moves (start x)
+  stops : Moves stop
+  writes : (w : Write) → Moves (write w)
+
+-- any controller a
+pub record Stands (s : Settings) (ws : List ℕ) (ks : List Call) (a : ℕ) : Type 0 where
+  -- what record and marks hold of it is what its calls and answers tell: granularity, ranges, the suspended flag, and each unit's mark
+  pub told : slotOf (view (endOf s ws ks .device) (endOf s ws ks .marks)) a ≡ slotBy (historyIn s ws ks a)
+  pub tracked : (i g : ℕ) (rs : List Range) → placeOf s a ≡ some i → tracksBy none (historyIn s ws ks a) ≡ some (g, rs) → Tracked s ws ks a i g rs
+  -- "For a controller that isn't tracked a call not refused is done with count 0", and no mark changes
+  pub untracked : (w : Write) → tracksBy none (historyIn s ws ks a) ≡ none
+      → let n = writeNote (endOf s ws ks .device) (endOf s ws ks .marks) a w in
+      (n .answer .count ≡ 0) × (n .marks ≡ endOf s ws ks .marks)
+  -- a suspended controller's start, stop and write are refused, and change nothing
+  pub suspended : suspendedBy false (historyIn s ws ks a) ≡ true → (o : Op) → Moves o
+      → outcome (endOf s ws ks) (record { id = a; op = o })
+      ≡ record { answer = refused 4; device = endOf s ws ks .device; marks = endOf s ws ks .marks; bytes = lent o }
+  -- "An accepted start clears the controller's 64 words and records granularity and ranges"
+  pub started : (i : ℕ) (x : List ℕ) → placeOf s a ≡ some i
+      → let c = startChange (endOf s ws ks .device) (endOf s ws ks .marks) a x in
+      c .answer .number ≡ 0
+      → Replaced (endOf s ws ks .device) (endOf s ws ks .marks) i (On (granularityOf x) (countOf x)) false (rangesOf x) c
+  -- "An accepted stop clears them again and forgets the ranges"
+  pub stopped : (i : ℕ) → placeOf s a ≡ some i
+      → let c = stopChange (endOf s ws ks .device) (endOf s ws ks .marks) a in
+      c .answer .number ≡ 0 → Replaced (endOf s ws ks .device) (endOf s ws ks .marks) i Off false [] c
+
+-- ---- all of it
+
+pub record Demand2 : Type 1 where
+  -- the rules are those of document 01: any session comes for each controller to what they give for the same calls
+  pub rules : (s : Settings) (a : ℕ) (ws : List ℕ) (ks : List Call) → length (s .identifiers) ≡ 8 → Equals s a ws ks ks
+  -- a fresh device: nobody is tracked or suspended, and all marks are 0
+  pub fresh : (s : Settings) (ws : List ℕ)
+      → let c = freshChange s ws in
+      c .answer .number ≡ 0 → (c .answer .device ≡ freshDevice s) × (c .marks ≡ replicate markWords 0)
+  -- after any calls from it, each given what the last one left: the settings are those that it was made with, and each controller stands as its calls and
+  -- answers tell
+  pub settings : (s : Settings) (ws : List ℕ) (ks : List Call) → length (s .identifiers) ≡ 8 → freshChange s ws .answer .number ≡ 0
+      → endOf s ws ks .device .settings ≡ cleaned s
+  pub stands : (s : Settings) (ws : List ℕ) (ks : List Call) → length (s .identifiers) ≡ 8 → freshChange s ws .answer .number ≡ 0 → (a : ℕ) → Stands s ws ks a
+  -- "A written range … touches each unit with which it shares a byte"
+  pub touches : (w : Write) (u : Unit) → Touches w u
