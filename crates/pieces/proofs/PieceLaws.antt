@@ -8,7 +8,7 @@ use native.Mathlib.Nat.{zero-mul, suc-mul, add-mul, mul-le-mul-right, div-add-mo
 use native.Mathlib.Decide.{decLe, decLt}
 use native.Mathlib.Numerals.{add-one}
 use lib.Dec.{leb, ltb}
-use lib.ListN.{length, take, drop, getD, drop-of-length-le, List·getD-eq-default}
+use lib.ListN.{length, take, drop, getD, length-append, drop-of-length-le, List·getD-eq-default}
 use lib.Seq.{drop-cons, take-suc, take-take, getD-take}
 use borrow.Author.Tests.{le-leb, lt-leb, lt-ltb, le-ltb, leb-true, ltb-true, ltb-false}
 use Rattle.rules.specs.Lists.{any, keep}
@@ -18,7 +18,7 @@ use Rattle.rules.specs.Ranges.{rowsOk}
 use Rattle.rules.specs.StartData.{noRange}
 use Rattle.rules.specs.declared.Range.{Range}
 use Rattle.rules.proofs.ListLaws.{All-map, All-append, All-keep, and-left, and-right, and-intro, or-neither, or-intro-left, or-intro-right, bool-ext, any-snoc}
-use Rattle.rules.proofs.UnitLaws.{unitsOfRow-row}
+use Rattle.rules.proofs.UnitLaws.{unitsOfRow-row, unitsOfRow-length}
 use Rattle.rules.proofs.RowLaws.{rowsOk-at}
 use Rattle.rules.proofs.ScanLaws.{Beyond}
 use Rattle.pieces.specs.Pieces.{rowOf, Overlaps, cutBefore, unitOf, StretchIs, unitsLeft, PieceFound}
@@ -352,6 +352,9 @@ module _ (size : ℕ) (rs : List Range) (i j : ℕ) (p : Piece) (f : PieceFound 
       let z : p .range .start + (p .range .length - p .range .length) * size ≡ p .range .start =
       (let e : p .range .length - p .range .length ≡ 0 = omega arith in rw e (omega (arith, zero-mul size))) in
       f .begins ∙ f .own (p .range .length) (omega arith) ∙ ap (λ a. unitsOfRow (p .row) size a (p .range .length) ++ unitsLeft size rs (p .row) (p .next .0)) z
+
+  pub piece-length : length (unitsLeft size rs i j) ≡ p .range .length + length (unitsLeft size rs (p .row) (p .next .0))
+  piece-length = ap length piece-left ∙ rw (length-append, unitsOfRow-length (p .row) size (p .range .start) (p .range .length))
 
   pub piece-beyond : 0 < size → Beyond (p .row) (p .range .start + p .range .length * size) (unitsLeft size rs (p .row) (p .next .0))
   piece-beyond z =
