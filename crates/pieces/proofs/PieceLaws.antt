@@ -354,7 +354,7 @@ module _ (size : ℕ) (rs : List Range) (i j : ℕ) (p : Piece) (f : PieceFound 
       f .begins ∙ f .own (p .range .length) (omega arith) ∙ ap (λ a. unitsOfRow (p .row) size a (p .range .length) ++ unitsLeft size rs (p .row) (p .next .0)) z
 
   pub piece-length : length (unitsLeft size rs i j) ≡ p .range .length + length (unitsLeft size rs (p .row) (p .next .0))
-  piece-length = ap length piece-left ∙ rw (length-append, unitsOfRow-length (p .row) size (p .range .start) (p .range .length))
+  piece-length = ap length piece-left ∙ length-append (unitsOfRow (p .row) size (p .range .start) (p .range .length)) _ ∙ rw unitsOfRow-length
 
   pub piece-beyond : 0 < size → Beyond (p .row) (p .range .start + p .range .length * size) (unitsLeft size rs (p .row) (p .next .0))
   piece-beyond z =

@@ -7,10 +7,11 @@ use rules::Range;
 use rules::Units;
 ghost use mathlib.Core.Path.{_≡_};
 ghost use mathlib.Core.Bool.{true, _&&_};
-ghost use Prim.Native.Nat.{_+_, _-_, _≤_, _<_, min};
+ghost use Prim.Native.Nat.{_+_, _-_, _^_, _≤_, _<_, min};
 ghost use lib.Dec.{leb, ltb};
 ghost use lib.ListN.{take};
 ghost use Rattle.rules.specs.Settings.{unitSize, bytesOf};
+ghost use Rattle.rules.specs.Units.{endOf};
 ghost use Rattle.rules.specs.Ranges.{rowOk, rowsOk};
 ghost use Rattle.pieces.specs.Pieces.{rowOf, Overlaps, cutBefore, StretchIs, NextIs};
 
@@ -113,8 +114,8 @@ fn stretch_from(g: u8, ranges: [Range; 16], row: usize, at: Units) -> Stretch
 }
 
 // Some units of a range, as a range.
-fn part(g: u8, r: Range, s: Span) -> Range
-    requires { ⌜ (g ≤ 20) × (rowOk g r ≡ true) × (s .from .0 < s .to .0) × (s .to .0 ≤ r .length) ⌝ }
+pub fn part(g: u8, r: Range, s: Span) -> Range
+    requires { ⌜ (g ≤ 20) × (endOf (unitSize g) r ≤ 2 ^ 64) × (s .from .0 < s .to .0) × (s .to .0 ≤ r .length) ⌝ }
     ensures { λ q. ⌜ q ≡ record { start = r .start + bytesOf g (s .from .0); length = s .to .0 - s .from .0 } ⌝ }
 {
     let before = measures::bytes_of(g, s.from);

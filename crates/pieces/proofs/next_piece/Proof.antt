@@ -8,10 +8,8 @@ use lib.ListN.{length, take, length-take}
 use lib.Seq.{getD-take}
 use borrow.Author.Needs.{needs}
 use Rattle.rules.specs.Settings.{unitSize, bytesOf}
-use Rattle.rules.specs.Ranges.{rowOk}
 use Rattle.rules.specs.StartData.{noRange}
-use Rattle.rules.proofs.LoopLaws.{all-front}
-use Rattle.rules.proofs.RowLaws.{rowsOk-fewer}
+use Rattle.rules.proofs.RowLaws.{rowsOk-front, rowsOk-fewer}
 use Rattle.pieces.specs.Pieces.{rowOf, StretchIs, unitsLeft, PieceFound}
 use Rattle.pieces.proofs.PieceLaws.{stretch-among, left-none, left-step, left-other, left-piece, found-from}
 use Rattle.pieces.proofs.next_piece.Statement.{statement}
@@ -52,7 +50,7 @@ part-requires c κs =
     let s = l .before in
     let t = c .before .before .before .before .before .before .before .before .loop-test .taken in (
       s .pre .0,
-      all-front (rowOk (s .args .g)) (s .args .t3) (s .args .n) (l .loop .i) noRange t (omega (arith, t, s .pre .1, l .loop .inv .0)) (s .pre .2),
+      rowsOk-front (s .args .g) (s .args .t3) (s .args .n) (l .loop .i) (s .pre .2) t (omega (arith, t, s .pre .1, l .loop .inv .0)) .within,
       c .before .before .stretch-from .ensures .further,
       c .before .before .stretch-from .ensures .inside,
     )

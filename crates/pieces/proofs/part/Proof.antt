@@ -3,7 +3,6 @@ use Prim.Native.Nat.{_+_, _^_, _<_}
 use native.Mathlib.Omega.{arith}
 use borrow.Author.Needs.{needs}
 use Rattle.rules.specs.Settings.{unitSize, bytesOf}
-use Rattle.rules.proofs.RowLaws.{rowOk-facts}
 use Rattle.rules.proofs.UnitLaws.{unitSize-pos}
 use Rattle.pieces.proofs.PieceLaws.{unit-below}
 use Rattle.pieces.proofs.part.Statement.{statement}
@@ -12,7 +11,7 @@ use Rattle.pieces.proofs.part.Tie as tie
 begins : (s : tie.Start) → let a = s .args in a .r .start + bytesOf (a .g) (a .s .from .0) < 2 ^ 64
 begins s =
     let a = s .args in
-    unit-below (unitSize (a .g)) (a .r .start) (a .r .length) (a .s .from .0) (unitSize-pos (a .g)) (omega arith) (rowOk-facts (a .g) (a .r) (s .pre .1) .within)
+    unit-below (unitSize (a .g)) (a .r .start) (a .r .length) (a .s .from .0) (unitSize-pos (a .g)) (omega arith) (s .pre .1)
 
 bytes-of-requires : tie.Need-bytes-of-requires
 bytes-of-requires c κs = (c .pre .0, omega (arith, begins c))
