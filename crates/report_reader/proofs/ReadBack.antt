@@ -14,14 +14,14 @@ use Rattle.little.proofs.Numbers.{numberAt-one, numberAt-here, numberAt-next}
 use Rattle.little.proofs.Records.{records-here, recordsAt-is}
 use Rattle.rules.specs.Lists.{nonEmpty}
 use Rattle.rules.specs.Units.{units, pending}
+use Rattle.rules.specs.Ranges.{rowsOk}
 use Rattle.rules.specs.Report.{runs, Descriptor, descriptor, Report, room, reportOn, flag, descriptorBytes, reportBytes}
-use Rattle.rules.specs.ReportReader.{versionIn, moreIn, suspendedIn, identifierIn, countIn, granularityIn, descriptorAt, descriptorsIn, descriptorTests}
+use Rattle.rules.specs.ReportReader.{versionIn, moreIn, suspendedIn, identifierIn, countIn, granularityIn, descriptorAt, descriptorsIn, descriptorTests, moreOfNone}
 use Rattle.rules.specs.Demands.{ReadBack}
 use Rattle.rules.specs.declared.Range.{Range}
 use Rattle.rules.proofs.ListLaws.{All}
 use Rattle.rules.proofs.RefusalLaws.{Passed, verdict-passed}
 use Rattle.report_data.proofs.Blocks.{descriptorBytes-length, reportBytes-length}
-use Rattle.ranges.proofs.RangeLaws.{RowFacts}
 use Rattle.report_reader.specs.declared.Judged.{Judged}
 use Rattle.report_reader.proofs.JudgeLaws.{judged-good}
 use Rattle.report_reader.proofs.RunFacts.{Fitting, listed-fit, runs-few}
@@ -148,7 +148,7 @@ module _ (id : ℕ) (r : Report) (x : List ℕ) (fits : 16 + 16 * length (r .des
           runs = runs-back;
         }
       where
-        no-more : (b : Bool) → r .more ≡ b → (moreIn stored && eqb (countIn stored) 0) ≡ false
+        no-more : (b : Bool) → r .more ≡ b → moreOfNone stored ≡ false
         no-more true e = rw (count-back, ne-eqb (length (r .descriptors)) 0 (λ z. absurd (omega (arith, more e, z)))) (and-false (moreIn stored))
         no-more false e = rw (more-back, e)
 
@@ -158,7 +158,7 @@ module _ (id g : ℕ) (b : Bool) (rs : List Range) (p : List Bool) (x : List ℕ
   abbrev made : Report
   made = reportOn b g (room (length x)) (units g rs) p
 
-  pub reads-back : id < 2 ^ 16 → g ≤ 20 → All (RowFacts g) rs → length (units g rs) ≤ 4096 → 32 ≤ length x → ReadBack id made (put x 0 (reportBytes id made))
+  pub reads-back : id < 2 ^ 16 → g ≤ 20 → rowsOk g rs ≡ true → length (units g rs) ≤ 4096 → 32 ≤ length x → ReadBack id made (put x 0 (reportBytes id made))
   reads-back small granularity rows total long =
       report-back id made x (omega (arith, count, div-fits)) small granularity (omega (arith, count-few)) (listed-fit g rs rows total p (room (length x))) (some-listed (runs (pending (units g rs) p)))
     where

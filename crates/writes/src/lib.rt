@@ -53,11 +53,10 @@ fn note(d: Device, marks: &mut [u64], id: u16, at: u64, bytes: Bytes) -> Written
         };
     };
     let ranges = c.ranges;
-    let size = ranges::unit_size(g);
     let count = marking::mark_ranges(
         marks,
         4096 * i,
-        size,
+        g,
         n as usize,
         ranges,
         at,
