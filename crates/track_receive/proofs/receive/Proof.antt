@@ -11,7 +11,7 @@ use Rattle.record.specs.Record.{noController, whereIs}
 use Rattle.record.specs.declared.Place.the-variants.{At, Refused}
 use Rattle.record.proofs.RecordLaws.{whereIs-at}
 use Rattle.rules.proofs.LoopLaws.{length-mapped}
-use Rattle.ranges.proofs.RangeLaws.{HeldFacts, unitSize-least, rows-laid}
+use Rattle.ranges.proofs.RangeLaws.{HeldFacts}
 use Rattle.calls.proofs.PlaceLaws.{refused-place, held-at, share-within}
 use Rattle.track_receive.proofs.ReceiveLaws.{receives-nothing, receive-refused, receive-off, receive-short, receive-done, lists-few}
 use Rattle.track_receive.proofs.receive.Statement.{statement}
@@ -93,11 +93,8 @@ nothing-requires-3 c κs = search needs
 returns-3 : tie.Need-returns-3
 returns-3 c = receives-nothing _ 8 _ _ _ (receive-short _ _ _ _ _ (found (c .before .before .before .before .before .before)) _ _ (c .before .before .before .t .given .1) (c .before .if1 .taken)) (c .nothing3 .ensures)
 
-unit-size-requires : tie.Need-unit-size-requires
-unit-size-requires c κs = held (c .before .before) .small
-
 mul-list-runs : tie.Need-mul-list-runs
-mul-list-runs c = omega (arith, below (c .before .before .before .before .before .before .before .before))
+mul-list-runs c = omega (arith, below (c .before .before .before .before .before .before .before))
 
 cast-list-runs : tie.Need-cast-list-runs
 cast-list-runs c = search needs
@@ -107,19 +104,14 @@ sub-list-runs c = search needs
 
 list-runs-requires : tie.Need-list-runs-requires
 list-runs-requires c κs =
-    let m = c .before .before .before .before .before in
-    let z = c .before .before .unit-size .ensures in (
-      (rw z (unitSize-least _), rw z (rows-laid (m .before .t .given .0 .0) (take (m .before .t .given .0 .1 .0) (getD (m .before .before .before .before .before .before .before .before .before .before .args .t1 .controllers) (m .before .before .before .before .before .place .given .0 .0) noController .ranges)) (held m .rows))),
-      (held m .few, whereIs-at _ _ _ _ (found (c .before .before .before .before .before .before .before .before .before)) .whole, rw z (fits m), omega arith),
-    )
+    let m = c .before .before .before .before in
+    let w = whereIs-at _ _ _ _ (found (m .before .before .before .before)) .whole in
+    ((held m .small, held m .few, held m .rows), (record { within = omega (arith, fits m, w); small = omega (arith, fits m) }, omega arith))
 
 cast-put-header : tie.Need-cast-put-header
 cast-put-header c =
-    let m = c .before .before .before .before .before .before .before .before .before .before .before .before in
-    let z = c .before .before .before .before .before .before .before .before .before .unit-size .ensures in
-    let e = lists-few _ _ _ _ _ _ _ _ _ _ (c .before .before .before .before .before .before .list-runs .ensures) in
-    let f = rw z at e in
-    omega (arith, f, fits m)
+    let m = c .before .before .before .before .before .before .before .before .before .before .before in
+    omega (arith, lists-few _ _ _ _ _ _ _ _ _ _ (c .before .before .before .before .before .before .list-runs .ensures), held m .total)
 
 put-header-requires : tie.Need-put-header-requires
 put-header-requires c κs = search needs
@@ -132,9 +124,10 @@ same-length-2 c = search needs
 
 returns-4 : tie.Need-returns-4
 returns-4 c =
-    let m = c .before .before .before .before .before .before .before .before .before .before .before .before .before .before .before in
-    let z = c .before .before .before .before .before .before .before .before .before .before .before .before .unit-size .ensures in
-    receive-done _ _ _ _ _ (found (c .before .before .before .before .before .before .before .before .before .before .before .before .before .before .before .before .before .before .before)) _ _ (m .before .t .given .1) (c .before .before .before .before .before .before .before .before .before .before .before .before .before .before .if1 .left) _ _ _ _ _ (rw z at (c .before .before .before .before .before .before .before .before .before .list-runs .ensures)) (λ i. c .before .before .before .before .before .before .before .slice-known3 .given i .fits) (c .before .before .before .before .before .before .before .before .before .list-runs .kept .0) (c .before .before .put-header .ensures)
+    let r = c .before .before .before .before .before .before .before .before .before in
+    let h = r .before .before .before .before in
+    let m = h .before in
+    receive-done _ _ _ _ _ (found (m .before .before .before .before)) _ _ (m .before .t .given .1) (h .if1 .left) _ _ _ _ _ (r .list-runs .ensures) (λ i. c .before .before .before .before .before .before .before .slice-known3 .given i .fits) (r .list-runs .kept .0) (c .before .before .put-header .ensures)
 
 pub receive-spec : {M : Type 1} → statement M
 receive-spec =
@@ -154,7 +147,6 @@ receive-spec =
     returns-2
     nothing-requires-3
     returns-3
-    unit-size-requires
     mul-list-runs
     cast-list-runs
     sub-list-runs
