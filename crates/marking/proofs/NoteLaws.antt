@@ -259,7 +259,7 @@ module _ (w : Write) (size : ℕ) (rs : List Range) (l : List Bool) (at row unit
     left : unitsLeft size rs row unit ≡ unitsOfRow (p .row) size (r .start) (r .length) ++ unitsLeft size rs (p .row) (p .next .0)
     left = piece-left size rs row unit p f
 
-    pub marking-fits : at + (r .length + length (unitsLeft size rs (p .row) (p .next .0))) ≤ length l
+    marking-fits : at + (r .length + length (unitsLeft size rs (p .row) (p .next .0))) ≤ length l
     marking-fits = omega (arith, m .fits, piece-length size rs row unit p f)
 
     -- its span is marked, from bit at + from below at + to, and k of its units were clear

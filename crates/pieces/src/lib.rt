@@ -50,7 +50,14 @@ fn above(a: Units, b: Units) -> Units
     }
 }
 
-// Which units of a range another range covers. Both are counted from address 0.
+// The less of two lengths.
+fn least(a: Units, b: Units) -> Units
+    ensures { λ r. ⌜ r .0 ≡ min (a .0) (b .0) ⌝ }
+{
+    if a.0 < b.0 { a } else { b }
+}
+
+// Which units of a range another range covers. Both begin at a multiple of the unit, so units are counted from address 0.
 fn overlap(g: u8, r: Range, q: Range) -> Span
     requires { ⌜ (g ≤ 20) × (rowOk g r ≡ true) × (rowOk g q ≡ true) ⌝ }
     ensures { λ s. ⌜ Overlaps (unitSize g) r q (s .from .0) (s .to .0) ⌝ }
@@ -81,13 +88,6 @@ fn cut_before(s: Span, at: Units, to: Units) -> Units
         return to;
     }
     least(s.from, to)
-}
-
-// The less of two lengths.
-fn least(a: Units, b: Units) -> Units
-    ensures { λ r. ⌜ r .0 ≡ min (a .0) (b .0) ⌝ }
-{
-    if a.0 < b.0 { a } else { b }
 }
 
 // The stretch of a row's range from its unit `at` on.

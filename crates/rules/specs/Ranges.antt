@@ -20,10 +20,11 @@ rowTests g row r =
     ∷ (leb (endOf (unitSize g) r) (2 ^ 64) else 9 place row)
     ∷ []
 
--- whether a range passes these, and whether each of some ranges does
+-- whether a range passes these
 abbrev pub rowOk : ℕ → Range → Bool
 rowOk g r = passes (rowTests g 0 r)
 
+-- whether each of some ranges does
 abbrev pub rowsOk : ℕ → List Range → Bool
 rowsOk g rs = all (rowOk g) rs
 

@@ -15,7 +15,7 @@ use Rattle.rules.proofs.UnitLaws.{newly-le}
 use Rattle.pieces.specs.Pieces.{rowOf, unitsLeft, PieceFound, NextIs}
 use Rattle.pieces.proofs.PieceLaws.{left-all, piece-length}
 use Rattle.marking.specs.Note.{writeTo}
-use Rattle.marking.proofs.NoteLaws.{Marking, marking-start, marking-fits, marking-next, marking-bits, marking-count}
+use Rattle.marking.proofs.NoteLaws.{Marking, marking-start, marking-next, marking-bits, marking-count}
 use Rattle.marking.proofs.mark_ranges.Statement.{statement}
 use Rattle.marking.proofs.mark_ranges.Tie as tie
 

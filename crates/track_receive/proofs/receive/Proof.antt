@@ -1,7 +1,7 @@
 -- `track_receive::receive` is right: it refuses in the order of its table, lists the first runs and makes them clear, and stores the header last, when the
 -- number of runs and More To Report are known. Assumes nothing.
 use mathlib.Core.Path.{_≡_, sym, _∙_}
-use Prim.Native.Nat.{_+_, _-_, _*_, _<_, _≤_}
+use Prim.Native.Nat.{_+_, _*_, _<_, _≤_}
 use native.Mathlib.Omega.{arith}
 use denote.Ref.{now}
 use lib.ListN.{length, getD, take}
