@@ -1,8 +1,9 @@
 -- The place that a call finds: a refused one, and what a tracked controller of a sound record holds there. Assumes nothing.
 use mathlib.Core.Path.{_≡_, sym, ap, _∙_}
-use Prim.Native.Nat.{ℕ, _+_, _≤_, _<_}
+use Prim.Native.Nat.{ℕ, _+_, _*_, _≤_, _<_}
 use native.Mathlib.Omega.{arith}
 use lib.ListN.{length, getD, take}
+use Rattle.rules.specs.Settings.{markWords}
 use Rattle.rules.specs.Units.{units}
 use Rattle.rules.specs.declared.Device.{Device}
 use Rattle.rules.specs.declared.Tracking.the-variants.{On}
@@ -28,5 +29,5 @@ module _ (d : Device) (words id i : ℕ) (e : whereIs d words id ≡ At i) (ther
   held-at = let l = whereIs-at d words id i e in soundDevice-held d i g n (l .sound) (l .used) there t
 
   -- its marks lie within the words
-  pub share-within : shareAt i + length (units g (take n (getD (d .controllers) i noController .ranges))) ≤ 32768
+  pub share-within : shareAt i + length (units g (take n (getD (d .controllers) i noController .ranges))) ≤ 64 * markWords
   share-within = omega (arith, held-at .total, whereIs-at d words id i e .below)

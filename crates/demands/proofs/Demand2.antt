@@ -4,16 +4,15 @@ use mathlib.Core.Logic.{_↔_}
 use mathlib.Core.Bool.{Bool, true, false, _||_, true≢false}
 use mathlib.Core.List.{List, [], _∷_, map}
 use mathlib.Core.Option.{Option, none, some}
-use Prim.Native.Nat.{ℕ, zero, suc, _+_, _*_, _%_, _≤_, _<_}
+use Prim.Native.Nat.{ℕ, zero, suc, _+_, _*_, _≤_, _<_}
 use native.Mathlib.Omega.{arith}
-use lib.Dec.{eqb}
 use lib.ListN.{length, take, getD, getElem?, replicate, length-map, length-take}
 use borrow.Author.Tests.{eq-eqb, leb-true, not-true}
 use Rattle.bits.specs.Flat.{flat}
 use Rattle.bits.proofs.Share.{getShare-at}
 use Rattle.little.proofs.Put.{put-take-front}
 use Rattle.rules.specs.Lists.{join}
-use Rattle.rules.specs.Settings.{markWords, placeOf, unitSize}
+use Rattle.rules.specs.Settings.{markWords, placeOf}
 use Rattle.rules.specs.Units.{Unit, Write, units, touches, mark, newly}
 use Rattle.rules.specs.StartData.{granularityOf, countOf, rangesOf, placed}
 use Rattle.rules.specs.Report.{descriptor, room, marksLeft, reportedRuns, reportBytes}
@@ -28,7 +27,7 @@ use Rattle.rules.specs.declared.Tracking.{Tracking}
 use Rattle.rules.specs.declared.Tracking.the-variants.{Off, On}
 use Rattle.rules.specs.declared.Controller.{Controller}
 use Rattle.rules.specs.declared.Device.{Device}
-use Rattle.rules.proofs.ListLaws.{All-map, All-all, getElem?-at}
+use Rattle.rules.proofs.ListLaws.{getElem?-at}
 use Rattle.rules.proofs.RefusalLaws.{verdict-has, verdict-done}
 use Rattle.rules.proofs.UnitLaws.{mark-length, mark-at}
 use Rattle.rules.proofs.RunLaws.{clearFirst-length}
@@ -211,9 +210,7 @@ module _ (s : Settings) (ws : List ℕ) (ks : List Call) (eight : length (s .ide
         bit-is m k = sym (getShare-at (flat l) (shareAt i) (length us) m false k) ∙ ap (λ q. getD q m false) (held .marks)
 
         is-listed : UnitsListed g rs
-        is-listed =
-            rules.demand-2 .listed g rs
-            (All-all (λ (r : Range). eqb (r .start % unitSize g) 0) rs (All-map (λ r f. eq-eqb (r .start % unitSize g) 0 (f .aligned)) rs (facts .rows)))
+        is-listed = rules.demand-2 .listed g rs (facts .rows)
 
         is-pending : (m : ℕ) (u : Unit) → getElem? us m ≡ some u → (bitOf l i m ≡ true) ↔ PendingBy h u
         is-pending m u k =

@@ -18,10 +18,10 @@ use Rattle.bits.proofs.Share.{getShare-length, getShare-putShare-above, putShar
 use Rattle.rules.specs.Units.{Unit, Write, unitsOfRow, unitsFrom, touches, mark, newly}
 use Rattle.rules.specs.declared.Range.{Range}
 use Rattle.rules.proofs.UnitLaws.{unitsOfRow-length, unitsOfRow-at, mark-length, mark-append, newly-append, mark-at}
-use Rattle.pieces.specs.Pieces.{unitsLeft, PieceFound}
+use Rattle.pieces.specs.Pieces.{unitOf, unitsLeft, PieceFound}
 use Rattle.pieces.specs.declared.Piece.{Piece}
-use Rattle.pieces.proofs.PieceLaws.{left-all, piece-left}
-use Rattle.marking.specs.Note.{writeTo, unitAt, Touched}
+use Rattle.pieces.proofs.PieceLaws.{left-all, piece-left, piece-length}
+use Rattle.marking.specs.Note.{writeTo, Touched}
 
 noUnit : Unit
 noUnit = record { row = 0; address = 0; size = 0 }
@@ -166,14 +166,14 @@ module _ (size : ℕ) (z : 0 < size) (r : Range) (at last : ℕ) (h : at ≤ las
   abbrev w : Write
   w = writeTo at last
 
-  touched-yes : (j : ℕ) → at < r .start + suc j * size → r .start + j * size ≤ last → touches w (unitAt size r j) ≡ true
+  touched-yes : (j : ℕ) → at < r .start + suc j * size → r .start + j * size ≤ last → touches w (unitOf size r j) ≡ true
   touched-yes j a b =
       rw (lt-ltb 0 (last - at + 1) (omega arith), lt-ltb at (r .start + j * size + size) (omega (arith, suc-mul j size)), lt-ltb (r .start + j * size) (at + (last - at + 1)) (omega arith))
 
-  touched-not-left : (j : ℕ) → r .start + suc j * size ≤ at → touches w (unitAt size r j) ≡ false
+  touched-not-left : (j : ℕ) → r .start + suc j * size ≤ at → touches w (unitOf size r j) ≡ false
   touched-not-left j a = rw (lt-ltb 0 (last - at + 1) (omega arith), le-ltb at (r .start + j * size + size) (omega (arith, suc-mul j size)))
 
-  touched-not-right : (j : ℕ) → last < r .start + j * size → touches w (unitAt size r j) ≡ false
+  touched-not-right : (j : ℕ) → last < r .start + j * size → touches w (unitOf size r j) ≡ false
   touched-not-right j a =
       rw (lt-ltb 0 (last - at + 1) (omega arith), lt-ltb at (r .start + j * size + size) (omega arith), le-ltb (r .start + j * size) (at + (last - at + 1)) (omega arith))
 
@@ -206,7 +206,7 @@ module _ (size : ℕ) (z : 0 < size) (r : Range) (at last : ℕ) (h : at ≤ las
     pub touched-to : at ≤ r .start → Touched w size r 0 to
     touched-to l = record { order = omega arith; within = omega arith; exactly = λ j k. go j k (decLt j to) }
       where
-        go : (j : ℕ) → j < r .length → Dec (j < to) → touches w (unitAt size r j) ≡ among 0 to j
+        go : (j : ℕ) → j < r .length → Dec (j < to) → touches w (unitOf size r j) ≡ among 0 to j
         go j k (yes a) = touched-yes j (omega (arith, suc-mul j size)) (low-enough j a) ∙ sym (among-in 0 to j (omega arith) a)
         go j k (no a) = touched-not-right j (too-high j k (omega arith)) ∙ sym (among-above 0 to j (omega arith))
 
@@ -220,14 +220,14 @@ module _ (size : ℕ) (z : 0 < size) (r : Range) (at last : ℕ) (h : at ≤ las
       pub touched-after : to ≤ from → Touched w size r 0 0
       touched-after l = record { order = omega arith; within = omega arith; exactly = λ j k. go j k (decLt j from) }
         where
-          go : (j : ℕ) → j < r .length → Dec (j < from) → touches w (unitAt size r j) ≡ among 0 0 j
+          go : (j : ℕ) → j < r .length → Dec (j < from) → touches w (unitOf size r j) ≡ among 0 0 j
           go j k (yes a) = touched-not-left j (from-left j a) ∙ sym (among-none j)
           go j k (no a) = touched-not-right j (too-high j k (omega arith)) ∙ sym (among-none j)
 
       pub touched-span : from < to → Touched w size r from to
       touched-span l = record { order = omega arith; within = omega arith; exactly = λ j k. go j k (decLt j from) (decLt j to) }
         where
-          go : (j : ℕ) → j < r .length → Dec (j < from) → Dec (j < to) → touches w (unitAt size r j) ≡ among from to j
+          go : (j : ℕ) → j < r .length → Dec (j < from) → Dec (j < to) → touches w (unitOf size r j) ≡ among from to j
           go j k (yes a) b = touched-not-left j (from-left j a) ∙ sym (among-below from to j a)
           go j k (no a) (yes b) = touched-yes j (from-right j (omega arith)) (low-enough j b) ∙ sym (among-in from to j (omega arith) b)
           go j k (no a) (no b) = touched-not-right j (too-high j k (omega arith)) ∙ sym (among-above from to j (omega arith))
@@ -256,18 +256,15 @@ module _ (w : Write) (size : ℕ) (rs : List Range) (l : List Bool) (at row unit
     abbrev r : Range
     r = p .range
 
-    left : unitsLeft size rs row unit ≡ unitsOfRow (p .row) size (r .start) (r .length) ++ unitsLeft size rs (p .row) (p .next)
+    left : unitsLeft size rs row unit ≡ unitsOfRow (p .row) size (r .start) (r .length) ++ unitsLeft size rs (p .row) (p .next .0)
     left = piece-left size rs row unit p f
 
-    pub left-length : length (unitsLeft size rs row unit) ≡ r .length + length (unitsLeft size rs (p .row) (p .next))
-    left-length = ap length left ∙ rw (length-append, unitsOfRow-length (p .row) size (r .start) (r .length))
-
-    pub marking-fits : at + (r .length + length (unitsLeft size rs (p .row) (p .next))) ≤ length l
-    marking-fits = omega (arith, m .fits, left-length)
+    marking-fits : at + (r .length + length (unitsLeft size rs (p .row) (p .next .0))) ≤ length l
+    marking-fits = omega (arith, m .fits, piece-length size rs row unit p f)
 
     -- its span is marked, from bit at + from below at + to, and k of its units were clear
     pub marking-next : (l′ : List Bool) (k : ℕ) → l′ ≡ fill true l (at + from) (at + to - (at + from)) → k ≡ clears l (at + from) (at + to - (at + from))
-        → Marking w size rs l′ (at + r .length) (p .row) (p .next) (count + k) bits total
+        → Marking w size rs l′ (at + r .length) (p .row) (p .next .0) (count + k) bits total
     marking-next l′ k e e′ =
         record {
           fits = omega (arith, marking-fits, ap length e, fill-length true l (at + from) (at + to - (at + from)));
@@ -283,7 +280,7 @@ module _ (w : Write) (size : ℕ) (rs : List Range) (l : List Bool) (at row unit
         }
       where
         rest : List Unit
-        rest = unitsLeft size rs (p .row) (p .next)
+        rest = unitsLeft size rs (p .row) (p .next .0)
 
         next : List Bool
         next = fill true l (at + from) (to - from)

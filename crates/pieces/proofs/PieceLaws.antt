@@ -4,21 +4,24 @@ use mathlib.Core.Bool.{Bool, true, false, _&&_, _||_, not, and-false, or-true, t
 use mathlib.Core.List.{List, [], _∷_, _++_, append-assoc}
 use Prim.Native.Nat.{ℕ, zero, suc, _+_, _-_, _*_, _/_, _%_, _^_, _≤_, _<_, min}
 use native.Mathlib.Omega.{arith}
-use native.Mathlib.Nat.{zero-mul, suc-mul, add-mul, mul-le-mul-left, mul-le-mul-right, div-add-mod', one-mul, sub-zero}
+use native.Mathlib.Nat.{zero-mul, suc-mul, add-mul, mul-le-mul-right, div-add-mod', one-mul, sub-zero}
 use native.Mathlib.Decide.{decLe, decLt}
 use native.Mathlib.Numerals.{add-one}
 use lib.Dec.{leb, ltb}
-use lib.ListN.{length, take, drop, getD, length-take, drop-of-length-le, List·getD-eq-default}
+use lib.ListN.{length, take, drop, getD, length-append, drop-of-length-le, List·getD-eq-default}
 use lib.Seq.{drop-cons, take-suc, take-take, getD-take}
 use borrow.Author.Tests.{le-leb, lt-leb, lt-ltb, le-ltb, leb-true, ltb-true, ltb-false}
 use Rattle.rules.specs.Lists.{any, keep}
-use Rattle.rules.specs.Units.{Unit, unitsOfRow, covers, uncovered, unitsFrom}
+use Rattle.rules.specs.Settings.{unitSize}
+use Rattle.rules.specs.Units.{Unit, unitsOfRow, endOf, covers, uncovered, unitsFrom}
+use Rattle.rules.specs.Ranges.{rowsOk}
 use Rattle.rules.specs.StartData.{noRange}
 use Rattle.rules.specs.declared.Range.{Range}
 use Rattle.rules.proofs.ListLaws.{All-map, All-append, All-keep, and-left, and-right, and-intro, or-neither, or-intro-left, or-intro-right, bool-ext, any-snoc}
-use Rattle.rules.proofs.UnitLaws.{unitsOfRow-row}
+use Rattle.rules.proofs.UnitLaws.{unitsOfRow-row, unitsOfRow-length}
+use Rattle.rules.proofs.RowLaws.{rowsOk-at}
 use Rattle.rules.proofs.ScanLaws.{Beyond}
-use Rattle.pieces.specs.Pieces.{rowOf, Laid, Overlaps, cutBefore, unitOf, StretchIs, unitsLeft, PieceFound}
+use Rattle.pieces.specs.Pieces.{rowOf, Overlaps, cutBefore, unitOf, StretchIs, unitsLeft, PieceFound}
 use Rattle.pieces.specs.declared.Piece.{Piece}
 
 -- ---- which units another range covers
@@ -55,35 +58,7 @@ module _ (size : ℕ) (z : 0 < size) (r q : Range) (a b : ℕ) (e : a * size ≡
   pub overlap-is : 1 ≤ q .length → Overlaps size r q (b - a) (b + q .length - a)
   overlap-is l = record { exactly = λ j. ap₂ (λ x y. x && y) (start-cover j) (end-cover j); some = λ h. omega arith }
 
--- a number of units of 4 KiB or more, which begin below 2^64, is small
-pub units-small : (size x : ℕ) → 4096 ≤ size → x < 2 ^ 64 → x / size < 2 ^ 52
-units-small size x h l = omega (arith, l, div-add-mod' x size, mul-le-mul-left {m = 4096} {n = size} (x / size) h)
-
--- ---- a row of ranges that are laid
-
-pub laid-row : (size : ℕ) (rs : List Range) (n i : ℕ) → Laid size (take n rs) → i < n → i < length rs
-    → (1 ≤ rowOf rs i .length) × (rowOf rs i .start % size ≡ 0) × (rowOf rs i .start + rowOf rs i .length * size ≤ 2 ^ 64)
-laid-row size rs n i l h k =
-    let e : rowOf (take n rs) i ≡ rowOf rs i = getD-take n rs i noRange h in
-    let m : i < length (take n rs) = omega (arith, length-take n rs, h, k) in
-    (subst (λ (r : Range). 1 ≤ r .length) e (l .some i m), subst (λ (r : Range). r .start % size ≡ 0) e (l .aligned i m), subst (λ (r : Range). r .start + r .length * size ≤ 2 ^ 64) e (l .within i m))
-
-pub laid-front : (size : ℕ) (rs : List Range) (n m : ℕ) → Laid size (take n rs) → m ≤ n → Laid size (take m rs)
-laid-front size rs n m l h =
-    record {
-      some = λ i k. subst (λ (r : Range). 1 ≤ r .length) (same i k) (at i k .0);
-      aligned = λ i k. subst (λ (r : Range). r .start % size ≡ 0) (same i k) (at i k .1);
-      within = λ i k. subst (λ (r : Range). r .start + r .length * size ≤ 2 ^ 64) (same i k) (at i k .2);
-    }
-  where
-    low : (i : ℕ) → i < length (take m rs) → (i < m) × (i < length rs)
-    low i k = (omega (arith, length-take m rs, k), omega (arith, length-take m rs, k))
-
-    same : (i : ℕ) → i < length (take m rs) → rowOf rs i ≡ rowOf (take m rs) i
-    same i k = sym (getD-take m rs i noRange (low i k .0))
-
-    at : (i : ℕ) → i < length (take m rs) → (1 ≤ rowOf rs i .length) × (rowOf rs i .start % size ≡ 0) × (rowOf rs i .start + rowOf rs i .length * size ≤ 2 ^ 64)
-    at i k = laid-row size rs n i l (omega (arith, low i k .0)) (low i k .1)
+-- ---- units of a range
 
 -- a unit of a range that ends at most at 2^64 begins below it
 pub unit-below : (size start n j : ℕ) → 0 < size → j < n → start + n * size ≤ 2 ^ 64 → start + j * size < 2 ^ 64
@@ -336,7 +311,7 @@ module _ (size : ℕ) (rs : List Range) where
 
       -- a stretch of its own is a piece
       pub left-piece : StretchIs size (take i rs) (rowOf rs i) j to true → i < length rs
-          → PieceFound size rs i j (record { row = i; next = to; range = record { start = rowOf rs i .start + j * size; length = to - j } })
+          → PieceFound size rs i j (record { row = i; next = record { 0 = to }; range = record { start = rowOf rs i .start + j * size; length = to - j } })
       left-piece s h =
           let back : to - (to - j) ≡ j = omega (arith, s .further) in
           record {
@@ -372,15 +347,27 @@ module _ (size : ℕ) (rs : List Range) where
 
 -- its units come next, and then what is left after it; the units of its row that are left begin further on than it ends
 module _ (size : ℕ) (rs : List Range) (i j : ℕ) (p : Piece) (f : PieceFound size rs i j p) where
-  pub piece-left : unitsLeft size rs i j ≡ unitsOfRow (p .row) size (p .range .start) (p .range .length) ++ unitsLeft size rs (p .row) (p .next)
+  pub piece-left : unitsLeft size rs i j ≡ unitsOfRow (p .row) size (p .range .start) (p .range .length) ++ unitsLeft size rs (p .row) (p .next .0)
   piece-left =
       let z : p .range .start + (p .range .length - p .range .length) * size ≡ p .range .start =
       (let e : p .range .length - p .range .length ≡ 0 = omega arith in rw e (omega (arith, zero-mul size))) in
-      f .begins ∙ f .own (p .range .length) (omega arith) ∙ ap (λ a. unitsOfRow (p .row) size a (p .range .length) ++ unitsLeft size rs (p .row) (p .next)) z
+      f .begins ∙ f .own (p .range .length) (omega arith) ∙ ap (λ a. unitsOfRow (p .row) size a (p .range .length) ++ unitsLeft size rs (p .row) (p .next .0)) z
 
-  pub piece-beyond : 0 < size → Beyond (p .row) (p .range .start + p .range .length * size) (unitsLeft size rs (p .row) (p .next))
+  pub piece-length : length (unitsLeft size rs i j) ≡ p .range .length + length (unitsLeft size rs (p .row) (p .next .0))
+  piece-length = ap length piece-left ∙ length-append (unitsOfRow (p .row) size (p .range .start) (p .range .length)) _ ∙ rw unitsOfRow-length
+
+  pub piece-beyond : 0 < size → Beyond (p .row) (p .range .start + p .range .length * size) (unitsLeft size rs (p .row) (p .next .0))
   piece-beyond z =
-      let e : rowOf rs (p .row) .start + p .next * size ≡ p .range .start + p .range .length * size =
-      (let n : p .next ≡ p .next - p .range .length + p .range .length = omega (arith, f .long) in
-      ap (λ k. rowOf rs (p .row) .start + k * size) n ∙ omega (arith, f .starts, add-mul (p .next - p .range .length) (p .range .length) size)) in
-      subst (λ x. Beyond (p .row) x (unitsLeft size rs (p .row) (p .next))) e (left-beyond size rs (p .row) (p .next) z (f .inside) (f .cut))
+      let e : rowOf rs (p .row) .start + p .next .0 * size ≡ p .range .start + p .range .length * size =
+      (let n : p .next .0 ≡ p .next .0 - p .range .length + p .range .length = omega (arith, f .long) in
+      ap (λ k. rowOf rs (p .row) .start + k * size) n ∙ omega (arith, f .starts, add-mul (p .next .0 - p .range .length) (p .range .length) size)) in
+      subst (λ x. Beyond (p .row) x (unitsLeft size rs (p .row) (p .next .0))) e (left-beyond size rs (p .row) (p .next .0) z (f .inside) (f .cut))
+
+-- a piece of ranges that pass 9 each by itself ends at most at 2^64
+pub piece-within : (g : ℕ) (rs : List Range) (i j : ℕ) (p : Piece) → rowsOk g rs ≡ true → PieceFound (unitSize g) rs i j p → endOf (unitSize g) (p .range) ≤ 2 ^ 64
+piece-within g rs i j p ok f = within (unitSize g) (rowOf rs (p .row)) (p .range) (p .next .0) (f .long) (f .inside) (f .starts) (rowsOk-at g rs (p .row) ok (f .row-in) .within)
+  where
+    within : (size : ℕ) (r q : Range) (next : ℕ) → q .length ≤ next → next ≤ r .length → q .start ≡ r .start + (next - q .length) * size → endOf size r ≤ 2 ^ 64 → endOf size q ≤ 2 ^ 64
+    within size r q next l h e w =
+        let d : next ≡ next - q .length + q .length = omega (arith, l) in
+        omega (arith, e, w, ap (λ k. k * size) d, add-mul (next - q .length) (q .length) size, mul-le-mul-right {m = next} {n = r .length} size h)

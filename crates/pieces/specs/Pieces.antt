@@ -1,5 +1,5 @@
 -- What the functions that cut ranges into pieces promise. Which units ranges have, and to which range each belongs, is defined in `rules`.
-use Prim.Native.Nat.{ℕ, suc, _+_, _-_, _*_, _%_, _^_, _≤_, _<_, min}
+use Prim.Native.Nat.{ℕ, suc, _+_, _-_, _*_, _≤_, _<_, min}
 use mathlib.Core.Path.{_≡_}
 use mathlib.Core.Bool.{Bool, true, false, _&&_, cond}
 use mathlib.Core.List.{List, [], _++_}
@@ -16,12 +16,6 @@ use Rattle.pieces.specs.declared.NextPiece.the-variants.{Is, Nothing}
 -- the range of a row; past the last there is none, of length 0
 abbrev pub rowOf : List Range → ℕ → Range
 rowOf rs row = getD rs row noRange
-
--- ranges that pass 9 each by itself: some units, from a multiple of the unit on, that end at most at 2^64
-pub record Laid (size : ℕ) (rs : List Range) : Type 0 where
-  pub some : (i : ℕ) → i < length rs → 1 ≤ rowOf rs i .length
-  pub aligned : (i : ℕ) → i < length rs → rowOf rs i .start % size ≡ 0
-  pub within : (i : ℕ) → i < length rs → rowOf rs i .start + rowOf rs i .length * size ≤ 2 ^ 64
 
 -- a unit of a range, counted from its first
 abbrev pub unitOf : ℕ → Range → ℕ → Unit
@@ -53,15 +47,15 @@ unitsLeft size rs i j =
 pub record PieceFound (size : ℕ) (rs : List Range) (i j : ℕ) (p : Piece) : Type 0 where
   pub row-in : p .row < length rs
   pub some : 1 ≤ p .range .length
-  pub long : p .range .length ≤ p .next
-  pub inside : p .next ≤ rowOf rs (p .row) .length
-  pub starts : p .range .start ≡ rowOf rs (p .row) .start + (p .next - p .range .length) * size
+  pub long : p .range .length ≤ p .next .0
+  pub inside : p .next .0 ≤ rowOf rs (p .row) .length
+  pub starts : p .range .start ≡ rowOf rs (p .row) .start + (p .next .0 - p .range .length) * size
   -- nothing is left before it; its units come next, and of these so many as one likes from the last
-  pub begins : unitsLeft size rs i j ≡ unitsLeft size rs (p .row) (p .next - p .range .length)
+  pub begins : unitsLeft size rs i j ≡ unitsLeft size rs (p .row) (p .next .0 - p .range .length)
   pub own : (m : ℕ) → m ≤ p .range .length
-      → unitsLeft size rs (p .row) (p .next - m) ≡ unitsOfRow (p .row) size (p .range .start + (p .range .length - m) * size) m ++ unitsLeft size rs (p .row) (p .next)
+      → unitsLeft size rs (p .row) (p .next .0 - m) ≡ unitsOfRow (p .row) size (p .range .start + (p .range .length - m) * size) m ++ unitsLeft size rs (p .row) (p .next .0)
   -- it is a longest one: the row's next unit belongs to another range
-  pub cut : p .next < rowOf rs (p .row) .length → uncovered size (take (p .row) rs) (unitOf size (rowOf rs (p .row)) (p .next)) ≡ false
+  pub cut : p .next .0 < rowOf rs (p .row) .length → uncovered size (take (p .row) rs) (unitOf size (rowOf rs (p .row)) (p .next .0)) ≡ false
 
 abbrev pub NextIs : ℕ → List Range → ℕ → ℕ → NextPiece → Type 0
 NextIs size rs i j (Is p) = PieceFound size rs i j p

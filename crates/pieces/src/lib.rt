@@ -2,30 +2,35 @@
 // piece is a longest stretch of one range's units that no earlier range covers; it is a range itself, with a row.
 // Units of a range are counted from its first.
 
+use rules::Bytes;
 use rules::Range;
+use rules::Units;
 ghost use mathlib.Core.Path.{_≡_};
-ghost use mathlib.Core.Bool.{_&&_};
-ghost use Prim.Native.Nat.{_+_, _-_, _%_, _≤_, _<_, min};
+ghost use mathlib.Core.Bool.{true, _&&_};
+ghost use Prim.Native.Nat.{_+_, _-_, _^_, _≤_, _<_, min};
 ghost use lib.Dec.{leb, ltb};
 ghost use lib.ListN.{take};
-ghost use Rattle.pieces.specs.Pieces.{rowOf, Laid, Overlaps, cutBefore, StretchIs, NextIs};
+ghost use Rattle.rules.specs.Settings.{unitSize, bytesOf};
+ghost use Rattle.rules.specs.Units.{endOf};
+ghost use Rattle.rules.specs.Ranges.{rowOk, rowsOk};
+ghost use Rattle.pieces.specs.Pieces.{rowOf, Overlaps, cutBefore, StretchIs, NextIs};
 
 // Units of a range: those from `from` below `to`.
 pub struct Span {
-    pub from: u64,
-    pub to: u64,
+    pub from: Units,
+    pub to: Units,
 }
 
 // Units of a range from some unit on, up to `to`: all of them belong to the range, or none.
 pub struct Stretch {
-    pub to: u64,
+    pub to: Units,
     pub own: bool,
 }
 
 // A piece: its row, the unit of the row's range just past it, and itself as a range.
 pub struct Piece {
     pub row: usize,
-    pub next: u64,
+    pub next: Units,
     pub range: Range,
 }
 
@@ -35,67 +40,70 @@ pub enum NextPiece {
 }
 
 // How much a is above b, or 0.
-fn above(a: u64, b: u64) -> u64
-    ensures { λ r. ⌜ r ≡ a - b ⌝ }
+fn above(a: Units, b: Units) -> Units
+    ensures { λ r. ⌜ r .0 ≡ a .0 - b .0 ⌝ }
 {
-    if b < a { a - b } else { 0 }
+    if b.0 < a.0 {
+        Units(a.0 - b.0)
+    } else {
+        Units(0)
+    }
 }
 
-// Which units of a range another range covers.
-fn overlap(size: u64, r: Range, q: Range) -> Span
-    requires { ⌜ (4096 ≤ size) × (r .start % size ≡ 0) × (q .start % size ≡ 0) × (1 ≤ q .length) ⌝ }
-    ensures { λ s. ⌜ Overlaps size r q (s .from) (s .to) ⌝ }
+// The less of two lengths.
+fn least(a: Units, b: Units) -> Units
+    ensures { λ r. ⌜ r .0 ≡ min (a .0) (b .0) ⌝ }
 {
-    let a = r.start / size;
-    let b = q.start / size;
+    if a.0 < b.0 { a } else { b }
+}
+
+// Which units of a range another range covers. Both begin at a multiple of the unit, so units are counted from address 0.
+fn overlap(g: u8, r: Range, q: Range) -> Span
+    requires { ⌜ (g ≤ 20) × (rowOk g r ≡ true) × (rowOk g q ≡ true) ⌝ }
+    ensures { λ s. ⌜ Overlaps (unitSize g) r q (s .from .0) (s .to .0) ⌝ }
+{
+    let a = measures::whole_units(g, Bytes(r.start));
+    let b = measures::whole_units(g, Bytes(q.start));
+    let length = measures::length_of(q);
     let from = above(b, a);
-    let to = above(b + q.length as u64, a);
+    let to = above(Units(b.0 + length.0), a);
     Span { from, to }
 }
 
 // Whether a unit is among some.
-fn among(s: Span, at: u64) -> bool
-    ensures { λ r. ⌜ r ≡ (leb (s .from) at && ltb at (s .to)) ⌝ }
+fn among(s: Span, at: Units) -> bool
+    ensures { λ r. ⌜ r ≡ (leb (s .from .0) (at .0) && ltb (at .0) (s .to .0)) ⌝ }
 {
-    if at < s.from {
+    if at.0 < s.from.0 {
         return false;
     }
-    at < s.to
+    at.0 < s.to.0
 }
 
 // Where units from `at` to `to` are cut by some others that begin further on: at the first of these, if that is before `to`.
-fn cut_before(s: Span, at: u64, to: u64) -> u64
-    ensures { λ r. ⌜ r ≡ cutBefore (s .from) at to ⌝ }
+fn cut_before(s: Span, at: Units, to: Units) -> Units
+    ensures { λ r. ⌜ r .0 ≡ cutBefore (s .from .0) (at .0) (to .0) ⌝ }
 {
-    if s.from <= at {
+    if s.from.0 <= at.0 {
         return to;
     }
-    if s.from < to {
-        return s.from;
-    }
-    to
-}
-
-// The less of two numbers.
-fn least(a: u64, b: u64) -> u64
-    ensures { λ r. ⌜ r ≡ min a b ⌝ }
-{
-    if a < b { a } else { b }
+    least(s.from, to)
 }
 
 // The stretch of a row's range from its unit `at` on.
-fn stretch_from(size: u64, ranges: [Range; 16], row: usize, at: u64) -> Stretch
-    requires { ⌜ (4096 ≤ size) × (row < 16) × Laid size (take (row + 1) ranges) × (at < rowOf ranges row .length) ⌝ }
-    ensures { λ s. ⌜ StretchIs size (take row ranges) (rowOf ranges row) at (s .to) (s .own) ⌝ }
+fn stretch_from(g: u8, ranges: [Range; 16], row: usize, at: Units) -> Stretch
+    requires { ⌜ (g ≤ 20) × (row < 16) × (rowsOk g (take (row + 1) ranges) ≡ true) × (at .0 < rowOf ranges row .length) ⌝ }
+    ensures { λ s. ⌜ StretchIs (unitSize g) (take row ranges) (rowOf ranges row) (at .0) (s .to .0) (s .own) ⌝ }
 {
     let r = ranges[row];
-    let mut to = r.length as u64;
+    let mut to = measures::length_of(r);
     let mut i: usize = 0;
     while i < row {
-        let s = overlap(size, r, ranges[i]);
+        let s = overlap(g, r, ranges[i]);
         if among(s, at) {
+            let end = least(s.to, to);
             return Stretch {
-                to: least(s.to, to),
+                to: end,
                 own: false,
             };
         }
@@ -105,31 +113,42 @@ fn stretch_from(size: u64, ranges: [Range; 16], row: usize, at: u64) -> Stretch
     Stretch { to, own: true }
 }
 
+// Some units of a range, as a range.
+pub fn part(g: u8, r: Range, s: Span) -> Range
+    requires { ⌜ (g ≤ 20) × (endOf (unitSize g) r ≤ 2 ^ 64) × (s .from .0 < s .to .0) × (s .to .0 ≤ r .length) ⌝ }
+    ensures { λ q. ⌜ q ≡ record { start = r .start + bytesOf g (s .from .0); length = s .to .0 - s .from .0 } ⌝ }
+{
+    let before = measures::bytes_of(g, s.from);
+    let start = r.start + before.0;
+    let length = (s.to.0 - s.from.0) as u32;
+    Range { start, length }
+}
+
 // The next piece of the first n ranges, from unit `at` of a row on.
-pub fn next_piece(size: u64, n: usize, ranges: [Range; 16], row: usize, at: u64) -> NextPiece
-    requires { ⌜ (4096 ≤ size) × (n ≤ 16) × Laid size (take n ranges) × (at ≤ rowOf (take n ranges) row .length) ⌝ }
-    ensures { λ r. ⌜ NextIs size (take n ranges) row at r ⌝ }
+pub fn next_piece(g: u8, n: usize, ranges: [Range; 16], row: usize, at: Units) -> NextPiece
+    requires { ⌜ (g ≤ 20) × (n ≤ 16) × (rowsOk g (take n ranges) ≡ true) × (at .0 ≤ rowOf (take n ranges) row .length) ⌝ }
+    ensures { λ r. ⌜ NextIs (unitSize g) (take n ranges) row (at .0) r ⌝ }
 {
     let mut i = row;
     let mut j = at;
     while i < n {
         let r = ranges[i];
-        if j < r.length as u64 {
-            let s = stretch_from(size, ranges, i, j);
+        let length = measures::length_of(r);
+        if j.0 < length.0 {
+            let s = stretch_from(g, ranges, i, j);
+            let to = s.to;
             if s.own {
-                let start = r.start + j * size;
-                let length = (s.to - j) as u32;
-                let range = Range { start, length };
+                let range = part(g, r, Span { from: j, to });
                 return NextPiece::Is(Piece {
                     row: i,
-                    next: s.to,
+                    next: to,
                     range,
                 });
             }
-            j = s.to;
+            j = to;
         } else {
             i += 1;
-            j = 0;
+            j = Units(0);
         }
     }
     NextPiece::Nothing

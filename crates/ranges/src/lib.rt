@@ -1,73 +1,40 @@
-// Checks of listed ranges: refusals 9, 10 and 11, and the one function of the granularity that turns units into bytes.
+// Checks of listed ranges: refusals 9, 10 and 11.
 
 use pieces::NextPiece;
-use rules::Bytes;
 use rules::MOST_UNITS;
 use rules::Range;
 use rules::Settings;
 use rules::Units;
 ghost use mathlib.Core.Path.{_≡_};
+ghost use mathlib.Core.Bool.{true};
 ghost use Prim.Native.Nat.{_^_, _<_, _≤_};
 ghost use lib.ListN.{length, take};
 ghost use mathlib.Core.List.{map};
-ghost use Rattle.rules.specs.Lists.{all, sum};
-ghost use Rattle.rules.specs.Refusals.{passes, refusal};
-ghost use Rattle.rules.specs.Settings.{unitSize, bytesOf};
+ghost use Rattle.rules.specs.Lists.{sum};
+ghost use Rattle.rules.specs.Refusals.{refusal};
 ghost use Rattle.rules.specs.Units.{units};
-ghost use Rattle.rules.specs.Ranges.{rowTests, isPower, powersOk, unitsOk, listTests};
-ghost use Rattle.pieces.specs.Pieces.{Laid};
-
-// The bytes of a unit: 2^g times 4 KiB.
-pub fn unit_size(g: u8) -> u64
-    requires { ⌜ g ≤ 20 ⌝ }
-    ensures { λ r. ⌜ r ≡ unitSize g ⌝ }
-{
-    1u64 << (12 + g)
-}
-
-// A length in units, in bytes: the one function of the granularity that converts. Every length in bytes in this crate comes from it.
-pub fn bytes_of(g: u8, u: Units) -> Bytes
-    requires { ⌜ (g ≤ 20) × (u .0 < 4294967296) ⌝ }
-    ensures { λ r. ⌜ r .0 ≡ bytesOf g (u .0) ⌝ }
-{
-    Bytes(u.0 * unit_size(g))
-}
-
-// A range's length, in units.
-fn units_of(r: Range) -> Units
-    ensures { λ x. ⌜ (x .0 ≡ r .length) × (x .0 < 4294967296) ⌝ }
-{
-    Units(r.length as u64)
-}
-
-// A range's length, in bytes.
-fn bytes_in(g: u8, r: Range) -> Bytes
-    requires { ⌜ g ≤ 20 ⌝ }
-    ensures { λ x. ⌜ x .0 ≡ bytesOf g (r .length) ⌝ }
-{
-    bytes_of(g, units_of(r))
-}
+ghost use Rattle.rules.specs.Ranges.{rowOk, rowsOk, isPower, powersOk, unitsOk, listTests};
 
 // Whether a range by itself passes 9: some units, from a multiple of the unit on, that end at most at 2^64. Its last byte is held to the last
 // address, so that no sum can wrap.
 pub fn range_ok(g: u8, r: Range) -> bool
     requires { ⌜ g ≤ 20 ⌝ }
-    ensures { λ x. ⌜ x ≡ passes (rowTests g 0 r) ⌝ }
+    ensures { λ x. ⌜ x ≡ rowOk g r ⌝ }
 {
     if r.length < 1 {
         return false;
     }
-    if r.start % unit_size(g) != 0 {
+    if !measures::aligned(g, r.start) {
         return false;
     }
-    let b = bytes_in(g, r);
+    let b = measures::bytes_of(g, measures::length_of(r));
     b.0 - 1 <= u64::MAX - r.start
 }
 
 // Whether each of the first n ranges by itself passes 9.
 fn ranges_ok(g: u8, n: usize, ranges: [Range; 16]) -> bool
     requires { ⌜ (g ≤ 20) × (n ≤ 16) ⌝ }
-    ensures { λ x. ⌜ x ≡ all (λ r. passes (rowTests g 0 r)) (take n ranges) ⌝ }
+    ensures { λ x. ⌜ x ≡ rowsOk g (take n ranges) ⌝ }
 {
     for i in 0..n {
         if !range_ok(g, ranges[i]) {
@@ -111,7 +78,7 @@ fn lengths(n: usize, ranges: [Range; 16]) -> Units
 {
     let mut total: u64 = 0;
     for i in 0..n {
-        let u = units_of(ranges[i]);
+        let u = measures::length_of(ranges[i]);
         total += u.0;
     }
     Units(total)
@@ -119,19 +86,18 @@ fn lengths(n: usize, ranges: [Range; 16]) -> Units
 
 // How many different units the first n ranges have, piece by piece.
 fn units_in(g: u8, n: usize, ranges: [Range; 16]) -> Units
-    requires { ⌜ (g ≤ 20) × (n ≤ 16) × Laid (unitSize g) (take n ranges) × (sum (map (λ r. r .length) (take n ranges)) < 2 ^ 64) ⌝ }
+    requires { ⌜ (g ≤ 20) × (n ≤ 16) × (rowsOk g (take n ranges) ≡ true) × (sum (map (λ r. r .length) (take n ranges)) < 2 ^ 64) ⌝ }
     ensures { λ x. ⌜ x .0 ≡ length (units g (take n ranges)) ⌝ }
 {
-    let size = unit_size(g);
     let mut total: u64 = 0;
     let mut row: usize = 0;
-    let mut unit: u64 = 0;
+    let mut unit = Units(0);
     loop {
-        let NextPiece::Is(piece) = pieces::next_piece(size, n, ranges, row, unit) else {
+        let NextPiece::Is(piece) = pieces::next_piece(g, n, ranges, row, unit) else {
             return Units(total);
         };
-        let r = piece.range;
-        total += r.length as u64;
+        let u = measures::length_of(piece.range);
+        total += u.0;
         row = piece.row;
         unit = piece.next;
     }
@@ -139,7 +105,7 @@ fn units_in(g: u8, n: usize, ranges: [Range; 16]) -> Units
 
 // Whether the first n ranges pass 11. There are no more different units than the lengths say, so these are mostly enough.
 fn units_ok(g: u8, n: usize, ranges: [Range; 16]) -> bool
-    requires { ⌜ (g ≤ 20) × (n ≤ 16) × Laid (unitSize g) (take n ranges) ⌝ }
+    requires { ⌜ (g ≤ 20) × (n ≤ 16) × (rowsOk g (take n ranges) ≡ true) ⌝ }
     ensures { λ x. ⌜ x ≡ unitsOk g (take n ranges) ⌝ }
 {
     let most = lengths(n, ranges);

@@ -1,16 +1,15 @@
 -- What a report is refused for, case by case of its table. Assumes nothing.
 use mathlib.Core.Path.{_≡_, sym, ap₂, _∙_}
 use mathlib.Core.Logic.{_≢_}
-use mathlib.Core.Bool.{true, false, _&&_}
+use mathlib.Core.Bool.{true, false}
 use mathlib.Core.List.{List}
 use Prim.Native.Nat.{ℕ, _≤_, _<_}
 use native.Mathlib.Omega.{arith}
-use lib.Dec.{eqb}
 use lib.ListN.{length}
 use borrow.Author.Tests.{le-leb, lt-leb, eq-eqb, ne-eqb}
 use Rattle.little.proofs.Records.{recordsAt-length}
 use Rattle.rules.specs.Refusals.{refusal, placeIn}
-use Rattle.rules.specs.ReportReader.{reportSize, versionIn, moreIn, countIn, granularityIn, descriptorAt, descriptorsIn, descriptorTests, reportTests}
+use Rattle.rules.specs.ReportReader.{reportSize, versionIn, countIn, granularityIn, descriptorAt, descriptorsIn, descriptorTests, moreOfNone, reportTests}
 use Rattle.report_reader.specs.declared.Judged.{Judged}
 use Rattle.report_reader.proofs.ReadingLaws.{firstBad, descriptors-bad, descriptors-good}
 
@@ -36,11 +35,11 @@ module _ (x : List ℕ) where
       judged-granularity g = rw (le-leb 16 (length x) h, eq-eqb (versionIn x) 0 v, lt-leb (granularityIn x) 20 g)
 
       module _ (g : granularityIn x ≤ 20) where
-        pub judged-more : (moreIn x && eqb (countIn x) 0) ≡ true → judged 9 0 ≡ judgedOf x
+        pub judged-more : moreOfNone x ≡ true → judged 9 0 ≡ judgedOf x
         unfolding reportTests
         judged-more m = rw (le-leb 16 (length x) h, eq-eqb (versionIn x) 0 v, le-leb (granularityIn x) 20 g, m)
 
-        module _ (m : (moreIn x && eqb (countIn x) 0) ≡ false) where
+        module _ (m : moreOfNone x ≡ false) where
           pub judged-rest : length x < reportSize (countIn x) → judged 8 0 ≡ judgedOf x
           unfolding reportTests
           judged-rest r = rw (le-leb 16 (length x) h, eq-eqb (versionIn x) 0 v, le-leb (granularityIn x) 20 g, m, lt-leb (reportSize (countIn x)) (length x) r)

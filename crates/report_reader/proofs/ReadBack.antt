@@ -1,6 +1,6 @@
 -- The reader accepts each report of good ranges that a buffer has room for, and gives it back. Assumes nothing.
 use mathlib.Core.Path.{_≡_, refl, sym, ap, ap₂, _∙_}
-use mathlib.Core.Bool.{Bool, true, false, _&&_, and-false, true≢false}
+use mathlib.Core.Bool.{Bool, true, false, and-false, true≢false}
 use mathlib.Core.List.{List, [], _∷_, _++_, map, append-assoc}
 use mathlib.Core.Option.{some}
 use Prim.Native.Nat.{ℕ, zero, suc, _+_, _-_, _*_, _/_, _%_, _^_, _≤_, _<_}
@@ -15,14 +15,14 @@ use Rattle.little.proofs.Numbers.{numberAt-one, numberAt-here, numberAt-next}
 use Rattle.little.proofs.Records.{records-here, recordsAt-is}
 use Rattle.rules.specs.Lists.{nonEmpty}
 use Rattle.rules.specs.Units.{units, pending}
+use Rattle.rules.specs.Ranges.{rowsOk}
 use Rattle.rules.specs.Report.{runs, Descriptor, descriptor, Report, room, reportOn, flag, descriptorBytes, reportBytes}
-use Rattle.rules.specs.ReportReader.{versionIn, moreIn, suspendedIn, identifierIn, countIn, granularityIn, descriptorAt, descriptorOf, descriptorsIn, descriptorTests, bit, reportRefusal, reportRefusalAt, reportAddress, reportLength}
+use Rattle.rules.specs.ReportReader.{versionIn, moreIn, suspendedIn, identifierIn, countIn, granularityIn, descriptorAt, descriptorOf, descriptorsIn, descriptorTests, moreOfNone, bit, reportRefusal, reportRefusalAt, reportAddress, reportLength}
 use Rattle.rules.specs.Demands.{ReadBack}
 use Rattle.rules.specs.declared.Range.{Range}
 use Rattle.rules.proofs.ListLaws.{All, getElem?-at}
 use Rattle.rules.proofs.RefusalLaws.{Passed, verdict-passed}
 use Rattle.report_data.proofs.Blocks.{descriptorBytes-length, reportBytes-length}
-use Rattle.ranges.proofs.RangeLaws.{RowFacts}
 use Rattle.report_reader.specs.declared.Judged.{Judged}
 use Rattle.report_reader.proofs.JudgeLaws.{judged-good}
 use Rattle.report_reader.proofs.AnswerLaws.{accepted-answer, index-past, index-within, index-answer}
@@ -136,7 +136,7 @@ module _ (id : ℕ) (r : Report) (x : List ℕ) (fits : 16 + 16 * length (r .des
     none-bad i [] h = tt
     none-bad i (d ∷ ds) h = (h .0 .good, none-bad (suc i) ds (h .1))
 
-    none-more : (b : Bool) → r .more ≡ b → (r .more ≡ true → 0 < length (r .descriptors)) → (moreIn stored && eqb (countIn stored) 0) ≡ false
+    none-more : (b : Bool) → r .more ≡ b → (r .more ≡ true → 0 < length (r .descriptors)) → moreOfNone stored ≡ false
     none-more true e filled = rw (count-back, ne-eqb (length (r .descriptors)) 0 (λ z. absurd (omega (arith, filled e, z)))) (and-false (moreIn stored))
     none-more false e filled = rw (more-back, e)
 
@@ -178,7 +178,7 @@ module _ (id g : ℕ) (b : Bool) (rs : List Range) (p : List Bool) (x : List ℕ
   abbrev made : Report
   made = reportOn b g (room (length x)) (units g rs) p
 
-  pub reads-back : id < 2 ^ 16 → g ≤ 20 → All (RowFacts g) rs → length (units g rs) ≤ 4096 → 32 ≤ length x → ReadBack id made (put x 0 (reportBytes id made))
+  pub reads-back : id < 2 ^ 16 → g ≤ 20 → rowsOk g rs ≡ true → length (units g rs) ≤ 4096 → 32 ≤ length x → ReadBack id made (put x 0 (reportBytes id made))
   reads-back small granularity rows total long =
       report-back id made x (omega (arith, count, div-fits)) small granularity (omega (arith, count-few)) (listed-fit g rs rows total p (room (length x))) (some-listed (runs (pending (units g rs) p)))
     where

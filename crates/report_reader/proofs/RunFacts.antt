@@ -10,15 +10,15 @@ use borrow.Author.Tests.{le-leb, eq-eqb}
 use Rattle.rules.specs.Lists.{keep, join}
 use Rattle.rules.specs.Settings.{unitSize}
 use Rattle.rules.specs.Units.{Unit, unitsOfRow, uncovered, unitsFrom, units, pending}
-use Rattle.rules.specs.Ranges.{rowTests}
-use Rattle.rules.specs.Report.{runs, Descriptor, descriptor, reportedRuns}
+use Rattle.rules.specs.Ranges.{rowTests, rowOk, rowsOk}
+use Rattle.rules.specs.Report.{runs, Descriptor, rangeOf, descriptor, reportedRuns}
 use Rattle.rules.specs.ReportReader.{goodDescriptor}
 use Rattle.rules.specs.declared.Range.{Range}
-use Rattle.rules.proofs.ListLaws.{All, All-map, All-both, All-append, All-keep, All-left, All-right, All-take}
+use Rattle.rules.proofs.ListLaws.{and-left, and-right, All, All-map, All-both, All-append, All-keep, All-left, All-right, All-take}
 use Rattle.rules.proofs.RefusalLaws.{passes-all}
+use Rattle.rules.proofs.RowLaws.{rowOk-facts}
 use Rattle.rules.proofs.UnitLaws.{Chain, unitsFrom-sized, unitSize-pos, All-pending}
 use Rattle.rules.proofs.RunLaws.{Run, runs-join, runs-run, runs-length-le, pending-length-le}
-use Rattle.ranges.proofs.RangeLaws.{RowFacts}
 
 -- ---- units
 
@@ -33,12 +33,13 @@ row-within s row a (suc n) e h = (
   row-within s row (a + s) n (add-mod-right a s ∙ e) (omega (arith, h, suc-mul n s)),
 )
 
-ranges-within : (g row : ℕ) (before rs : List Range) → All (RowFacts g) rs → All (Within (unitSize g)) (unitsFrom (unitSize g) row before rs)
+ranges-within : (g row : ℕ) (before rs : List Range) → rowsOk g rs ≡ true → All (Within (unitSize g)) (unitsFrom (unitSize g) row before rs)
 ranges-within g row before [] h = tt
 ranges-within g row before (r ∷ rs) h =
+    let f = rowOk-facts g r (and-left (rowOk g r) (rowsOk g rs) h) in
     All-append (Within (unitSize g)) (keep (uncovered (unitSize g) before) (unitsOfRow row (unitSize g) (r .start) (r .length))) (unitsFrom (unitSize g) (suc row) (before ++ r ∷ []) rs)
-    (All-keep (Within (unitSize g)) (uncovered (unitSize g) before) (unitsOfRow row (unitSize g) (r .start) (r .length)) (row-within (unitSize g) row (r .start) (r .length) (h .0 .aligned) (h .0 .within)))
-    (ranges-within g (suc row) (before ++ r ∷ []) rs (h .1))
+    (All-keep (Within (unitSize g)) (uncovered (unitSize g) before) (unitsOfRow row (unitSize g) (r .start) (r .length)) (row-within (unitSize g) row (r .start) (r .length) (f .aligned) (f .within)))
+    (ranges-within g (suc row) (before ++ r ∷ []) rs (and-right (rowOk g r) (rowsOk g rs) h))
 
 -- ---- runs
 
@@ -66,7 +67,7 @@ run-fits g (u ∷ us) c h l =
     let e : u .address + suc (length us) * unitSize g ≤ 2 ^ 64 = chain-end (unitSize g) (u .address) u us c h in
     record {
       good =
-          passes-all (rowTests g 0 (record { start = u .address; length = suc (length us) }))
+          passes-all (rowTests g 0 (rangeOf (descriptor (u ∷ us))))
           (le-leb 1 (suc (length us)) (omega arith), (eq-eqb (u .address % unitSize g) 0 (h .0 .0), (le-leb (u .address + suc (length us) * unitSize g) (2 ^ 64) e, tt)));
       address = omega (arith, h .0 .1, unitSize-pos g);
       length = omega (arith, l);
@@ -74,7 +75,7 @@ run-fits g (u ∷ us) c h l =
 
 -- ---- what a report lists
 
-module _ (g : ℕ) (rs : List Range) (rows : All (RowFacts g) rs) (total : length (units g rs) ≤ 4096) (p : List Bool) (k : ℕ) where
+module _ (g : ℕ) (rs : List Range) (rows : rowsOk g rs ≡ true) (total : length (units g rs) ≤ 4096) (p : List Bool) (k : ℕ) where
   abbrev us : List Unit
   us = pending (units g rs) p
 

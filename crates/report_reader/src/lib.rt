@@ -7,8 +7,8 @@ ghost use Prim.Native.Nat.{_+_, _≤_};
 ghost use lib.ListN.{length};
 ghost use Rattle.little.specs.Little.{recordsAt};
 ghost use Rattle.rules.specs.Refusals.{verdict};
-ghost use Rattle.rules.specs.ReportReader.{reportSize, countIn, granularityIn, descriptorAt, descriptorTests, reportRefusal, reportBadIndex, reportSuspended, reportMore, reportIdentifier, reportGranularity, reportCount, reportRefusalAt, reportAddress, reportLength};
-ghost use Rattle.report_reader.specs.Reading.{rangeOf, moreOfNone};
+ghost use Rattle.rules.specs.Report.{rangeOf};
+ghost use Rattle.rules.specs.ReportReader.{reportSize, countIn, granularityIn, descriptorAt, descriptorTests, moreOfNone, reportRefusal, reportBadIndex, reportSuspended, reportMore, reportIdentifier, reportGranularity, reportCount, reportRefusalAt, reportAddress, reportLength};
 
 // A report's refusal, and the index that it is about; zeros where it is accepted.
 pub struct Judged {
@@ -61,11 +61,11 @@ fn first_bad(report: &[u8], g: u8, n: usize) -> usize
 }
 
 // Whether More To Report is set with no descriptors.
-fn more_of_none(report: &[u8], n: usize) -> bool
+fn more_of_none(report: &[u8]) -> bool
     requires { ⌜ reportSize 0 ≤ length (now report) ⌝ }
-    ensures { λ r. ⌜ r ≡ moreOfNone (now (report .entry)) n ⌝ }
+    ensures { λ r. ⌜ r ≡ moreOfNone (now (report .entry)) ⌝ }
 {
-    if n != 0 {
+    if count_in(report) != 0 {
         return false;
     }
     report[1] % 2 == 1
@@ -95,7 +95,7 @@ fn judge(report: &[u8]) -> Judged
         };
     }
     let n = count_in(report) as usize;
-    if more_of_none(report, n) {
+    if more_of_none(report) {
         return Judged {
             number: 9,
             index: 0,

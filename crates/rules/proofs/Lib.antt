@@ -3,6 +3,7 @@ pub mod LoopLaws
 pub mod RefusalLaws
 pub mod UnitLaws
 pub mod RunLaws
+pub mod RowLaws
 pub mod OrderLaws
 pub mod SlotHistory
 pub mod StateLaws

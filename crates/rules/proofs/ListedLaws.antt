@@ -12,14 +12,16 @@ use native.Mathlib.Decide.{decLt}
 use lib.Dec.{leb, ltb, eqb}
 use lib.ListN.{length, take, getD, getElem?, length-append}
 use lib.Seq.{getD-at, take-at}
-use borrow.Author.Tests.{le-leb, lt-ltb, leb-true, ltb-true, eq-eqb, eqb-true, not-true}
-use Rattle.rules.specs.Lists.{all, any, keep}
+use borrow.Author.Tests.{le-leb, lt-ltb, leb-true, ltb-true, eq-eqb, not-true}
+use Rattle.rules.specs.Lists.{any, keep}
 use Rattle.rules.specs.Settings.{unitSize}
 use Rattle.rules.specs.Units.{Unit, unitsOfRow, covers, uncovered, unitsFrom, units}
+use Rattle.rules.specs.Ranges.{rowOk, rowsOk}
 use Rattle.rules.specs.StartData.{noRange}
 use Rattle.rules.specs.Demands.{UnitsListed}
 use Rattle.rules.specs.declared.Range.{Range}
 use Rattle.rules.proofs.ListLaws.{All, All-map, All-both, All-append, All-keep, All-kept, All-at, Pairwise, Pairwise-append, Pairwise-keep, Pairwise-at, and-left, and-right, and-intro, or-intro-left, or-intro-right, or-neither, any-snoc, some-inj}
+use Rattle.rules.proofs.RowLaws.{rowOk-facts}
 use Rattle.rules.proofs.UnitLaws.{In, Free, Apart, Aligned, aligned-gap, unitSize-pos, unitsOfRow-row, unitsOfRow-within, unitsFrom-sized, unitsFrom-aligned, unitsFrom-apart}
 
 -- ---- a unit stands in the row of the earliest range that covers it
@@ -162,17 +164,14 @@ units-ordered s row before (r ∷ rs) z =
 
 -- ---- all of it
 
-aligned-of : (s : ℕ) (rs : List Range) → all (λ (r : Range). eqb (r .start % s) 0) rs ≡ true → All (Aligned s) rs
-aligned-of s [] e = tt
-aligned-of s (r ∷ rs) e = (
-  eqb-true (r .start % s) 0 (and-left (eqb (r .start % s) 0) (all (λ (q : Range). eqb (q .start % s) 0) rs) e),
-  aligned-of s rs (and-right (eqb (r .start % s) 0) (all (λ (q : Range). eqb (q .start % s) 0) rs) e),
-)
+aligned-of : (g : ℕ) (rs : List Range) → rowsOk g rs ≡ true → All (Aligned (unitSize g)) rs
+aligned-of g [] e = tt
+aligned-of g (r ∷ rs) e = (rowOk-facts g r (and-left (rowOk g r) (rowsOk g rs) e) .aligned, aligned-of g rs (and-right (rowOk g r) (rowsOk g rs) e))
 
-pub units-listed : (g : ℕ) (rs : List Range) → all (λ (r : Range). eqb (r .start % unitSize g) 0) rs ≡ true → UnitsListed g rs
+pub units-listed : (g : ℕ) (rs : List Range) → rowsOk g rs ≡ true → UnitsListed g rs
 units-listed g rs e =
     let s = unitSize g in
-    let h = aligned-of s rs e in
+    let h = aligned-of g rs e in
     let o = own-from s 0 [] rs (unitSize-pos g) refl in
     record {
       sized = λ m u q. All-at (λ v. v .size ≡ s) (units g rs) m u (unitsFrom-sized s 0 [] rs) q;

@@ -11,9 +11,9 @@ use lib.Dec.{leb, ltb, eqb}
 use lib.ListN.{length, take, drop}
 use borrow.Author.Tests.{leb-true, ltb-true, eqb-true, le-leb, lt-ltb}
 use Rattle.rules.specs.Lists.{any, join, nonEmpty}
-use Rattle.rules.specs.Settings.{unitSize, bytesOf}
-use Rattle.rules.specs.Units.{Unit, pending}
-use Rattle.rules.specs.Report.{follows, withFirst, runs, Descriptor, descriptor, reportedRuns, laterRuns, reportOn, clearFirst, marksLeft}
+use Rattle.rules.specs.Settings.{unitSize}
+use Rattle.rules.specs.Units.{Unit, endOf, pending}
+use Rattle.rules.specs.Report.{follows, withFirst, runs, Descriptor, rangeOf, descriptor, reportedRuns, laterRuns, reportOn, clearFirst, marksLeft}
 use Rattle.rules.specs.History.{lists}
 use Rattle.rules.proofs.ListLaws.{All, All-map, All-append, All-left, All-right, All-take, All-drop, join-take-drop, take-join, drop-join, and-left, and-right, and-intro, or-intro-left, or-intro-right, or-neither, false-intro}
 use Rattle.rules.proofs.UnitLaws.{In, Free, Apart, Sized, Chain, chain-within, unitSize-pos, All-pending, Apart-pending}
@@ -104,13 +104,13 @@ nonEmpty-join ((u ∷ us) ∷ rs) h = refl
 abbrev pub listed : ℕ → List (List Unit) → Unit → Bool
 listed g rs u = any (λ (d : Descriptor). lists g d u) (map descriptor rs)
 
-lists-intro : (g : ℕ) (d : Descriptor) (u : Unit) → d .address ≤ u .address → u .address < d .address + bytesOf g (d .length) → lists g d u ≡ true
-lists-intro g d u h k = and-intro (leb (d .address) (u .address)) (ltb (u .address) (d .address + bytesOf g (d .length))) (le-leb _ _ h) (lt-ltb _ _ k)
+lists-intro : (g : ℕ) (d : Descriptor) (u : Unit) → d .address ≤ u .address → u .address < endOf (unitSize g) (rangeOf d) → lists g d u ≡ true
+lists-intro g d u h k = and-intro (leb (d .address) (u .address)) (ltb (u .address) (endOf (unitSize g) (rangeOf d))) (le-leb _ _ h) (lt-ltb _ _ k)
 
-lists-elim : (g : ℕ) (d : Descriptor) (u : Unit) → lists g d u ≡ true → (d .address ≤ u .address) × (u .address < d .address + bytesOf g (d .length))
+lists-elim : (g : ℕ) (d : Descriptor) (u : Unit) → lists g d u ≡ true → (d .address ≤ u .address) × (u .address < endOf (unitSize g) (rangeOf d))
 lists-elim g d u e = (
-  leb-true _ _ (and-left (leb (d .address) (u .address)) (ltb (u .address) (d .address + bytesOf g (d .length))) e),
-  ltb-true _ _ (and-right (leb (d .address) (u .address)) (ltb (u .address) (d .address + bytesOf g (d .length))) e),
+  leb-true _ _ (and-left (leb (d .address) (u .address)) (ltb (u .address) (endOf (unitSize g) (rangeOf d))) e),
+  ltb-true _ _ (and-right (leb (d .address) (u .address)) (ltb (u .address) (endOf (unitSize g) (rangeOf d))) e),
 )
 
 -- a byte of a chain lies in one of its units

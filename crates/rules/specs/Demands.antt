@@ -12,6 +12,7 @@ use Rattle.rules.specs.Lists.{all, any, join, member}
 use Rattle.rules.specs.Refusals.{refusal}
 use Rattle.rules.specs.Settings.{unitSize, bytesOf}
 use Rattle.rules.specs.Units.{Unit, Write, covers, units, touches, mark, newly, pending}
+use Rattle.rules.specs.Ranges.{rowsOk}
 use Rattle.rules.specs.StartData.{noRange, startSize, startBytes, startData, startWritten, placed}
 use Rattle.rules.specs.Report.{follows, runs, Descriptor, descriptor, Report, room, reportOn, marksLeft}
 use Rattle.rules.specs.ReportReader.{reportSize, bit, reportRefusal, reportSuspended, reportMore, reportIdentifier, reportGranularity, reportCount, reportRefusalAt, reportAddress, reportLength}
@@ -54,7 +55,7 @@ pub record Pending (s : Settings) (words : ℕ) (ks : List Call) (a : ℕ) : Typ
       → (n : ℕ) (u : Unit) → getElem? (units g rs) n ≡ some u
       → (getElem? p n ≡ some true) ↔ PendingBy (sessionHistory s words ks a) u
 
--- which units ranges have, and their order: of ranges that begin at multiples of the unit
+-- which units ranges have, and their order: of ranges that pass 9 each by itself
 pub record UnitsListed (g : ℕ) (rs : List Range) : Type 0 where
   -- "A granularity n means a unit of 2^n times 4 KiB": each has that size, and stands at a multiple of it
   pub sized : (m : ℕ) (u : Unit) → getElem? (units g rs) m ≡ some u → u .size ≡ unitSize g
@@ -137,7 +138,7 @@ pub record Writes (w : Write) (us : List Unit) (p : List Bool) : Type 0 where
 
 -- all of it, after any session and of any controller
 pub record Demand2 : Type 1 where
-  pub listed : (g : ℕ) (rs : List Range) → all (λ (r : Range). eqb (r .start % unitSize g) 0) rs ≡ true → UnitsListed g rs
+  pub listed : (g : ℕ) (rs : List Range) → rowsOk g rs ≡ true → UnitsListed g rs
   pub pending : (s : Settings) (words : ℕ) (ks : List Call) (a : ℕ) → Pending s words ks a
   pub reports : (s : Settings) (words : ℕ) (ks : List Call) (a : ℕ) (b : Bool) (g : ℕ) (rs : List Range) (p : List Bool)
       → slotOf (sessionEnd s words ks) a ≡ slot b (on g rs p) → (k : ℕ) → Reports b g k (units g rs) p

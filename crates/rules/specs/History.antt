@@ -1,16 +1,16 @@
 -- What demand 2 speaks of, told from calls and answers alone: "an accepted write by its controller touched it after tracking last started and after
 -- it was last reported". Nothing here looks at a device.
-use Prim.Native.Nat.{ℕ, _+_}
+use Prim.Native.Nat.{ℕ}
 use mathlib.Core.Path.{_≡_}
 use mathlib.Core.Bool.{Bool, true, false, _&&_, _||_, not, cond}
 use mathlib.Core.List.{List, [], _∷_, _++_, map}
 use mathlib.Core.Option.{Option, none, some}
-use lib.Dec.{leb, ltb, eqb}
+use lib.Dec.{eqb}
 use Rattle.rules.specs.Lists.{any}
-use Rattle.rules.specs.Settings.{bytesOf}
-use Rattle.rules.specs.Units.{Unit, touches, units}
+use Rattle.rules.specs.Settings.{unitSize}
+use Rattle.rules.specs.Units.{Unit, covers, touches, units}
 use Rattle.rules.specs.StartData.{granularityOf, rangesOf}
-use Rattle.rules.specs.Report.{Descriptor}
+use Rattle.rules.specs.Report.{Descriptor, rangeOf}
 use Rattle.rules.specs.Order.{Op, start, stop, write, receive, suspend, resume}
 use Rattle.rules.specs.Machine.{Answer, refused, done, wrote, reported, reportOf, Call, Event, Marks, off, on, Slot, slot}
 use Rattle.rules.specs.declared.Range.{Range}
@@ -63,7 +63,7 @@ startedBy d = isAccepted (d .answer) && starts (d .op)
 
 -- a descriptor, in units of a granularity, lists the unit
 abbrev pub lists : ℕ → Descriptor → Unit → Bool
-lists g d u = leb (d .address) (u .address) && ltb (u .address) (d .address + bytesOf g (d .length))
+lists g d u = covers (unitSize g) (rangeOf d) (u .address)
 
 -- the unit was reported (an answer that is no report has no descriptors)
 abbrev pub reportedBy : Did → Unit → Bool

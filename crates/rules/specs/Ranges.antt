@@ -1,28 +1,32 @@
 -- Document 01, "The start structure", range rules (9), and the rules 10 and 11 of the same ranges. Each part of 9 is a test of its own, with the
 -- row that it is about.
-use Prim.Native.Nat.{ℕ, suc, _+_, _%_, _^_}
+use Prim.Native.Nat.{ℕ, suc, _%_, _^_}
 use mathlib.Core.Bool.{Bool, _||_, not}
 use mathlib.Core.List.{List, [], _∷_, _++_}
 use lib.Dec.{leb, eqb}
 use lib.ListN.{length}
 use Rattle.rules.specs.Lists.{all, someBelow}
-use Rattle.rules.specs.Refusals.{Test, _else_, _place_}
-use Rattle.rules.specs.Settings.{mostUnits, unitSize, bytesOf}
-use Rattle.rules.specs.Units.{units}
+use Rattle.rules.specs.Refusals.{Test, _else_, _place_, passes}
+use Rattle.rules.specs.Settings.{mostUnits, unitSize}
+use Rattle.rules.specs.Units.{endOf, units}
 use Rattle.rules.specs.declared.Range.{Range}
 use Rattle.rules.specs.declared.Settings.{Settings}
-
--- where a range ends
-abbrev pub endOf : ℕ → Range → ℕ
-endOf g r = r .start + bytesOf g (r .length)
 
 -- one range: its length is at least 1, its start is a multiple of the unit, and it ends at most at 2^64
 abbrev pub rowTests : ℕ → ℕ → Range → List Test
 rowTests g row r =
     (leb 1 (r .length) else 9 place row)
     ∷ (eqb (r .start % unitSize g) 0 else 9 place row)
-    ∷ (leb (endOf g r) (2 ^ 64) else 9 place row)
+    ∷ (leb (endOf (unitSize g) r) (2 ^ 64) else 9 place row)
     ∷ []
+
+-- whether a range passes these
+abbrev pub rowOk : ℕ → Range → Bool
+rowOk g r = passes (rowTests g 0 r)
+
+-- whether each of some ranges does
+abbrev pub rowsOk : ℕ → List Range → Bool
+rowsOk g rs = all (rowOk g) rs
 
 -- all ranges, the earliest row first
 abbrev pub rowsTests : ℕ → ℕ → List Range → List Test

@@ -7,6 +7,7 @@ use lib.ListN.{length, take, drop}
 use Rattle.little.specs.Little.{numberBytes, records}
 use Rattle.rules.specs.Lists.{join, nonEmpty}
 use Rattle.rules.specs.Units.{Unit, pending}
+use Rattle.rules.specs.declared.Range.{Range}
 
 -- ---- runs
 
@@ -31,6 +32,10 @@ runs (u ∷ us) = withFirst u (runs us)
 pub record Descriptor : Type 0 where
   pub address : ℕ
   pub length : ℕ
+
+-- a descriptor as a range
+abbrev pub rangeOf : Descriptor → Range
+rangeOf d = record { start = d .address; length = d .length }
 
 abbrev pub descriptor : List Unit → Descriptor
 descriptor [] = record { address = 0; length = 0 }

@@ -6,9 +6,9 @@ use mathlib.Core.List.{List, [], _∷_, _++_}
 use lib.Dec.{leb, ltb, eqb}
 use lib.ListN.{length, getD}
 use Rattle.little.specs.Little.{numberAt, recordsAt}
-use Rattle.rules.specs.Refusals.{Test, _else_, _place_, refusal, placeIn, orZero, passes}
-use Rattle.rules.specs.Ranges.{rowTests}
-use Rattle.rules.specs.Report.{Descriptor}
+use Rattle.rules.specs.Refusals.{Test, _else_, _place_, refusal, placeIn, orZero}
+use Rattle.rules.specs.Ranges.{rowOk}
+use Rattle.rules.specs.Report.{Descriptor, rangeOf}
 
 -- ---- the fields
 
@@ -48,15 +48,19 @@ descriptorsIn x = recordsAt descriptorAt 16 x 16 (countIn x)
 
 -- ---- refusals
 
--- a descriptor is good where a range of its address and length would pass the rules of a row: its length is not 0, its address is a multiple of the
--- unit, its end is at most 2^64
+-- a descriptor is good where as a range it would pass the rules of a row: its length is not 0, its address is a multiple of the unit, its end is at most
+-- 2^64
 abbrev pub goodDescriptor : ℕ → Descriptor → Bool
-goodDescriptor g d = passes (rowTests g 0 (record { start = d .address; length = d .length }))
+goodDescriptor g d = rowOk g (rangeOf d)
 
 -- 17 for each descriptor, with its index
 abbrev pub descriptorTests : ℕ → ℕ → List Descriptor → List Test
 descriptorTests g i [] = []
 descriptorTests g i (d ∷ ds) = (goodDescriptor g d else 17 place i) ∷ descriptorTests g (suc i) ds
+
+-- More To Report is set with no descriptors
+abbrev pub moreOfNone : List ℕ → Bool
+moreOfNone x = moreIn x && eqb (countIn x) 0
 
 -- 8 fewer than 16 bytes, 6, 7 a granularity above 20, 9 More set with no descriptors, 8 descriptors not wholly there, 17 with the first bad index
 unfoldable pub reportTests : List ℕ → List Test
@@ -64,7 +68,7 @@ reportTests x =
     (leb (reportSize 0) (length x) else 8)
     ∷ (eqb (versionIn x) 0 else 6)
     ∷ (leb (granularityIn x) 20 else 7)
-    ∷ (not (moreIn x && eqb (countIn x) 0) else 9)
+    ∷ (not (moreOfNone x) else 9)
     ∷ (leb (reportSize (countIn x)) (length x) else 8)
     ∷ descriptorTests (granularityIn x) 0 (descriptorsIn x)
 

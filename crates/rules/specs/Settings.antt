@@ -1,5 +1,5 @@
 -- Document 01, "Settings and sizes": the settings and their rule (16), the sizes, and what a granularity means.
-use Prim.Native.Nat.{ℕ, _+_, _*_, _^_}
+use Prim.Native.Nat.{ℕ, _+_, _*_, _/_, _^_}
 use mathlib.Core.Bool.{Bool, _&&_, not}
 use mathlib.Core.List.{List, [], _∷_}
 use mathlib.Core.Option.{Option}
@@ -57,3 +57,7 @@ unitSize g = 2 ^ (12 + g)
 -- a length in units, in bytes
 abbrev pub bytesOf : ℕ → ℕ → ℕ
 bytesOf g units = units * unitSize g
+
+-- the whole units in a length in bytes
+abbrev pub wholeUnits : ℕ → ℕ → ℕ
+wholeUnits g bytes = bytes / unitSize g

@@ -19,9 +19,13 @@ abbrev pub unitsOfRow : ℕ → ℕ → ℕ → ℕ → List Unit
 unitsOfRow row size address zero = []
 unitsOfRow row size address (suc n) = record { row = row; address = address; size = size } ∷ unitsOfRow row size (address + size) n
 
+-- where a range ends whose units are of a size
+abbrev pub endOf : ℕ → Range → ℕ
+endOf size r = r .start + r .length * size
+
 -- whether a range covers the byte at an address
 abbrev pub covers : ℕ → Range → ℕ → Bool
-covers size r a = leb (r .start) a && ltb a (r .start + r .length * size)
+covers size r a = leb (r .start) a && ltb a (endOf size r)
 
 -- whether a unit is covered by none of some ranges
 abbrev pub uncovered : ℕ → List Range → Unit → Bool

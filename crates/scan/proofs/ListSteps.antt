@@ -18,7 +18,8 @@ use Rattle.little.proofs.Put.{put-nil}
 use Rattle.little.proofs.Records.{records-nil, records-snoc-again}
 use Rattle.report_data.proofs.Blocks.{descriptorBytes-length}
 use Rattle.rules.specs.Lists.{join, nonEmpty}
-use Rattle.rules.specs.Units.{Unit, unitsOfRow, unitsFrom, pending}
+use Rattle.rules.specs.Settings.{unitSize}
+use Rattle.rules.specs.Units.{Unit, unitsOfRow, units, pending}
 use Rattle.rules.specs.Report.{runs, descriptor, descriptorBytes, marksLeft}
 use Rattle.rules.specs.declared.Range.{Range}
 use Rattle.rules.proofs.ListLaws.{join-take-drop}
@@ -93,42 +94,39 @@ drop-none j xs e = let l : length xs - j ≡ 0 = sym (length-drop j xs) ∙ ap l
 
 -- ---- the loop
 
--- the controller's units, its marks at the start, and their runs
-abbrev unitsIn : ℕ → List Range → List Unit
-unitsIn size rs = unitsFrom size 0 [] rs
-
+-- the controller's marks at the start, and the runs of its units
 abbrev marksIn : ℕ → List Range → List Bool → ℕ → List Bool
-marksIn size rs l base = getShare l base (length (unitsIn size rs))
+marksIn g rs l base = getShare l base (length (units g rs))
 
 abbrev runsIn : ℕ → List Range → List Bool → ℕ → List (List Unit)
-runsIn size rs l base = runs (pending (unitsIn size rs) (marksIn size rs l base))
+runsIn g rs l base = runs (pending (units g rs) (marksIn g rs l base))
 
 -- j runs are listed, and the scan stands at unit `pos`
-pub record Listing (size : ℕ) (rs : List Range) (l : List Bool) (base : ℕ) (x : List ℕ) (room : ℕ) (l′ : List Bool) (x′ : List ℕ) (j row unit pos : ℕ) : Type 0 where
-  pub stands : Stands size rs row unit pos
+pub record Listing (g : ℕ) (rs : List Range) (l : List Bool) (base : ℕ) (x : List ℕ) (room : ℕ) (l′ : List Bool) (x′ : List ℕ) (j row unit pos : ℕ) : Type 0 where
+  pub stands : Stands g rs row unit pos
   pub few : j ≤ room
-  pub there : j ≤ length (runsIn size rs l base)
-  pub bits : l′ ≡ putShare l base (clearBefore pos (marksIn size rs l base))
-  pub bytes : x′ ≡ put x 16 (records descriptorBytes (map descriptor (take j (runsIn size rs l base))))
-  pub later : drop j (runsIn size rs l base) ≡ runs (pending (drop pos (unitsIn size rs)) (drop pos (marksIn size rs l base)))
+  pub there : j ≤ length (runsIn g rs l base)
+  pub bits : l′ ≡ putShare l base (clearBefore pos (marksIn g rs l base))
+  pub bytes : x′ ≡ put x 16 (records descriptorBytes (map descriptor (take j (runsIn g rs l base))))
+  pub later : drop j (runsIn g rs l base) ≡ runs (pending (drop pos (units g rs)) (drop pos (marksIn g rs l base)))
 
-module _ (size : ℕ) (rs : List Range) (l : List Bool) (base : ℕ) (x : List ℕ) (room : ℕ) (fits : base + length (unitsFrom size 0 [] rs) ≤ length l) where
+module _ (g : ℕ) (rs : List Range) (l : List Bool) (base : ℕ) (x : List ℕ) (room : ℕ) (fits : base + length (units g rs) ≤ length l) where
   abbrev us : List Unit
-  us = unitsIn size rs
+  us = units g rs
 
   abbrev p : List Bool
-  p = marksIn size rs l base
+  p = marksIn g rs l base
 
   abbrev every : List (List Unit)
-  every = runsIn size rs l base
+  every = runsIn g rs l base
 
   p-length : length p ≡ length us
   p-length = getShare-length l base (length us) fits
 
-  pub listing-start : Listing size rs l base x room l x 0 0 0 0
+  pub listing-start : Listing g rs l base x room l x 0 0 0 0
   listing-start =
       record {
-        stands = stands-start size rs;
+        stands = stands-start g rs;
         few = omega arith;
         there = omega arith;
         bits = sym (putShare-getShare l base (length us) fits);
@@ -136,7 +134,7 @@ module _ (size : ℕ) (rs : List Range) (l : List Bool) (base : ℕ) (x : List �
         later = refl;
       }
 
-  module _ (l′ : List Bool) (x′ : List ℕ) (j row unit pos : ℕ) (s : Listing size rs l base x room l′ x′ j row unit pos) where
+  module _ (l′ : List Bool) (x′ : List ℕ) (j row unit pos : ℕ) (s : Listing g rs l base x room l′ x′ j row unit pos) where
     inside : pos ≤ length p
     inside = omega (arith, s .stands .inside, p-length)
 
@@ -149,7 +147,7 @@ module _ (size : ℕ) (rs : List Range) (l : List Bool) (base : ℕ) (x : List �
         ap₂ (λ b n. getShare b base n) (s .bits) (sym (clearBefore-length pos p inside ∙ p-length))
         ∙ getShare-putShare l base (clearBefore pos p) cleared-fits
 
-    pub now-length : length l′ ≡ length l
+    now-length : length l′ ≡ length l
     now-length = ap length (s .bits) ∙ putShare-length l base (clearBefore pos p) cleared-fits
 
     -- what the report is to leave
@@ -161,7 +159,7 @@ module _ (size : ℕ) (rs : List Range) (l : List Bool) (base : ℕ) (x : List �
     all-units k = sym (length-append (join (take k every)) (join (drop k every))) ∙ ap length (join-take-drop k every ∙ runs-join (pending us p))
 
     -- nothing more is pending
-    pub listing-done : pending (drop pos us) (drop pos (getShare l′ base (length us))) ≡ [] → Lists size rs l base x room j false l′ x′
+    pub listing-done : pending (drop pos us) (drop pos (getShare l′ base (length us))) ≡ [] → Lists g rs l base x room j false l′ x′
     listing-done e =
         record {
           count-is = sym (ap length whole ∙ exact);
@@ -190,7 +188,7 @@ module _ (size : ℕ) (rs : List Range) (l : List Bool) (base : ℕ) (x : List �
 
     -- ---- a run is found
 
-    module _ (r : Run) (f : RunFound size rs (getShare l′ base (length us)) pos r) where
+    module _ (r : Run) (f : RunFound g rs (getShare l′ base (length us)) pos r) where
       abbrev from : ℕ
       from = r .from
 
@@ -198,7 +196,7 @@ module _ (size : ℕ) (rs : List Range) (l : List Bool) (base : ℕ) (x : List �
       to = r .to
 
       abbrev run : List Unit
-      run = unitsOfRow (r .row) size (r .start) (to - from)
+      run = unitsOfRow (r .row) (unitSize g) (r .range .start) (r .range .length)
 
       order : (pos ≤ from) × (from < to) × (to ≤ length us)
       order = (f .past, f .some, f .stands .inside)
@@ -212,7 +210,7 @@ module _ (size : ℕ) (rs : List Range) (l : List Bool) (base : ℕ) (x : List �
           ∙ ap (λ q. run ∷ runs (pending (drop to us) q)) (rest-marks to (omega (arith, order .0, order .1)))
 
       -- there is no room for it
-      pub listing-full : j ≡ room → Lists size rs l base x room j true l′ x′
+      pub listing-full : j ≡ room → Lists g rs l base x room j true l′ x′
       listing-full e =
           record {
             count-is = sym (ap (λ k. length (take k every)) (sym e) ∙ omega (arith, length-take j every, s .there));
@@ -222,10 +220,6 @@ module _ (size : ℕ) (rs : List Range) (l : List Bool) (base : ℕ) (x : List �
             bytes-are = s .bytes ∙ ap (λ k. put x 16 (records descriptorBytes (map descriptor (take k every)))) e;
           }
 
-      -- its place
-      pub found-within : (pos ≤ from) × (from < to) × (base + to ≤ length l′)
-      found-within = (order .0, order .1, omega (arith, order .2, now-length, fits))
-
       listed-length : length (map descriptor (take j every)) ≡ j
       listed-length = length-map (take j every) descriptor ∙ omega (arith, length-take j every, s .there)
 
@@ -233,17 +227,17 @@ module _ (size : ℕ) (rs : List Range) (l : List Bool) (base : ℕ) (x : List �
       map-snoc [] y = refl
       map-snoc (z ∷ xs) y = ap (λ r. descriptor z ∷ r) (map-snoc xs y)
 
-      described : descriptor run ≡ record { address = r .start; length = to - from }
+      described : descriptor run ≡ record { address = r .range .start; length = r .range .length }
       described =
-          let e : to - from ≡ suc (to - from - 1) = omega (arith, order .1) in
-          ap (λ n. descriptor (unitsOfRow (r .row) size (r .start) n)) e
-          ∙ descriptor-row (r .row) size (r .start) (to - from - 1)
-          ∙ ap (λ n. record { address = r .start; length = n }) (sym e)
+          let e : r .range .length ≡ suc (r .range .length - 1) = omega (arith, f .long, order .1) in
+          ap (λ n. descriptor (unitsOfRow (r .row) (unitSize g) (r .range .start) n)) e
+          ∙ descriptor-row (r .row) (unitSize g) (r .range .start) (r .range .length - 1)
+          ∙ ap (λ n. record { address = r .range .start; length = n }) (sym e)
 
       -- it is listed and made clear
       pub listing-next : (l″ : List Bool) (x″ : List ℕ) → j < room → l″ ≡ fill false l′ (base + from) (base + to - (base + from))
-          → x″ ≡ put x′ (16 + 16 * j) (descriptorBytes (record { address = r .start; length = to - from }))
-          → Listing size rs l base x room l″ x″ (j + 1) (r .row) (r .next) to
+          → x″ ≡ put x′ (16 + 16 * j) (descriptorBytes (record { address = r .range .start; length = r .range .length }))
+          → Listing g rs l base x room l″ x″ (j + 1) (r .row) (r .next .0) to
       listing-next l″ x″ h e e′ =
           record {
             stands = f .stands;

@@ -3,41 +3,43 @@
 use mathlib.Core.Path.{_≡_, sym, ap, ap₂, _∙_}
 use mathlib.Core.Bool.{Bool, true, false, true≢false}
 use mathlib.Core.List.{List, [], _∷_, _++_}
-use Prim.Native.Nat.{ℕ, suc, _+_, _-_, _*_, _^_, _≤_, _<_}
+use Prim.Native.Nat.{ℕ, suc, _+_, _-_, _*_, _≤_, _<_}
 use native.Mathlib.Omega.{arith}
-use native.Mathlib.Nat.{add-mul, mul-le-mul-right}
+use native.Mathlib.Nat.{add-mul}
 use native.Mathlib.Decide.{decLt}
 use lib.ListN.{length, getD, drop, length-drop}
 use Rattle.bits.specs.Next.{next}
 use Rattle.bits.specs.Share.{getShare}
 use Rattle.bits.proofs.Next.{next-high, next-low, next-before, next-found}
 use Rattle.bits.proofs.Share.{next-share}
-use Rattle.rules.specs.Units.{Unit, unitsOfRow, unitsFrom, pending}
+use Rattle.rules.specs.Settings.{unitSize}
+use Rattle.rules.specs.Units.{Unit, unitsOfRow, units, pending}
 use Rattle.rules.specs.Report.{runs}
 use Rattle.rules.specs.declared.Range.{Range}
+use Rattle.rules.proofs.UnitLaws.{unitSize-pos}
 use Rattle.rules.proofs.ScanLaws.{Left, left-on, left-length, run-next, pending-skip}
-use Rattle.pieces.specs.Pieces.{rowOf, Laid, unitsLeft, PieceFound}
+use Rattle.pieces.specs.Pieces.{unitsLeft, PieceFound}
 use Rattle.pieces.specs.declared.Piece.{Piece}
 use Rattle.pieces.proofs.PieceLaws.{left-all, piece-left, piece-beyond}
 use Rattle.scan.specs.Scan.{Stands, RunFound}
 
-module _ (size : ℕ) (rs : List Range) where
+module _ (g : ℕ) (rs : List Range) where
   abbrev us : List Unit
-  us = unitsFrom size 0 [] rs
+  us = units g rs
 
   -- at the start
-  pub stands-start : Stands size rs 0 0 0
-  stands-start = record { within = omega arith; inside = omega arith; left = left-all size rs }
+  pub stands-start : Stands g rs 0 0 0
+  stands-start = record { within = omega arith; inside = omega arith; left = left-all (unitSize g) rs }
 
   -- ---- a scan from unit `pos` on: it stands further on, and all marks passed were clear
 
   module _ (p : List Bool) (pos : ℕ) where
     pub record Scanned (row unit at : ℕ) : Type 0 where
-      pub stands : Stands size rs row unit at
+      pub stands : Stands g rs row unit at
       pub past : pos ≤ at
       pub clear : (i : ℕ) → pos ≤ i → i < at → getD p i false ≡ false
 
-    pub scanned-start : (row unit : ℕ) → Stands size rs row unit pos → Scanned row unit pos
+    pub scanned-start : (row unit : ℕ) → Stands g rs row unit pos → Scanned row unit pos
     scanned-start row unit s = record { stands = s; past = omega arith; clear = λ i h k. absurd (omega arith) }
 
     -- what is pending from `pos` on is what is pending from there on
@@ -48,41 +50,41 @@ module _ (size : ℕ) (rs : List Range) where
         pending-skip us p pos (at - pos) (λ i h k. c .clear i h (omega arith)) ∙ ap (λ n. pending (drop n us) (drop n p)) e
 
     -- nothing is pending
-    pub scanned-nothing : (row unit at : ℕ) → unitsLeft size rs row unit ≡ [] → Scanned row unit at → pending (drop pos us) (drop pos p) ≡ []
+    pub scanned-nothing : (row unit at : ℕ) → unitsLeft (unitSize g) rs row unit ≡ [] → Scanned row unit at → pending (drop pos us) (drop pos p) ≡ []
     scanned-nothing row unit at h c = scanned-pending row unit at c ∙ rw (c .stands .left ∙ h)
 
     -- the next piece stands from unit `at` on
-    module _ (row unit at : ℕ) (c : Scanned row unit at) (q : Piece) (f : PieceFound size rs row unit q) where
+    module _ (row unit at : ℕ) (c : Scanned row unit at) (q : Piece) (f : PieceFound (unitSize g) rs row unit q) where
       abbrev n : ℕ
       n = q .range .length
 
       abbrev tail : List Unit
-      tail = unitsLeft size rs (q .row) (q .next)
+      tail = unitsLeft (unitSize g) rs (q .row) (q .next .0)
 
-      here : Left us at (q .row) size (q .range .start) n tail
-      here = c .stands .left ∙ piece-left size rs row unit q f
+      here : Left us at (q .row) (unitSize g) (q .range .start) n tail
+      here = c .stands .left ∙ piece-left (unitSize g) rs row unit q f
 
       -- it ends within the units
       pub piece-end : at + n ≤ length us
-      piece-end = omega (arith, c .stands .inside, length-drop at us, left-length us (q .row) size tail at (q .range .start) n here)
+      piece-end = omega (arith, c .stands .inside, length-drop at us, left-length us (q .row) (unitSize g) tail at (q .range .start) n here)
 
       -- so many of its units on
-      mid : (t : ℕ) → at ≤ t → t ≤ at + n → Left us t (q .row) size (q .range .start + (t - at) * size) (at + n - t) tail
+      mid : (t : ℕ) → at ≤ t → t ≤ at + n → Left us t (q .row) (unitSize g) (q .range .start + (t - at) * unitSize g) (at + n - t) tail
       mid t h k =
           let e : at + (t - at) ≡ t = omega arith in
           let m : n - (t - at) ≡ at + n - t = omega arith in
-          rw (e, m) at (left-on us (q .row) size tail at (q .range .start) n (t - at) (omega arith) here)
+          rw (e, m) at (left-on us (q .row) (unitSize g) tail at (q .range .start) n (t - at) (omega arith) here)
 
-      stands-mid : (t : ℕ) → at ≤ t → t ≤ at + n → Stands size rs (q .row) (q .next - (at + n - t)) t
+      stands-mid : (t : ℕ) → at ≤ t → t ≤ at + n → Stands g rs (q .row) (q .next .0 - (at + n - t)) t
       stands-mid t h k =
           let m : n - (at + n - t) ≡ t - at = omega arith in
           record {
             within = omega (arith, f .inside);
             inside = omega (arith, piece-end);
-            left = mid t h k ∙ sym (f .own (at + n - t) (omega arith) ∙ ap (λ d. unitsOfRow (q .row) size (q .range .start + d * size) (at + n - t) ++ tail) m);
+            left = mid t h k ∙ sym (f .own (at + n - t) (omega arith) ∙ ap (λ d. unitsOfRow (q .row) (unitSize g) (q .range .start + d * unitSize g) (at + n - t) ++ tail) m);
           }
 
-      scanned-on : (t : ℕ) → at ≤ t → t ≤ at + n → ((i : ℕ) → at ≤ i → i < t → getD p i false ≡ false) → Scanned (q .row) (q .next - (at + n - t)) t
+      scanned-on : (t : ℕ) → at ≤ t → t ≤ at + n → ((i : ℕ) → at ≤ i → i < t → getD p i false ≡ false) → Scanned (q .row) (q .next .0 - (at + n - t)) t
       scanned-on t h k g = record { stands = stands-mid t h k; past = omega (arith, c .past); clear = λ i a b. go i a b (decLt i at) }
         where
           go : (i : ℕ) → pos ≤ i → i < t → Dec (i < at) → getD p i false ≡ false
@@ -91,13 +93,13 @@ module _ (size : ℕ) (rs : List Range) where
 
       module _ (from : ℕ) (e : from ≡ next true p at (at + n)) where
         -- nothing is pending in it
-        pub scanned-piece : at + n ≤ from → Scanned (q .row) (q .next) (at + n)
+        pub scanned-piece : at + n ≤ from → Scanned (q .row) (q .next .0) (at + n)
         scanned-piece l =
-            let z : q .next - (at + n - (at + n)) ≡ q .next = omega arith in
+            let z : q .next .0 - (at + n - (at + n)) ≡ q .next .0 = omega arith in
             rw z at (scanned-on (at + n) (omega arith) (omega arith) (λ i a b. next-before true p at (at + n) i a (omega arith)))
 
         -- the next run
-        module _ (to : ℕ) (z : 0 < size) (l : from < at + n) (e′ : to ≡ next false p from (at + n)) where
+        module _ (to : ℕ) (l : from < at + n) (e′ : to ≡ next false p from (at + n)) where
           pub low : at ≤ from
           low = omega (arith, next-low true p at (at + n) (omega arith))
 
@@ -116,38 +118,34 @@ module _ (size : ℕ) (rs : List Range) where
                   let s : next false p from (at + n) ≡ from = omega (arith, next-low false p from (at + n) (omega arith)) in
                   absurd (true≢false (sym set ∙ (rw s at (next-found false p from (at + n) (omega arith)))))
 
-          passed : Scanned (q .row) (q .next - (at + n - from)) from
+          passed : Scanned (q .row) (q .next .0 - (at + n - from)) from
           passed = scanned-on from low (omega arith) (λ i a b. next-before true p at (at + n) i a (omega arith))
 
-          end-is : q .range .start + (from - at) * size + (at + n - from) * size ≡ q .range .start + n * size
+          end-is : q .range .start + (from - at) * unitSize g + (at + n - from) * unitSize g ≡ q .range .start + n * unitSize g
           end-is =
               let d : n ≡ from - at + (at + n - from) = omega (arith, low) in
-              omega (arith, ap (λ k. k * size) d, add-mul (from - at) (at + n - from) size)
+              omega (arith, ap (λ k. k * unitSize g) d, add-mul (from - at) (at + n - from) (unitSize g))
 
-          pub scanned-run : RunFound size rs p pos (record { row = q .row; next = q .next - (at + n - to); start = q .range .start + (from - at) * size; from = from; to = to })
+          pub scanned-run : RunFound g rs p pos
+              (record { row = q .row; next = record { 0 = q .next .0 - (at + n - to) }; range = record { start = q .range .start + (from - at) * unitSize g; length = to - at - (from - at) }; from = from; to = to })
           scanned-run =
-              let m : to - from ≡ suc (to - from - 1) = omega (arith, some) in
+              let m : to - at - (from - at) ≡ suc (to - from - 1) = omega (arith, some, low) in
               let t : from + suc (to - from - 1) ≡ to = omega (arith, some) in
               let first =
-              run-next us (q .row) size tail p from (q .range .start + (from - at) * size) (at + n - from) (to - from - 1) z (omega (arith, high, some)) (omega (arith, piece-end, high, some))
-              (mid from low (omega arith)) (rw end-is (piece-beyond size rs row unit q f z))
+              run-next us (q .row) (unitSize g) tail p from (q .range .start + (from - at) * unitSize g) (at + n - from) (to - from - 1) (unitSize-pos g) (omega (arith, high, some)) (omega (arith, piece-end, high, some))
+              (mid from low (omega arith)) (rw end-is (piece-beyond (unitSize g) rs row unit q f (unitSize-pos g)))
               (λ i a b. next-before false p from (at + n) i a (omega arith))
               (λ k. rw (t, e′) (next-found false p from (at + n) (omega arith))) in
               record {
                 past = passed .past;
                 some = some;
+                long = omega (arith, low);
                 clear = passed .clear;
                 first =
-                    ap runs (scanned-pending (q .row) (q .next - (at + n - from)) from passed) ∙ first
-                    ∙ ap₂ (λ k d. unitsOfRow (q .row) size (q .range .start + (from - at) * size) k ∷ runs (pending (drop d us) (drop d p))) (sym m) t;
+                    ap runs (scanned-pending (q .row) (q .next .0 - (at + n - from)) from passed) ∙ first
+                    ∙ ap₂ (λ k d. unitsOfRow (q .row) (unitSize g) (q .range .start + (from - at) * unitSize g) k ∷ runs (pending (drop d us) (drop d p))) (sym m) t;
                 stands = stands-mid to (omega (arith, low, some)) high;
               }
-
--- a piece of ranges that are laid ends at most at 2^64
-pub piece-within : (size : ℕ) (rs : List Range) (row unit : ℕ) (q : Piece) → Laid size rs → PieceFound size rs row unit q → q .range .start + q .range .length * size ≤ 2 ^ 64
-piece-within size rs row unit q laid f =
-    let d : q .next ≡ q .next - q .range .length + q .range .length = omega (arith, f .long) in
-    omega (arith, f .starts, laid .within (q .row) (f .row-in), ap (λ k. k * size) d, add-mul (q .next - q .range .length) (q .range .length) size, mul-le-mul-right {m = q .next} {n = rowOf rs (q .row) .length} size (f .inside))
 
 -- ---- bits in which the marks stand from a bit on
 

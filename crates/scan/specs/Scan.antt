@@ -7,7 +7,8 @@ use mathlib.Core.List.{List, [], _∷_, map}
 use lib.ListN.{length, drop, getD}
 use Rattle.bits.specs.Share.{getShare, putShare}
 use Rattle.little.specs.Little.{put, records}
-use Rattle.rules.specs.Units.{unitsOfRow, unitsFrom, pending}
+use Rattle.rules.specs.Settings.{unitSize}
+use Rattle.rules.specs.Units.{unitsOfRow, units, pending}
 use Rattle.rules.specs.Lists.{nonEmpty}
 use Rattle.rules.specs.Report.{runs, descriptor, descriptorBytes, reportedRuns, laterRuns, marksLeft}
 use Rattle.rules.specs.declared.Range.{Range}
@@ -17,28 +18,29 @@ use Rattle.scan.specs.declared.Next.{Next}
 use Rattle.scan.specs.declared.Next.the-variants.{Is, Nothing}
 
 -- the units that are left from unit `pos` on are those from unit `unit` of a row on
-pub record Stands (size : ℕ) (rs : List Range) (row unit pos : ℕ) : Type 0 where
+pub record Stands (g : ℕ) (rs : List Range) (row unit pos : ℕ) : Type 0 where
   pub within : unit ≤ rowOf rs row .length
-  pub inside : pos ≤ length (unitsFrom size 0 [] rs)
-  pub left : drop pos (unitsFrom size 0 [] rs) ≡ unitsLeft size rs row unit
+  pub inside : pos ≤ length (units g rs)
+  pub left : drop pos (units g rs) ≡ unitsLeft (unitSize g) rs row unit
 
 -- the next run from unit `pos` on, of units with marks p
-pub record RunFound (size : ℕ) (rs : List Range) (p : List Bool) (pos : ℕ) (r : Run) : Type 0 where
+pub record RunFound (g : ℕ) (rs : List Range) (p : List Bool) (pos : ℕ) (r : Run) : Type 0 where
   pub past : pos ≤ r .from
   pub some : r .from < r .to
+  pub long : r .range .length ≡ r .to - r .from
   pub clear : (i : ℕ) → pos ≤ i → i < r .from → getD p i false ≡ false
-  pub first : runs (pending (drop pos (unitsFrom size 0 [] rs)) (drop pos p))
-      ≡ unitsOfRow (r .row) size (r .start) (r .to - r .from) ∷ runs (pending (drop (r .to) (unitsFrom size 0 [] rs)) (drop (r .to) p))
-  pub stands : Stands size rs (r .row) (r .next) (r .to)
+  pub first : runs (pending (drop pos (units g rs)) (drop pos p))
+      ≡ unitsOfRow (r .row) (unitSize g) (r .range .start) (r .range .length) ∷ runs (pending (drop (r .to) (units g rs)) (drop (r .to) p))
+  pub stands : Stands g rs (r .row) (r .next .0) (r .to)
 
 -- what the search answers: the next run, or that nothing is pending from there on
 abbrev pub NextIs : ℕ → List Range → List Bool → ℕ → Next → Type 0
-NextIs size rs p pos (Is r) = RunFound size rs p pos r
-NextIs size rs p pos Nothing = pending (drop pos (unitsFrom size 0 [] rs)) (drop pos p) ≡ []
+NextIs g rs p pos (Is r) = RunFound g rs p pos r
+NextIs g rs p pos Nothing = pending (drop pos (units g rs)) (drop pos p) ≡ []
 
 -- what a report with room for so many runs lists and leaves, of the marks that stand in bits l from `base` on and of a buffer x
-pub record Lists (size : ℕ) (rs : List Range) (l : List Bool) (base : ℕ) (x : List ℕ) (room count : ℕ) (more : Bool) (l′ : List Bool) (x′ : List ℕ) : Type 0 where
-  pub count-is : count ≡ length (reportedRuns room (unitsFrom size 0 [] rs) (getShare l base (length (unitsFrom size 0 [] rs))))
-  pub more-is : more ≡ nonEmpty (laterRuns room (unitsFrom size 0 [] rs) (getShare l base (length (unitsFrom size 0 [] rs))))
-  pub bits-are : l′ ≡ putShare l base (marksLeft room (unitsFrom size 0 [] rs) (getShare l base (length (unitsFrom size 0 [] rs))))
-  pub bytes-are : x′ ≡ put x 16 (records descriptorBytes (map descriptor (reportedRuns room (unitsFrom size 0 [] rs) (getShare l base (length (unitsFrom size 0 [] rs))))))
+pub record Lists (g : ℕ) (rs : List Range) (l : List Bool) (base : ℕ) (x : List ℕ) (room count : ℕ) (more : Bool) (l′ : List Bool) (x′ : List ℕ) : Type 0 where
+  pub count-is : count ≡ length (reportedRuns room (units g rs) (getShare l base (length (units g rs))))
+  pub more-is : more ≡ nonEmpty (laterRuns room (units g rs) (getShare l base (length (units g rs))))
+  pub bits-are : l′ ≡ putShare l base (marksLeft room (units g rs) (getShare l base (length (units g rs))))
+  pub bytes-are : x′ ≡ put x 16 (records descriptorBytes (map descriptor (reportedRuns room (units g rs) (getShare l base (length (units g rs))))))

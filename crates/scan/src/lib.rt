@@ -2,22 +2,24 @@
 // Units are numbered from the controller's first, over all its ranges, piece by piece; its marks stand from bit `base` on.
 
 use pieces::NextPiece;
+use pieces::Span;
 use rules::Range;
+use rules::Units;
 ghost use mathlib.Core.Path.{_≡_};
-ghost use mathlib.Core.List.{[]};
+ghost use mathlib.Core.Bool.{true};
 ghost use Prim.Native.Nat.{_+_, _*_, _≤_};
 ghost use lib.ListN.{length, take};
 ghost use Rattle.bits.specs.Flat.{flat};
-ghost use Rattle.bits.specs.Share.{getShare};
-ghost use Rattle.rules.specs.Units.{unitsFrom};
-ghost use Rattle.pieces.specs.Pieces.{Laid};
+ghost use Rattle.bits.specs.Share.{Holds, getShare};
+ghost use Rattle.rules.specs.Units.{units};
+ghost use Rattle.rules.specs.Ranges.{rowsOk};
 ghost use Rattle.scan.specs.Scan.{Stands, NextIs, Lists};
 
-// A run: its row, the unit of the row's range just past it, its first address, its own first unit and the unit just past it.
+// A run: its row, the unit of the row's range just past it, itself as a range, its own first unit and the unit just past it.
 pub struct Run {
     pub row: usize,
-    pub next: u64,
-    pub start: u64,
+    pub next: Units,
+    pub range: Range,
     pub from: usize,
     pub to: usize,
 }
@@ -31,21 +33,21 @@ pub enum Next {
 pub fn next_run(
     marks: &[u64],
     base: usize,
+    g: u8,
     n: usize,
     ranges: [Range; 16],
     row: usize,
-    unit: u64,
+    unit: Units,
     pos: usize,
-    size: u64,
 ) -> Next
-    requires { ⌜ (4096 ≤ size) × (n ≤ 16) × (length (now marks) ≡ 512) × (base + length (unitsFrom size 0 [] (take n ranges)) ≤ 32768) × Laid size (take n ranges) × Stands size (take n ranges) row unit pos ⌝ }
-    ensures { λ r. ⌜ NextIs size (take n ranges) (getShare (flat (now (marks .entry))) base (length (unitsFrom size 0 [] (take n ranges)))) pos r ⌝ }
+    requires { ⌜ (g ≤ 20) × (n ≤ 16) × (rowsOk g (take n ranges) ≡ true) × Holds (now marks) base (length (units g (take n ranges))) × Stands g (take n ranges) row (unit .0) pos ⌝ }
+    ensures { λ r. ⌜ NextIs g (take n ranges) (getShare (flat (now (marks .entry))) base (length (units g (take n ranges)))) pos r ⌝ }
 {
     let mut i = row;
     let mut u = unit;
     let mut p = pos;
     loop {
-        let NextPiece::Is(piece) = pieces::next_piece(size, n, ranges, i, u) else {
+        let NextPiece::Is(piece) = pieces::next_piece(g, n, ranges, i, u) else {
             return Next::Nothing;
         };
         let r = piece.range;
@@ -53,12 +55,15 @@ pub fn next_run(
         let from = bits::next_set(marks, base + p, base + end) - base;
         if from < end {
             let to = bits::next_clear(marks, base + from, base + end) - base;
+            let a = Units((from - p) as u64);
+            let e = Units((to - p) as u64);
+            let range = pieces::part(g, r, Span { from: a, to: e });
             return Next::Is(Run {
                 row: piece.row,
-                next: piece.next - (end - to) as u64,
-                start: r.start + (from - p) as u64 * size,
-                from: from,
-                to: to,
+                next: Units(piece.next.0 - (end - to) as u64),
+                range,
+                from,
+                to,
             });
         }
         i = piece.row;
@@ -77,21 +82,21 @@ pub struct Listed {
 pub fn list_runs(
     marks: &mut [u64],
     base: usize,
+    g: u8,
     n: usize,
     ranges: [Range; 16],
-    size: u64,
     buffer: &mut [u8],
     room: usize,
 ) -> Listed
-    requires { ⌜ (4096 ≤ size) × Laid size (take n ranges) ⌝ ∗ ⌜ (n ≤ 16) × (length (now marks) ≡ 512) × (base + length (unitsFrom size 0 [] (take n ranges)) ≤ 32768) × (16 + 16 * room ≤ length (now buffer)) ⌝ }
-    ensures { λ r. ⌜ Lists size (take n ranges) (flat (now (marks .entry))) base (now (buffer .entry)) room (r .runs) (r .more) (flat (now (marks .exit))) (now (buffer .exit)) ⌝ }
+    requires { ⌜ (g ≤ 20) × (n ≤ 16) × (rowsOk g (take n ranges) ≡ true) ⌝ ∗ ⌜ Holds (now marks) base (length (units g (take n ranges))) × (16 + 16 * room ≤ length (now buffer)) ⌝ }
+    ensures { λ r. ⌜ Lists g (take n ranges) (flat (now (marks .entry))) base (now (buffer .entry)) room (r .runs) (r .more) (flat (now (marks .exit))) (now (buffer .exit)) ⌝ }
 {
     let mut runs: usize = 0;
     let mut row: usize = 0;
-    let mut unit: u64 = 0;
+    let mut unit = Units(0);
     let mut pos: usize = 0;
     loop {
-        let Next::Is(run) = next_run(marks, base, n, ranges, row, unit, pos, size) else {
+        let Next::Is(run) = next_run(marks, base, g, n, ranges, row, unit, pos) else {
             return Listed {
                 runs: runs,
                 more: false,
@@ -105,10 +110,11 @@ pub fn list_runs(
         }
         row = run.row;
         unit = run.next;
+        let r = run.range;
         let from = run.from;
         pos = run.to;
         bits::clear_span(marks, base + from, base + pos);
-        report_data::put_descriptor(buffer, 16 + 16 * runs, run.start, (pos - from) as u32);
+        report_data::put_descriptor(buffer, 16 + 16 * runs, r.start, r.length);
         runs += 1;
     }
 }

@@ -1,8 +1,8 @@
 -- What a receive answers, case by case of its table; what its loop lists and its header say together is the report. Assumes nothing.
 use mathlib.Core.Path.{_≡_, sym, ap, ap₂, _∙_}
 use mathlib.Core.Bool.{Bool, false}
-use mathlib.Core.List.{List, []}
-use Prim.Native.Nat.{ℕ, _-_, _≤_, _<_}
+use mathlib.Core.List.{List}
+use Prim.Native.Nat.{ℕ, _≤_, _<_}
 use native.Mathlib.Omega.{arith}
 use lib.ListN.{length, getD, take, drop, length-take, length-map}
 use borrow.Author.Tests.{le-leb, lt-leb}
@@ -11,8 +11,8 @@ use Rattle.bits.specs.Share.{getShare, putShare}
 use Rattle.bits.proofs.Pack.{pack-only}
 use Rattle.little.specs.Little.{put}
 use Rattle.report_data.proofs.Blocks.{report-done}
-use Rattle.rules.specs.Settings.{placeOf, unitSize}
-use Rattle.rules.specs.Units.{Unit, unitsFrom, units, pending}
+use Rattle.rules.specs.Settings.{placeOf}
+use Rattle.rules.specs.Units.{Unit, units, pending}
 use Rattle.rules.specs.Report.{runs, Report, descriptor, room, reportOn, reportHeader, reportedRuns, marksLeft}
 use Rattle.rules.specs.Order.{receiveOrder}
 use Rattle.rules.specs.Machine.{noReport}
@@ -37,10 +37,10 @@ pub receives-nothing : (c : Receipt) (n : ℕ) (ws x : List ℕ) (r : Received) 
 receives-nothing c n ws x r e f = (f ∙ sym (ap (λ (y : Receipt). y .answer) e), sym (ap (λ (y : Receipt). y .marks) e), sym (ap (λ (y : Receipt). y .buffer) e))
 
 -- no more runs are listed than there are units
-pub lists-few : (size : ℕ) (rs : List Range) (l : List Bool) (base : ℕ) (x : List ℕ) (room count : ℕ) (more : Bool) (l′ : List Bool) (x′ : List ℕ)
-    → Lists size rs l base x room count more l′ x′ → count ≤ length (unitsFrom size 0 [] rs)
-lists-few size rs l base x room count more l′ x′ s =
-    let us : List Unit = unitsFrom size 0 [] rs in
+pub lists-few : (g : ℕ) (rs : List Range) (l : List Bool) (base : ℕ) (x : List ℕ) (room count : ℕ) (more : Bool) (l′ : List Bool) (x′ : List ℕ)
+    → Lists g rs l base x room count more l′ x′ → count ≤ length (units g rs)
+lists-few g rs l base x room count more l′ x′ s =
+    let us : List Unit = units g rs in
     let p : List Bool = getShare l base (length us) in
     omega (arith, s .count-is, length-take room (runs (pending us p)), runs-length-le (pending us p), pending-length-le us p)
 
@@ -83,7 +83,7 @@ module _ (d : Device) (ws : List ℕ) (id : ℕ) (x : List ℕ) where
 
       -- what is listed, with the header, is the report
       pub receive-done : 32 ≤ length x → (ws′ x′ x″ : List ℕ) (runs : ℕ) (more : Bool)
-          → Lists (unitSize g) (take n (getD (d .controllers) i noController .ranges)) (flat ws) (shareAt i) x k runs more (flat ws′) x′
+          → Lists g (take n (getD (d .controllers) i noController .ranges)) (flat ws) (shareAt i) x k runs more (flat ws′) x′
           → Words ws′ → length ws′ ≡ length ws → x″ ≡ put x′ 0 (reportHeader id b more runs g)
           → Receives (receiveReceipt d ws id x) (record { number = 0; suspended = b; more = more; granularity = g; runs = runs }) ws′ x″
       unfolding withMarks

@@ -43,13 +43,12 @@ pub fn receive(d: Device, marks: &mut [u64], id: u16, buffer: &mut [u8]) -> Rece
         return nothing(8);
     }
     let ranges = c.ranges;
-    let unit = ranges::unit_size(g);
     let listed = scan::list_runs(
         marks,
-        4096 * i,
+        calls::share_at(i),
+        g,
         n as usize,
         ranges,
-        unit,
         buffer,
         (size - 16) / 16,
     );

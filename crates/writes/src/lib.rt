@@ -4,6 +4,7 @@
 use calls::Written;
 use rules::Bytes;
 use rules::Device;
+use rules::MARK_WORDS;
 use rules::Tracking;
 use settings::Found;
 ghost use mathlib.Core.Path.{_≡_};
@@ -53,11 +54,10 @@ fn note(d: Device, marks: &mut [u64], id: u16, at: u64, bytes: Bytes) -> Written
         };
     };
     let ranges = c.ranges;
-    let size = ranges::unit_size(g);
     let count = marking::mark_ranges(
         marks,
-        4096 * i,
-        size,
+        calls::share_at(i),
+        g,
         n as usize,
         ranges,
         at,
@@ -72,7 +72,7 @@ pub fn write(d: Device, marks: &mut [u64], id: u16, at: u64, bytes: Bytes) -> Wr
     ensures { λ r. ⌜ (r ≡ writeNote d (now (marks .entry)) id (record { address = at; bytes = bytes .0 }) .answer)
         × (now (marks .exit) ≡ writeNote d (now (marks .entry)) id (record { address = at; bytes = bytes .0 }) .marks) ⌝ }
 {
-    if marks.len() != 512 {
+    if marks.len() != MARK_WORDS {
         return Written {
             number: 1,
             count: 0,

@@ -7,17 +7,20 @@ use native.Mathlib.Numerals.{add-one}
 use lib.ListN.{length, take}
 use lib.Seq.{take-suc}
 use borrow.Author.Needs.{needs}
+use Rattle.rules.specs.Settings.{unitSize}
+use Rattle.rules.specs.Ranges.{rowOk}
 use Rattle.rules.specs.StartData.{noRange}
+use Rattle.rules.proofs.LoopLaws.{all-front}
 use Rattle.pieces.specs.Pieces.{rowOf}
-use Rattle.pieces.proofs.PieceLaws.{laid-row, Stretching, stretch-start, stretch-next, stretch-own, stretch-other}
+use Rattle.pieces.proofs.PieceLaws.{Stretching, stretch-start, stretch-next, stretch-own, stretch-other}
 use Rattle.pieces.proofs.stretch_from.Statement.{statement}
 use Rattle.pieces.proofs.stretch_from.Tie as tie
 
 abbrev Inv-loop : tie.InvT-loop
-Inv-loop size row at ranges r to₀ i₀ to i = (length ranges ≡ 16) × (i ≤ row) × (row < 16) × Stretching size (take i ranges) (rowOf ranges row) at to
+Inv-loop g row at ranges r to₀ i₀ to i = (length ranges ≡ 16) × (i ≤ row) × (row < 16) × Stretching (unitSize g) (take i ranges) (rowOf ranges row) (at .0) (to .0)
 
 abbrev μ-loop : tie.MeasureT-loop
-μ-loop size row at ranges r to₀ i₀ to i = row - i
+μ-loop g row at ranges r to₀ i₀ to i = row - i
 
 mul-r : tie.Need-mul-r Inv-loop μ-loop
 mul-r c = search needs
@@ -25,11 +28,14 @@ mul-r c = search needs
 array-copy-out-r : tie.Need-array-copy-out-r Inv-loop μ-loop
 array-copy-out-r c = search needs
 
-cast-to : tie.Need-cast-to Inv-loop μ-loop
-cast-to c = search needs
+length-of-requires : tie.Need-length-of-requires Inv-loop μ-loop
+length-of-requires c κs = search needs
 
 loop-holds : tie.Need-loop-holds Inv-loop μ-loop
-loop-holds c = (search needs, omega arith, search needs, stretch-start (c .before .before .args .size) (rowOf (c .before .before .args .t2) (c .before .before .args .row)) (c .before .before .args .at) 0 (c .before .before .pre .3))
+loop-holds c =
+    let s = c .before .before in
+    let a = s .args in
+    (search needs, omega arith, search needs, rw (c .length-of .ensures .0) (stretch-start (unitSize (a .g)) (rowOf (a .t2) (a .row)) (a .at .0) 0 (s .pre .3)))
 
 mul-overlap : tie.Need-mul-overlap Inv-loop μ-loop
 mul-overlap c = omega arith
@@ -40,10 +46,11 @@ array-copy-out-overlap c = omega arith
 overlap-requires : tie.Need-overlap-requires Inv-loop μ-loop
 overlap-requires c κs =
     let s = c .before .before .before .before .before in
-    let a = s .args in
-    let own = laid-row (a .size) (a .t2) (a .row + 1) (a .row) (s .pre .2) (omega arith) (omega arith) in
-    let other = laid-row (a .size) (a .t2) (a .row + 1) (c .before .before .loop .i) (s .pre .2) (omega arith) (omega arith) in
-    (s .pre .0, own .1, other .1, other .0)
+    let a = s .args in (
+      s .pre .0,
+      all-front (rowOk (a .g)) (a .t2) (a .row + 1) (a .row) noRange (omega arith) (omega arith) (s .pre .2),
+      all-front (rowOk (a .g)) (a .t2) (a .row + 1) (c .before .before .loop .i) noRange (omega arith) (omega arith) (s .pre .2),
+    )
 
 among-requires : tie.Need-among-requires Inv-loop μ-loop
 among-requires c κs = search needs
@@ -57,7 +64,7 @@ returns c =
     let a = l .before .before .before .args in
     let i = l .loop .inv .3 in
     rw (c .least .ensures)
-    (stretch-other (a .size) (rowOf (a .t2) (a .row)) (a .at) (l .loop .to) (a .t2) (a .row) (l .loop .i) _ _ (c .before .before .before .before .before .loop-test .taken) (omega arith)
+    (stretch-other (unitSize (a .g)) (rowOf (a .t2) (a .row)) (a .at .0) (l .loop .to .0) (a .t2) (a .row) (l .loop .i) _ _ (c .before .before .before .before .before .loop-test .taken) (omega arith)
     (c .before .before .before .overlap .ensures) (sym (c .before .before .among .ensures) ∙ c .before .if1 .taken) (i .further) (i .inside))
 
 cut-before-requires : tie.Need-cut-before-requires Inv-loop μ-loop
@@ -73,7 +80,7 @@ loop-again : tie.Need-loop-again Inv-loop μ-loop
 loop-again c =
     let l = c .before .before .before .before .before .before in
     let a = l .before .before .before .args in
-    let n = stretch-next (a .size) (rowOf (a .t2) (a .row)) (a .at) (l .loop .to) (take (l .loop .i) (a .t2)) (rowOf (a .t2) (l .loop .i)) _ _ (c .before .before .before .overlap .ensures) (l .loop .inv .3)
+    let n = stretch-next (unitSize (a .g)) (rowOf (a .t2) (a .row)) (a .at .0) (l .loop .to .0) (take (l .loop .i) (a .t2)) (rowOf (a .t2) (l .loop .i)) _ _ (c .before .before .before .overlap .ensures) (l .loop .inv .3)
     (sym (c .before .before .among .ensures) ∙ c .before .if1 .left) in (
       l .loop .inv .0,
       omega arith,
@@ -86,7 +93,7 @@ returns-2 c =
     let l = c .before in
     let a = l .before .before .before .args in
     let e : l .loop .i ≡ a .row = omega (arith, l .loop .inv .1, c .loop-test .left) in
-    stretch-own (a .size) (rowOf (a .t2) (a .row)) (a .at) (l .loop .to) (take (a .row) (a .t2)) (subst (λ n. Stretching (a .size) (take n (a .t2)) (rowOf (a .t2) (a .row)) (a .at) (l .loop .to)) e (l .loop .inv .3))
+    stretch-own (unitSize (a .g)) (rowOf (a .t2) (a .row)) (a .at .0) (l .loop .to .0) (take (a .row) (a .t2)) (subst (λ n. Stretching (unitSize (a .g)) (take n (a .t2)) (rowOf (a .t2) (a .row)) (a .at .0) (l .loop .to .0)) e (l .loop .inv .3))
 
 pub stretch-from-spec : {M : Type 1} → statement M
 stretch-from-spec =
@@ -96,7 +103,7 @@ stretch-from-spec =
     μ-loop
     mul-r
     array-copy-out-r
-    cast-to
+    length-of-requires
     loop-holds
     mul-overlap
     array-copy-out-overlap

@@ -23,14 +23,14 @@ abbrev μ-loop : tie.MeasureT-loop
 loop-holds : tie.Need-loop-holds Inv-loop μ-loop
 loop-holds c = (search needs, omega arith, omega arith, omega arith, omega arith)
 
-mul-units-of : tie.Need-mul-units-of Inv-loop μ-loop
-mul-units-of c = omega arith
+mul-length-of : tie.Need-mul-length-of Inv-loop μ-loop
+mul-length-of c = omega arith
 
-array-copy-out-units-of : tie.Need-array-copy-out-units-of Inv-loop μ-loop
-array-copy-out-units-of c = omega arith
+array-copy-out-length-of : tie.Need-array-copy-out-length-of Inv-loop μ-loop
+array-copy-out-length-of c = omega arith
 
-units-of-requires : tie.Need-units-of-requires Inv-loop μ-loop
-units-of-requires c κs = search needs
+length-of-requires : tie.Need-length-of-requires Inv-loop μ-loop
+length-of-requires c κs = search needs
 
 add-total : tie.Need-add-total Inv-loop μ-loop
 add-total c = omega arith
@@ -46,7 +46,7 @@ loop-again c =
     let p = c .before .before .before .before in
     let a = p .before .args in
     let e = sum-next (λ r. r .length) (a .t2) (a .n) (p .loop .i) noRange (omega arith) (omega arith) in
-    (p .loop .inv .0, p .loop .inv .1, omega arith, omega arith, omega (arith, e, p .loop .inv .4, c .before .units-of .ensures .0))
+    (p .loop .inv .0, p .loop .inv .1, omega arith, omega arith, omega (arith, e, p .loop .inv .4, c .before .length-of .ensures .0))
 
 returns : tie.Need-returns Inv-loop μ-loop
 returns c =
@@ -57,4 +57,4 @@ returns c =
 pub lengths-spec : {M : Type 1} → statement M
 lengths-spec =
     tie.close
-    (tie.spec Inv-loop μ-loop loop-holds mul-units-of array-copy-out-units-of units-of-requires add-total add-i loop-less loop-again returns)
+    (tie.spec Inv-loop μ-loop loop-holds mul-length-of array-copy-out-length-of length-of-requires add-total add-i loop-less loop-again returns)

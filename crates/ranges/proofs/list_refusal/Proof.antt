@@ -7,7 +7,7 @@ use borrow.Author.Tests.{lt-leb, not-true, not-false}
 use lib.ListN.{take}
 use Rattle.rules.specs.Refusals.{passes}
 use Rattle.rules.specs.Ranges.{rangeTests, powersOk}
-use Rattle.ranges.proofs.RangeLaws.{passes-laid, rangeTests-passed, listTests-nine, listTests-ten, listTests-eleven, listTests-done}
+use Rattle.ranges.proofs.RangeLaws.{rangeTests-passed, listTests-nine, listTests-ten, listTests-eleven, listTests-done}
 use Rattle.ranges.proofs.list_refusal.Statement.{statement}
 use Rattle.ranges.proofs.list_refusal.Tie as tie
 
@@ -42,7 +42,7 @@ returns-4 c = sym (listTests-ten _ _ _ _ (nine-passed (c .before .before)) (sym 
 units-ok-requires : tie.Need-units-ok-requires
 units-ok-requires c κs =
     let p = c .before .before in
-    (p .before .before .before .before .pre, omega arith, passes-laid _ _ (sym (p .before .ranges-ok .ensures) ∙ not-false _ (p .if3 .left)))
+    (p .before .before .before .before .pre, omega arith, sym (p .before .ranges-ok .ensures) ∙ not-false _ (p .if3 .left))
 
 returns-5 : tie.Need-returns-5
 returns-5 c =

@@ -6,9 +6,7 @@ use native.Mathlib.Omega.{arith}
 use borrow.Author.Needs.{needs}
 use borrow.Author.Tests.{not-true, not-false}
 use lib.ListN.{length, take, drop}
-use Rattle.rules.specs.Lists.{all}
-use Rattle.rules.specs.Refusals.{passes}
-use Rattle.rules.specs.Ranges.{rowTests}
+use Rattle.rules.specs.Ranges.{rowOk, rowsOk}
 use Rattle.rules.specs.StartData.{noRange}
 use Rattle.rules.proofs.LoopLaws.{all-miss, all-next, all-end}
 use Rattle.ranges.proofs.ranges_ok.Statement.{statement}
@@ -16,7 +14,7 @@ use Rattle.ranges.proofs.ranges_ok.Tie as tie
 
 abbrev Inv-loop : tie.InvT-loop
 Inv-loop g n ranges i₀ i =
-    (length ranges ≡ 16) × (n ≤ 16) × (all (λ r. passes (rowTests g 0 r)) (take n ranges) ≡ all (λ r. passes (rowTests g 0 r)) (drop i (take n ranges)))
+    (length ranges ≡ 16) × (n ≤ 16) × (rowsOk g (take n ranges) ≡ rowsOk g (drop i (take n ranges)))
 
 abbrev μ-loop : tie.MeasureT-loop
 μ-loop g n ranges i₀ i = n - i
@@ -37,7 +35,7 @@ returns : tie.Need-returns Inv-loop μ-loop
 returns c =
     let p = c .before .before .before .before in
     let a = p .before .args in
-    sym (p .loop .inv .2 ∙ all-miss (λ r. passes (rowTests (a .g) 0 r)) (a .t3) (a .n) (p .loop .i) noRange (omega arith) (omega arith) (sym (c .before .range-ok .ensures) ∙ not-true _ (c .if1 .taken)))
+    sym (p .loop .inv .2 ∙ all-miss (rowOk (a .g)) (a .t3) (a .n) (p .loop .i) noRange (omega arith) (omega arith) (sym (c .before .range-ok .ensures) ∙ not-true _ (c .if1 .taken)))
 
 add-i : tie.Need-add-i Inv-loop μ-loop
 add-i c = omega arith
@@ -51,14 +49,14 @@ loop-again c =
     let a = p .before .args in (
       p .loop .inv .0,
       p .loop .inv .1,
-      p .loop .inv .2 ∙ all-next (λ r. passes (rowTests (a .g) 0 r)) (a .t3) (a .n) (p .loop .i) noRange (omega arith) (omega arith) (sym (c .before .range-ok .ensures) ∙ not-false _ (c .if1 .left)),
+      p .loop .inv .2 ∙ all-next (rowOk (a .g)) (a .t3) (a .n) (p .loop .i) noRange (omega arith) (omega arith) (sym (c .before .range-ok .ensures) ∙ not-false _ (c .if1 .left)),
     )
 
 returns-2 : tie.Need-returns-2 Inv-loop μ-loop
 returns-2 c =
     let p = c .before in
     let a = p .before .args in
-    sym (p .loop .inv .2 ∙ all-end (λ r. passes (rowTests (a .g) 0 r)) (a .t3) (a .n) (p .loop .i) (omega arith))
+    sym (p .loop .inv .2 ∙ all-end (rowOk (a .g)) (a .t3) (a .n) (p .loop .i) (omega arith))
 
 pub ranges-ok-spec : {M : Type 1} → statement M
 ranges-ok-spec =

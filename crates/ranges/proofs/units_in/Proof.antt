@@ -5,51 +5,40 @@ use mathlib.Core.List.{[]}
 use Prim.Native.Nat.{_≤_, _+_}
 use native.Mathlib.Omega.{arith}
 use native.Mathlib.Nat.{zero-add, add-zero}
-use lib.ListN.{length, take, length-append}
+use lib.ListN.{length, take}
 use borrow.Author.Needs.{needs}
 use Rattle.rules.specs.Settings.{unitSize}
-use Rattle.rules.specs.Units.{unitsFrom}
-use Rattle.rules.proofs.UnitLaws.{unitsOfRow-length, unitsFrom-length}
+use Rattle.rules.specs.Units.{units}
+use Rattle.rules.proofs.UnitLaws.{unitsFrom-length}
 use Rattle.pieces.specs.Pieces.{rowOf, unitsLeft, PieceFound, NextIs}
-use Rattle.pieces.proofs.PieceLaws.{left-all, piece-left}
-use Rattle.ranges.proofs.RangeLaws.{unitSize-least}
+use Rattle.pieces.proofs.PieceLaws.{left-all, piece-length}
 use Rattle.ranges.proofs.units_in.Statement.{statement}
 use Rattle.ranges.proofs.units_in.Tie as tie
 
 abbrev Inv-loop : tie.InvT-loop
-Inv-loop g n ranges size total₀ row₀ unit₀ total row unit =
-    (size ≡ unitSize g) × (unit ≤ rowOf (take n ranges) row .length) × (total + length (unitsLeft size (take n ranges) row unit) ≡ length (unitsFrom size 0 [] (take n ranges)))
+Inv-loop g n ranges total₀ row₀ unit₀ total row unit =
+    (unit .0 ≤ rowOf (take n ranges) row .length) × (total + length (unitsLeft (unitSize g) (take n ranges) row (unit .0)) ≡ length (units g (take n ranges)))
 
 abbrev μ-loop : tie.MeasureT-loop
-μ-loop g n ranges size total₀ row₀ unit₀ total row unit = length (unitsLeft size (take n ranges) row unit)
+μ-loop g n ranges total₀ row₀ unit₀ total row unit = length (unitsLeft (unitSize g) (take n ranges) row (unit .0))
 
--- the piece that was found, and how many units are left with it
+-- the piece that was found
 found : (c : tie.After-known-told Inv-loop μ-loop)
-    → let a = c .before .before .before .before .before .before .args in
+    → let a = c .before .before .before .before .before .args in
     let l = c .before .before .before .before .loop in
-    let size = c .before .before .before .before .before .unit-size .result in
-    let p = c .before .piece .given .0 .0 in
-    PieceFound size (take (a .n) (a .ranges)) (l .row) (l .unit) p
-    × (length (unitsLeft size (take (a .n) (a .ranges)) (l .row) (l .unit)) ≡ p .range .length + length (unitsLeft size (take (a .n) (a .ranges)) (p .row) (p .next)))
+    PieceFound (unitSize (a .g)) (take (a .n) (a .ranges)) (l .row) (l .unit .0) (c .before .piece .given .0 .0)
 found c =
-    let a = c .before .before .before .before .before .before .args in
+    let a = c .before .before .before .before .before .args in
     let l = c .before .before .before .before .loop in
-    let size = c .before .before .before .before .before .unit-size .result in
-    let f = subst (NextIs size (take (a .n) (a .ranges)) (l .row) (l .unit)) (c .before .piece .given .1) (c .before .before .before .next-piece .ensures) in
-    (f, rw (piece-left size (take (a .n) (a .ranges)) (l .row) (l .unit) _ f, length-append, unitsOfRow-length))
-
-unit-size-requires : tie.Need-unit-size-requires Inv-loop μ-loop
-unit-size-requires c κs = c .pre .0
+    subst (NextIs (unitSize (a .g)) (take (a .n) (a .ranges)) (l .row) (l .unit .0)) (c .before .piece .given .1) (c .before .before .before .next-piece .ensures)
 
 loop-holds : tie.Need-loop-holds Inv-loop μ-loop
-loop-holds c =
-    (c .unit-size .ensures, omega arith, zero-add _ ∙ ap length (sym (left-all (c .unit-size .result) (take (c .before .args .n) (c .before .args .ranges)))))
+loop-holds c = (omega arith, zero-add _ ∙ ap length (sym (left-all (unitSize (c .args .g)) (take (c .args .n) (c .args .ranges)))))
 
 next-piece-requires : tie.Need-next-piece-requires Inv-loop μ-loop
 next-piece-requires c κs =
-    let s = c .before .before in
-    let e = c .loop .inv .0 in
-    (rw e (unitSize-least _), s .pre .1, rw e (s .pre .2), c .loop .inv .1)
+    let s = c .before in
+    (s .pre .0, s .pre .1, s .pre .2, c .loop .inv .0)
 
 enum-known-piece : tie.Need-enum-known-piece Inv-loop μ-loop
 enum-known-piece c = search needs
@@ -61,28 +50,28 @@ returns : tie.Need-returns Inv-loop μ-loop
 returns c =
     let l = c .before .before .before .loop in
     let q = subst (NextIs _ _ _ _) (c .enum-told .given .1) (c .before .before .next-piece .ensures) in
-    sym (add-zero _) ∙ (rw q at (l .inv .2)) ∙ rw (l .inv .0)
+    sym (add-zero _) ∙ (rw q at (l .inv .1))
 
-cast-total : tie.Need-cast-total Inv-loop μ-loop
-cast-total c = search needs
+length-of-requires : tie.Need-length-of-requires Inv-loop μ-loop
+length-of-requires c κs = search needs
 
 add-total : tie.Need-add-total Inv-loop μ-loop
 add-total c =
     let k = c .before .before in
     let l = k .before .before .before .before .loop in
-    let a = k .before .before .before .before .before .before .args in
-    omega (arith, l .inv .2, found k .1, unitsFrom-length (k .before .before .before .before .before .unit-size .result) 0 [] (take (a .n) (a .ranges)), k .before .before .before .before .before .before .pre .3)
+    let s = k .before .before .before .before .before in
+    omega (arith, l .inv .1, piece-length _ _ _ _ _ (found k), c .before .length-of .ensures .0, unitsFrom-length (unitSize (s .args .g)) 0 [] (take (s .args .n) (s .args .ranges)), s .pre .3)
 
 loop-less : tie.Need-loop-less Inv-loop μ-loop
-loop-less c = omega (arith, found (c .before .before) .0 .some, found (c .before .before) .1)
+loop-less c = let k = c .before .before .before in omega (arith, found k .some, piece-length _ _ _ _ _ (found k))
 
 loop-again : tie.Need-loop-again Inv-loop μ-loop
 loop-again c =
-    let k = c .before .before in
+    let k = c .before .before .before in
     let l = k .before .before .before .before .loop in
-    (l .inv .0, found k .0 .inside, omega (arith, l .inv .2, found k .1))
+    (found k .inside, omega (arith, l .inv .1, piece-length _ _ _ _ _ (found k), c .before .before .length-of .ensures .0))
 
 pub units-in-spec : {M : Type 1} → statement M
 units-in-spec =
     tie.close
-    (tie.spec Inv-loop μ-loop unit-size-requires loop-holds next-piece-requires enum-known-piece enum-told returns cast-total add-total loop-less loop-again)
+    (tie.spec Inv-loop μ-loop loop-holds next-piece-requires enum-known-piece enum-told returns length-of-requires add-total loop-less loop-again)

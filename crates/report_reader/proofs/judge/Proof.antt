@@ -33,7 +33,7 @@ more-of-none-requires c κs = search needs
 returns-4 : tie.Need-returns-4
 returns-4 c =
     judged-more _ (c .before .before .before .before .before .before .before .if1 .left) (c .before .before .before .before .before .if2 .left) (rw (c .before .before .before .before .granularity-in .ensures) at (c .before .before .before .if3 .left))
-    (rw (c .before .before .count-in .ensures) at (sym (c .before .more-of-none .ensures) ∙ c .if4 .taken))
+    (sym (c .before .more-of-none .ensures) ∙ c .if4 .taken)
 
 mul-if5 : tie.Need-mul-if5
 mul-if5 c = search needs
@@ -44,7 +44,7 @@ add-if5 c = search needs
 returns-5 : tie.Need-returns-5
 returns-5 c =
     judged-rest _ (c .before .before .before .before .before .before .before .before .if1 .left) (c .before .before .before .before .before .before .if2 .left) (rw (c .before .before .before .before .before .granularity-in .ensures) at (c .before .before .before .before .if3 .left))
-    (rw (c .before .before .before .count-in .ensures) at (sym (c .before .before .more-of-none .ensures) ∙ c .before .if4 .left)) (rw (c .before .before .before .count-in .ensures) at (c .if5 .taken))
+    (sym (c .before .before .more-of-none .ensures) ∙ c .before .if4 .left) (rw (c .before .before .before .count-in .ensures) at (c .if5 .taken))
 
 cast-first-bad : tie.Need-cast-first-bad
 cast-first-bad c = search needs
@@ -56,14 +56,14 @@ returns-6 : tie.Need-returns-6
 unfolding descriptorsIn
 returns-6 c =
     judged-bad _ (c .before .before .before .before .before .before .before .before .before .before .if1 .left) (c .before .before .before .before .before .before .before .before .if2 .left) (rw (c .before .before .before .before .before .before .before .granularity-in .ensures) at (c .before .before .before .before .before .before .if3 .left))
-    (rw (c .before .before .before .before .before .count-in .ensures) at (sym (c .before .before .before .before .more-of-none .ensures) ∙ c .before .before .before .if4 .left)) (rw (c .before .before .before .before .before .count-in .ensures) at (c .before .before .if5 .left)) _
+    (sym (c .before .before .before .before .more-of-none .ensures) ∙ c .before .before .before .if4 .left) (rw (c .before .before .before .before .before .count-in .ensures) at (c .before .before .if5 .left)) _
     (rw (c .before .before .before .before .before .before .before .granularity-in .ensures, c .before .before .before .before .before .count-in .ensures) at (c .before .first-bad .ensures)) (rw (c .before .before .before .before .before .count-in .ensures) at (c .if6 .taken))
 
 returns-7 : tie.Need-returns-7
 unfolding descriptorsIn
 returns-7 c =
     judged-good _ (c .before .before .before .before .before .before .before .before .before .before .if1 .left) (c .before .before .before .before .before .before .before .before .if2 .left) (rw (c .before .before .before .before .before .before .before .granularity-in .ensures) at (c .before .before .before .before .before .before .if3 .left))
-    (rw (c .before .before .before .before .before .count-in .ensures) at (sym (c .before .before .before .before .more-of-none .ensures) ∙ c .before .before .before .if4 .left)) (rw (c .before .before .before .before .before .count-in .ensures) at (c .before .before .if5 .left)) _
+    (sym (c .before .before .before .before .more-of-none .ensures) ∙ c .before .before .before .if4 .left) (rw (c .before .before .before .before .before .count-in .ensures) at (c .before .before .if5 .left)) _
     (rw (c .before .before .before .before .before .before .before .granularity-in .ensures, c .before .before .before .before .before .count-in .ensures) at (c .before .first-bad .ensures)) (rw (c .before .before .before .before .before .count-in .ensures) at (c .if6 .left))
 
 pub judge-spec : {M : Type 1} → statement M

@@ -1,17 +1,19 @@
 -- `track_receive::receive` is right: it refuses in the order of its table, lists the first runs and makes them clear, and stores the header last, when the
 -- number of runs and More To Report are known. Assumes nothing.
 use mathlib.Core.Path.{_≡_, sym, _∙_}
-use Prim.Native.Nat.{_+_, _-_, _*_, _<_, _≤_}
+use Prim.Native.Nat.{_+_, _*_, _<_, _≤_}
 use native.Mathlib.Omega.{arith}
 use denote.Ref.{now}
 use lib.ListN.{length, getD, take}
 use borrow.Author.Needs.{needs}
 use Rattle.rules.specs.Units.{units}
+use Rattle.rules.specs.Settings.{markWords}
+use Rattle.calls.specs.Calls.{shareAt}
 use Rattle.record.specs.Record.{noController, whereIs}
 use Rattle.record.specs.declared.Place.the-variants.{At, Refused}
 use Rattle.record.proofs.RecordLaws.{whereIs-at}
 use Rattle.rules.proofs.LoopLaws.{length-mapped}
-use Rattle.ranges.proofs.RangeLaws.{HeldFacts, unitSize-least, rows-laid}
+use Rattle.ranges.proofs.RangeLaws.{HeldFacts}
 use Rattle.calls.proofs.PlaceLaws.{refused-place, held-at, share-within}
 use Rattle.track_receive.proofs.ReceiveLaws.{receives-nothing, receive-refused, receive-off, receive-short, receive-done, lists-few}
 use Rattle.track_receive.proofs.receive.Statement.{statement}
@@ -48,7 +50,7 @@ held c = held-at _ _ _ _ (found (c .before .before .before .before)) (there (c .
 fits : (c : tie.After-known-told2)
     → let a = c .before .before .before .before .before .before .before .before .before .before .args in
     let r = getD (a .t1 .controllers) (c .before .before .before .before .before .place .given .0 .0) noController in
-    4096 * c .before .before .before .before .before .place .given .0 .0 + length (units (c .before .t .given .0 .0) (take (c .before .t .given .0 .1 .0) (r .ranges))) ≤ 32768
+    shareAt (c .before .before .before .before .before .place .given .0 .0) + length (units (c .before .t .given .0 .0) (take (c .before .t .given .0 .1 .0) (r .ranges))) ≤ 64 * markWords
 fits c = share-within _ _ _ _ (found (c .before .before .before .before)) (there (c .before .before .before .before)) _ _ (c .before .t .given .1)
 
 locate-requires : tie.Need-locate-requires
@@ -93,11 +95,8 @@ nothing-requires-3 c κs = search needs
 returns-3 : tie.Need-returns-3
 returns-3 c = receives-nothing _ 8 _ _ _ (receive-short _ _ _ _ _ (found (c .before .before .before .before .before .before)) _ _ (c .before .before .before .t .given .1) (c .before .if1 .taken)) (c .nothing3 .ensures)
 
-unit-size-requires : tie.Need-unit-size-requires
-unit-size-requires c κs = held (c .before .before) .small
-
-mul-list-runs : tie.Need-mul-list-runs
-mul-list-runs c = omega (arith, below (c .before .before .before .before .before .before .before .before))
+share-at-requires : tie.Need-share-at-requires
+share-at-requires c κs = below (c .before .before .before .before .before .before .before)
 
 cast-list-runs : tie.Need-cast-list-runs
 cast-list-runs c = search needs
@@ -108,18 +107,13 @@ sub-list-runs c = search needs
 list-runs-requires : tie.Need-list-runs-requires
 list-runs-requires c κs =
     let m = c .before .before .before .before .before in
-    let z = c .before .before .unit-size .ensures in (
-      (rw z (unitSize-least _), rw z (rows-laid (m .before .t .given .0 .0) (take (m .before .t .given .0 .1 .0) (getD (m .before .before .before .before .before .before .before .before .before .before .args .t1 .controllers) (m .before .before .before .before .before .place .given .0 .0) noController .ranges)) (held m .rows))),
-      (held m .few, whereIs-at _ _ _ _ (found (c .before .before .before .before .before .before .before .before .before)) .whole, rw z (fits m), omega arith),
-    )
+    let w = whereIs-at _ _ _ _ (found (m .before .before .before .before)) .whole in
+    ((held m .small, held m .few, held m .rows), (record { within = omega (arith, fits m, w, c .before .share-at .ensures); small = omega (arith, fits m, c .before .share-at .ensures) }, omega arith))
 
 cast-put-header : tie.Need-cast-put-header
 cast-put-header c =
     let m = c .before .before .before .before .before .before .before .before .before .before .before .before in
-    let z = c .before .before .before .before .before .before .before .before .before .unit-size .ensures in
-    let e = lists-few _ _ _ _ _ _ _ _ _ _ (c .before .before .before .before .before .before .list-runs .ensures) in
-    let f = rw z at e in
-    omega (arith, f, fits m)
+    omega (arith, lists-few _ _ _ _ _ _ _ _ _ _ (c .before .before .before .before .before .before .list-runs .ensures), held m .total)
 
 put-header-requires : tie.Need-put-header-requires
 put-header-requires c κs = search needs
@@ -132,9 +126,10 @@ same-length-2 c = search needs
 
 returns-4 : tie.Need-returns-4
 returns-4 c =
-    let m = c .before .before .before .before .before .before .before .before .before .before .before .before .before .before .before in
-    let z = c .before .before .before .before .before .before .before .before .before .before .before .before .unit-size .ensures in
-    receive-done _ _ _ _ _ (found (c .before .before .before .before .before .before .before .before .before .before .before .before .before .before .before .before .before .before .before)) _ _ (m .before .t .given .1) (c .before .before .before .before .before .before .before .before .before .before .before .before .before .before .if1 .left) _ _ _ _ _ (rw z at (c .before .before .before .before .before .before .before .before .before .list-runs .ensures)) (λ i. c .before .before .before .before .before .before .before .slice-known3 .given i .fits) (c .before .before .before .before .before .before .before .before .before .list-runs .kept .0) (c .before .before .put-header .ensures)
+    let r = c .before .before .before .before .before .before .before .before .before in
+    let h = r .before .before .before .before .before in
+    let m = h .before in
+    receive-done _ _ _ _ _ (found (m .before .before .before .before)) _ _ (m .before .t .given .1) (h .if1 .left) _ _ _ _ _ (rw (r .before .before .share-at .ensures) at (r .list-runs .ensures)) (λ i. c .before .before .before .before .before .before .before .slice-known3 .given i .fits) (r .list-runs .kept .0) (c .before .before .put-header .ensures)
 
 pub receive-spec : {M : Type 1} → statement M
 receive-spec =
@@ -154,8 +149,7 @@ receive-spec =
     returns-2
     nothing-requires-3
     returns-3
-    unit-size-requires
-    mul-list-runs
+    share-at-requires
     cast-list-runs
     sub-list-runs
     list-runs-requires

@@ -7,11 +7,13 @@ use denote.Ref.{now}
 use lib.ListN.{length, getD, take}
 use borrow.Author.Needs.{needs}
 use Rattle.rules.specs.Units.{units}
+use Rattle.rules.specs.Settings.{markWords}
+use Rattle.calls.specs.Calls.{shareAt}
 use Rattle.record.specs.Record.{noController, whereIs}
 use Rattle.record.specs.declared.Place.the-variants.{At}
 use Rattle.record.proofs.RecordLaws.{whereIs-at}
 use Rattle.rules.proofs.LoopLaws.{length-mapped}
-use Rattle.ranges.proofs.RangeLaws.{HeldFacts, unitSize-least, rows-laid}
+use Rattle.ranges.proofs.RangeLaws.{HeldFacts}
 use Rattle.marking.specs.Note.{writeTo}
 use Rattle.calls.proofs.Answers.{notes}
 use Rattle.writes.proofs.WriteLaws.{sound-found, sound-nothing, write-refused, write-suspended, write-past, write-off, write-empty, write-done}
@@ -45,7 +47,7 @@ held c = held-at _ _ _ _ (found (c .before .before .before .before .before .befo
 fits : (c : tie.After-known-told2)
     → let a = c .before .before .before .before .before .before .before .before .before .before .before .before .before .args in
     let r = getD (a .t1 .controllers) (c .before .before .before .before .before .before .before .before .i .given .0 .0) noController in
-    4096 * c .before .before .before .before .before .before .before .before .i .given .0 .0 + length (units (c .before .t .given .0 .0) (take (c .before .t .given .0 .1 .0) (r .ranges))) ≤ 32768
+    shareAt (c .before .before .before .before .before .before .before .before .i .given .0 .0) + length (units (c .before .t .given .0 .0) (take (c .before .t .given .0 .1 .0) (r .ranges))) ≤ 64 * markWords
 fits c = share-within _ _ _ _ (found (c .before .before .before .before .before .before .before)) (there (c .before .before .before .before .before .before .before)) _ _ (c .before .t .given .1)
 
 find-requires : tie.Need-find-requires
@@ -92,11 +94,8 @@ enum-told-2 c = search needs
 returns-5 : tie.Need-returns-5
 returns-5 c = notes _ 0 0 _ (write-off _ _ _ _ _ (found (c .before .before .before .before .before .before)) (c .before .before .before .before .if1 .left) (omega arith) (c .enum-told2 .given .1))
 
-unit-size-requires : tie.Need-unit-size-requires
-unit-size-requires c κs = held (c .before) .small
-
-mul-mark-ranges : tie.Need-mul-mark-ranges
-mul-mark-ranges c = omega (arith, below (c .before .before .before .before .before .before .before .before .before .before))
+share-at-requires : tie.Need-share-at-requires
+share-at-requires c κs = below (c .before .before .before .before .before .before .before .before .before)
 
 cast-mark-ranges : tie.Need-cast-mark-ranges
 cast-mark-ranges c = search needs
@@ -110,13 +109,12 @@ add-mark-ranges c = search needs
 mark-ranges-requires : tie.Need-mark-ranges-requires
 mark-ranges-requires c κs =
     let m = c .before .before .before in
-    let z = c .before .unit-size .ensures in (
-      rw z (unitSize-least _),
+    let w = whereIs-at _ _ _ _ (found (m .before .before .before .before .before .before .before)) .whole in (
+      held m .small,
       omega arith,
       held m .few,
-      whereIs-at _ _ _ _ (found (c .before .before .before .before .before .before .before .before .before .before)) .whole,
-      rw z (fits m),
-      rw z (rows-laid _ _ (held m .rows)),
+      held m .rows,
+      record { within = omega (arith, fits m, w, c .share-at .ensures); small = omega (arith, fits m, c .share-at .ensures) },
     )
 
 same-length : tie.Need-same-length
@@ -127,13 +125,13 @@ returns-6 c =
     let m = c .before .before .before .before .before .before in
     let k = m .before .before .before .before .before .before .before in
     let a = k .before .before .before .before .before .before .args in
-    let z = c .before .before .before .before .unit-size .ensures in
     let w : writeTo (a .at) (a .at + (a .bytes .0 - 1)) ≡ record { address = a .at; bytes = a .bytes .0 } =
     let e : a .at + (a .bytes .0 - 1) - a .at + 1 ≡ a .bytes .0 = omega arith in
     ap (λ (b : ℕ). record { address = a .at; bytes = b }) e in
     let r = c .before .before .mark-ranges in
+    let at = c .before .before .before .share-at .ensures in
     notes _ 0 _ _ (write-done (a .t1) (now (a .marks)) (a .id) _ _ (found k) (m .before .before .before .before .before .if1 .left) (omega arith) _ _ (m .before .t .given .1) (there k) _ _
-    (λ i. c .slice-known2 .given i .fits) (r .kept .0) (rw (z, w) at (r .ensures .0)) (rw (z, w) at (r .ensures .1)))
+    (λ i. c .slice-known2 .given i .fits) (r .kept .0) (rw (w, at) at (r .ensures .0)) (rw (w, at) at (r .ensures .1)))
 
 pub note-spec : {M : Type 1} → statement M
 note-spec =
@@ -153,8 +151,7 @@ note-spec =
     enum-known-t
     enum-told-2
     returns-5
-    unit-size-requires
-    mul-mark-ranges
+    share-at-requires
     cast-mark-ranges
     sub-mark-ranges
     add-mark-ranges
