@@ -1,6 +1,6 @@
 -- `marking::mark_ranges` is right: in each piece the touched units are a span, which is marked. The loop's invariant (`Marking`): what is still to be
 -- marked makes of the marks and the count as they are now what is promised. The measure is the units that are left. Assumes nothing.
-use mathlib.Core.Path.{_≡_, refl, subst}
+use mathlib.Core.Path.{_≡_, refl, ap, subst}
 use Prim.Native.Nat.{_+_, _^_, _≤_, _<_}
 use native.Mathlib.Omega.{arith}
 use denote.Ref.{now}
@@ -45,7 +45,7 @@ loop-holds c =
     let h = f .pre .4 in (
       refl,
       omega arith,
-      subst (λ us. f .args .base + length us < 2 ^ 64) (left-all (unitSize (f .args .g)) (take (f .args .n) (f .args .ranges))) (h .small),
+      omega (arith, h .small, ap length (left-all (unitSize (f .args .g)) (take (f .args .n) (f .args .ranges)))),
       marking-start _ _ _ _ _ (omega (arith, h .within, flat-length (now (f .args .marks)))),
     )
 

@@ -1,9 +1,11 @@
 -- `pieces::stretch_from` is right because it asks each earlier range: one that covers the first unit ends the search, any other cuts the stretch where it
 -- begins. The loop's invariant: `Stretching`, as far as the first i ranges go. The measure is the ranges left.
 use mathlib.Core.Path.{_≡_, sym, subst, _∙_}
+use mathlib.Core.Bool.{false, _&&_}
 use Prim.Native.Nat.{_+_, _-_, _≤_, _<_}
 use native.Mathlib.Omega.{arith}
 use native.Mathlib.Numerals.{add-one}
+use lib.Dec.{leb, ltb}
 use lib.ListN.{length, take}
 use lib.Seq.{take-suc}
 use borrow.Author.Needs.{needs}
@@ -80,8 +82,9 @@ loop-again : tie.Need-loop-again Inv-loop μ-loop
 loop-again c =
     let l = c .before .before .before .before .before .before in
     let a = l .before .before .before .args in
-    let n = stretch-next (unitSize (a .g)) (rowOf (a .t2) (a .row)) (a .at .0) (l .loop .to .0) (take (l .loop .i) (a .t2)) (rowOf (a .t2) (l .loop .i)) _ _ (c .before .before .before .overlap .ensures) (l .loop .inv .3)
-    (sym (c .before .before .among .ensures) ∙ c .before .if1 .left) in (
+    let o = c .before .before .before .overlap in
+    let e : (leb (o .result .from .0) (a .at .0) && ltb (a .at .0) (o .result .to .0)) ≡ false = cc (c .before .before .among .ensures, c .before .if1 .left) in
+    let n = stretch-next (unitSize (a .g)) (rowOf (a .t2) (a .row)) (a .at .0) (l .loop .to .0) (take (l .loop .i) (a .t2)) (rowOf (a .t2) (l .loop .i)) (o .result .from .0) (o .result .to .0) (o .ensures) (l .loop .inv .3) e in (
       l .loop .inv .0,
       omega arith,
       l .loop .inv .2,
