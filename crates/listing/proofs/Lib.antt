@@ -1,4 +1,5 @@
 mod WordLaws
 mod GatherLaws
 mod LineLaws
+pub mod BoundLaws
 pub mod Promise
