@@ -6,7 +6,7 @@ use rules::Device;
 use rules::Range;
 use rules::Settings;
 use tracker::Received;
-ghost use Prim.Native.Nat.{_+_, _≤_};
+ghost use Prim.Native.Nat.{_+_, _*_, _≤_};
 ghost use lib.ListN.{length};
 
 // After a line: the device, and how many bytes of answers wait.
@@ -63,7 +63,7 @@ fn dev(d: Device, marks: &mut [u64], s: Settings, out: &mut [u8], used: usize) -
     Played { device, used }
 }
 
-// Plays a `start`, by way of the bytes of a start structure.
+// Plays a `start` of `count` ranges, by way of the bytes of a start structure.
 fn start(
     d: Device,
     marks: &mut [u64],
@@ -73,9 +73,11 @@ fn start(
     ranges: [Range; 16],
     out: &mut [u8],
     used: usize,
-) -> Played {
+) -> Played
+    requires { ⌜ count ≤ 16 ⌝ }
+{
     let mut data = [0u8; 200];
-    start_data::write_start(&mut data, granularity, (count % 4294967296) as u32, ranges);
+    start_data::write_start(&mut data, granularity, count as u32, ranges);
     let changed = tracker::start(d, marks, id, &data);
     let used = put_answer(out, used, changed.number);
     let device = changed.device;
@@ -138,26 +140,22 @@ fn put_descriptor(report: &[u8], at: usize, out: &mut [u8], used: usize) -> usiz
 }
 
 // Puts the lines of a report's first `runs` descriptors.
-fn put_descriptors(report: &[u8], runs: usize, out: &mut [u8], used: usize) -> usize {
-    let mut at: usize = 16;
-    let mut left = runs;
+fn put_descriptors(report: &[u8], runs: usize, out: &mut [u8], used: usize) -> usize
+    requires { ⌜ 16 + 16 * runs ≤ length (now report) ⌝ }
+{
     let mut used = used;
-    while 0 < left {
-        if report.len() < 16 {
-            return used;
-        }
-        if report.len() - 16 < at {
-            return used;
-        }
-        used = put_descriptor(report, at, out, used);
-        at = at + 16;
-        left = left - 1;
+    let mut i: usize = 0;
+    while i < runs {
+        used = put_descriptor(report, 16 + 16 * i, out, used);
+        i = i + 1;
     }
     used
 }
 
 // Puts the answer of a done receive: what the report's header says, and a line for each descriptor.
-fn put_report(received: Received, report: &[u8], out: &mut [u8], used: usize) -> usize {
+fn put_report(received: Received, report: &[u8], out: &mut [u8], used: usize) -> usize
+    requires { ⌜ 16 + 16 * received .runs ≤ length (now report) ⌝ }
+{
     let a = put_named(out, used, b"0 susp ", bit(received.suspended));
     let b = put_named(out, a, b" more ", bit(received.more));
     let c = put_named(out, b, b" gran ", received.granularity as u64);
@@ -182,7 +180,7 @@ fn receive(
     put_report(received, report, out, used)
 }
 
-// Plays a `recv` with a buffer of `size` bytes, at most 4096.
+// Plays a `recv` with a buffer of `size` bytes.
 fn receive_into(
     d: Device,
     marks: &mut [u64],
@@ -190,11 +188,10 @@ fn receive_into(
     size: usize,
     out: &mut [u8],
     used: usize,
-) -> usize {
+) -> usize
+    requires { ⌜ size ≤ 4096 ⌝ }
+{
     let mut report = [0u8; 4096];
-    if 4096 < size {
-        return used;
-    }
     receive(d, marks, id, &mut report[..size], out, used)
 }
 
