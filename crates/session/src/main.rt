@@ -3,6 +3,7 @@
 
 use libc::STDIN_FILENO;
 use rules::Device;
+ghost use mathlib.Core.Path.{_≡_};
 ghost use Prim.Native.Nat.{_≤_};
 ghost use lib.ListN.{length};
 ghost use Rattle.io.specs.Counts.{Counts};
@@ -30,7 +31,10 @@ fn line_end(input: &[u8], from: usize) -> usize
 }
 
 // Puts a byte behind the `at` bytes of a line that are there, or drops it: a line that fills its buffer is too long already.
-fn keep_byte(line: &mut [u8], at: usize, b: u8) -> usize {
+fn keep_byte(line: &mut [u8], at: usize, b: u8) -> usize
+    requires { ⌜ at ≤ length (now line) ⌝ }
+    ensures { λ r. ⌜ r ≤ length (now (line .entry)) ⌝ }
+{
     if at < line.len() {
         line[at] = b;
         return at + 1;
@@ -39,7 +43,10 @@ fn keep_byte(line: &mut [u8], at: usize, b: u8) -> usize {
 }
 
 // Puts bytes behind the `used` bytes of a line that are there.
-fn put_part(line: &mut [u8], used: usize, part: &[u8]) -> usize {
+fn put_part(line: &mut [u8], used: usize, part: &[u8]) -> usize
+    requires { ⌜ used ≤ length (now line) ⌝ }
+    ensures { λ r. ⌜ r ≤ length (now (line .entry)) ⌝ }
+{
     let mut at = used;
     let mut i: usize = 0;
     while i < part.len() {
@@ -50,12 +57,12 @@ fn put_part(line: &mut [u8], used: usize, part: &[u8]) -> usize {
 }
 
 // Plays the line that is there, and none is there after it.
-fn play_line(s: Session, marks: &mut [u64], line: &[u8], out: &mut [u8]) -> Session {
+fn play_line(s: Session, marks: &mut [u64], line: &[u8], out: &mut [u8]) -> Session
+    requires { ⌜ s .length ≤ length (now line) ⌝ }
+    ensures { λ r. ⌜ r .length ≡ 0 ⌝ }
+{
     let length = s.length;
     let device = s.device;
-    if line.len() < length {
-        return s;
-    }
     let played = playing::play(device, marks, &line[..length], out, s.used);
     let device = played.device;
     Session {
@@ -66,13 +73,10 @@ fn play_line(s: Session, marks: &mut [u64], line: &[u8], out: &mut [u8]) -> Sess
 }
 
 // Takes some input in: each line that it ends is played, what is left is kept.
-fn take_in(
-    s: Session,
-    marks: &mut [u64],
-    line: &mut [u8],
-    out: &mut [u8],
-    input: &[u8],
-) -> Session {
+fn take_in(s: Session, marks: &mut [u64], line: &mut [u8], out: &mut [u8], input: &[u8]) -> Session
+    requires { ⌜ s .length ≤ length (now line) ⌝ }
+    ensures { λ r. ⌜ r .length ≤ length (now (line .entry)) ⌝ }
+{
     let mut s = s;
     let mut at: usize = 0;
     while at < input.len() {
@@ -97,7 +101,9 @@ fn read_some(input: &mut [u8]) -> usize
 }
 
 // Plays the last line, where it has no line feed; an empty rest is none.
-fn finish(s: Session, marks: &mut [u64], line: &[u8], out: &mut [u8]) {
+fn finish(s: Session, marks: &mut [u64], line: &[u8], out: &mut [u8])
+    requires { ⌜ s .length ≤ length (now line) ⌝ }
+{
     if 0 < s.length {
         let t = play_line(s, marks, line, out);
         output::flush(out, t.used);

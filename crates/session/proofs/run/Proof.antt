@@ -1,4 +1,5 @@
--- `session::run` is safe and ends. The loop's invariant: the buffers keep their lengths. The measure is the number of turns left.
+-- `session::run` is safe and ends. The loop's invariant: the buffers keep their lengths, and the line lies in its buffer. The measure is the number of turns left.
+use Prim.Native.Nat.{_≤_}
 use mathlib.Core.Path.{_≡_}
 use borrow.Author.Needs.{needs}
 use lib.ListN.{length}
@@ -7,7 +8,7 @@ use Rattle.session.proofs.run.Tie as tie
 
 abbrev Inv-loop : tie.InvT-loop
 Inv-loop marks₀ line₀ out₀ input₀ s₀ turns₀ marks line out input s turns =
-    (length marks ≡ length marks₀) × (length line ≡ length line₀) × (length out ≡ length out₀) × (length input ≡ length input₀)
+    (length marks ≡ length marks₀) × (length line ≡ length line₀) × (length out ≡ length out₀) × (length input ≡ length input₀) × (s .length ≤ length line)
 
 abbrev μ-loop : tie.MeasureT-loop
 μ-loop marks₀ line₀ out₀ input₀ s₀ turns₀ marks line out input s turns = turns

@@ -7,7 +7,7 @@ use Rattle.session.proofs.take_in.Statement.{statement}
 use Rattle.session.proofs.take_in.Tie as tie
 
 abbrev Inv-loop : tie.InvT-loop
-Inv-loop marks₀ line₀ out₀ input s₀ at₀ marks line out s at = (length marks ≡ length marks₀) × (length line ≡ length line₀) × (length out ≡ length out₀) × (at ≤ length input)
+Inv-loop marks₀ line₀ out₀ input s₀ at₀ marks line out s at = (length marks ≡ length marks₀) × (length line ≡ length line₀) × (length out ≡ length out₀) × (s .length ≤ length line) × (at ≤ length input)
 
 abbrev μ-loop : tie.MeasureT-loop
 μ-loop marks₀ line₀ out₀ input s₀ at₀ marks line out s at = length input - at
