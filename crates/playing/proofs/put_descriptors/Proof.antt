@@ -1,16 +1,14 @@
 -- `playing::put_descriptors` is safe and ends: each descriptor lies in the report. The measure is the number of descriptors left.
 use Prim.Native.Nat.{_≤_, _-_}
-use mathlib.Core.Path.{_≡_}
-use lib.ListN.{length}
 use borrow.Author.Needs.{needs}
 use Rattle.playing.proofs.put_descriptors.Statement.{statement}
 use Rattle.playing.proofs.put_descriptors.Tie as tie
 
 abbrev Inv-loop : tie.InvT-loop
-Inv-loop report runs out₀ used used₀ i₀ out used' i = (length out ≡ length out₀) × (i ≤ runs)
+Inv-loop report runs out₀ waiting₀ i₀ out waiting i = i ≤ runs
 
 abbrev μ-loop : tie.MeasureT-loop
-μ-loop report runs out₀ used used₀ i₀ out used' i = runs - i
+μ-loop report runs out₀ waiting₀ i₀ out waiting i = runs - i
 
 loop-holds : tie.Need-loop-holds Inv-loop μ-loop
 loop-holds c = search needs
@@ -33,9 +31,6 @@ loop-less c = search needs
 loop-again : tie.Need-loop-again Inv-loop μ-loop
 loop-again c = search needs
 
-same-length : tie.Need-same-length Inv-loop μ-loop
-same-length c = search needs
-
 returns : tie.Need-returns Inv-loop μ-loop
 returns c = search needs
 
@@ -52,5 +47,4 @@ put-descriptors-spec =
     add-i
     loop-less
     loop-again
-    same-length
     returns)

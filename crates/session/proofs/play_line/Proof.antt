@@ -14,12 +14,8 @@ play-requires c κs = search needs
 same-length : tie.Need-same-length
 same-length c = search needs
 
-same-length-2 : tie.Need-same-length-2
-same-length-2 c = search needs
-
 returns : tie.Need-returns
 returns c = search needs
 
 pub play-line-spec : {M : Type 1} → statement M
-play-line-spec =
-    tie.close (tie.spec slice-aggregate-play play-requires same-length same-length-2 returns)
+play-line-spec = tie.close (tie.spec slice-aggregate-play play-requires same-length returns)
