@@ -1,2 +1,3 @@
 pub mod Answers
 pub mod PlaceLaws
+pub mod ReceiptLaws

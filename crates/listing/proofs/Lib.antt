@@ -1,3 +1,4 @@
 mod WordLaws
 mod GatherLaws
 mod LineLaws
+pub mod BoundLaws

@@ -19,6 +19,18 @@ use Rattle.fields.proofs.FieldLaws.{firstField-take, laterFields-skip}
 use Rattle.listing.proofs.WordLaws.{takes-few}
 use Rattle.listing.proofs.GatherLaws.{Gathered, allFit, tooMany, unfit, gathered-cases, fitting-at}
 
+-- numbers that a word takes, each of which fits, stand in their places
+pub places-taken : (w : Word) (fs : List (List ℕ)) → takesCount w (length fs) ≡ true → fitting w 0 fs ≡ true → Taken w (length fs) (places (map value fs))
+places-taken w fs enough fit = record { enough = enough; fits = small }
+  where
+    small : (k : ℕ) → k < length fs → getD (places (map value fs)) k 0 ≤ mostAt w k
+    small k h =
+        let n : length (map value fs) ≡ length fs = length-map fs value in
+        let q = put-at (replicate 34 0) 0 (map value fs) k 0 (omega (arith, takes-few w (length fs) enough, length-replicate {A = ℕ} 34 0)) (omega arith) in
+        let z = rw zero-add at q in
+        let m = rw zero-add at (fitting-at w 0 fs k fit (omega arith)) in
+        rw z m
+
 -- the rules of a line that are broken
 line-breaks : (s : List ℕ) (k : ℕ) → getD (lineRules s (wordOf (firstField s)) (laterFields s)) k true ≡ false → plainLine Bad ≡ lineOf s
 unfolding lineOf
@@ -81,16 +93,7 @@ module _ (s : List ℕ) (end : ℕ) (w : Word) (r : Numbers) (e : end ≡ 0 + le
 
     module _ (taken : takesCount w (r .count) ≡ true) where
       pub line-taken : Taken w (r .count) (r .values)
-      line-taken = record { enough = taken; fits = small }
-        where
-          small : (k : ℕ) → k < r .count → getD (r .values) k 0 ≤ mostAt w k
-          small k h =
-              let n : length (map value (laterFields s)) ≡ length (laterFields s) = length-map (laterFields s) value in
-              let c = there .count in
-              let q = put-at (replicate 34 0) 0 (map value (laterFields s)) k 0 (omega (arith, there .few, length-replicate {A = ℕ} 34 0)) (omega arith) in
-              let z = rw zero-add at q in
-              let m = rw zero-add at (fitting-at w 0 (laterFields s) k (there .fit) (omega arith)) in
-              rw (there .values, z) m
+      line-taken = rw (there .count, there .values) (places-taken w (laterFields s) (rw (there .count) at taken) (there .fit))
 
       pub line-read : length s ≤ 1023 → callLine w (r .count) (r .values) ≡ lineOf s
       unfolding lineOf

@@ -1,42 +1,70 @@
-// Bytes on their way to standard output: they wait in a buffer, of which the first `used` bytes are in use.
+// Bytes on their way to standard output: they wait in a buffer, and are written when it is full or when a program says so. The buffer has 65,536 bytes and
+// the number of those that wait 16 bits, so that it lies within the buffer whatever it is.
 
 use libc::STDOUT_FILENO;
 
-// Puts a byte behind the `used` bytes that wait; where the buffer is full, they are written first.
-pub fn put_byte(out: &mut [u8], used: usize, b: u8) -> usize {
-    if used < out.len() {
-        out[used] = b;
-        return used + 1;
+// What waits stands at the front of this.
+pub type Buffer = [u8; 65536];
+
+// How many bytes wait at the buffer's front; or that writing failed, after which nothing is put or written any more.
+pub enum Waiting {
+    Bytes(u16),
+    Failed,
+}
+
+// Whether writing failed.
+pub fn failed(waiting: Waiting) -> bool {
+    match waiting {
+        Waiting::Bytes(_) => false,
+        Waiting::Failed => true,
     }
-    io::write_all(STDOUT_FILENO, out);
-    if 0 < out.len() {
-        out[0] = b;
-        return 1;
+}
+
+// What waits after a write: nothing, if it was done.
+fn written(done: bool) -> Waiting {
+    if done {
+        return Waiting::Bytes(0);
     }
-    0
+    Waiting::Failed
+}
+
+// Puts a byte behind those that wait, and writes them all where it fills the buffer.
+pub fn put_byte(out: &mut Buffer, waiting: Waiting, b: u8) -> Waiting {
+    let Waiting::Bytes(used) = waiting else {
+        return waiting;
+    };
+    let at = used as usize;
+    out[at] = b;
+    if used < 65535 {
+        return Waiting::Bytes(used + 1);
+    }
+    written(io::write_all(STDOUT_FILENO, out))
 }
 
 // Puts some bytes.
-pub fn put_bytes(out: &mut [u8], used: usize, text: &[u8]) -> usize {
-    let mut at = used;
+pub fn put_bytes(out: &mut Buffer, waiting: Waiting, text: &[u8]) -> Waiting {
+    let mut waiting = waiting;
     let mut i: usize = 0;
     while i < text.len() {
-        at = put_byte(out, at, text[i]);
+        waiting = put_byte(out, waiting, text[i]);
         i = i + 1;
     }
-    at
+    waiting
 }
 
 // Puts a number in decimal.
-pub fn put_number(out: &mut [u8], used: usize, n: u64) -> usize {
+pub fn put_number(out: &mut Buffer, waiting: Waiting, n: u64) -> Waiting {
     let mut text = [0u8; 20];
     let k = io::decimal(n, &mut text);
-    put_bytes(out, used, &text[..k])
+    put_bytes(out, waiting, &text[..k])
 }
 
 // Writes out what waits.
-pub fn flush(out: &[u8], used: usize) {
-    if used <= out.len() {
-        io::write_all(STDOUT_FILENO, &out[..used]);
-    }
+pub fn flush(out: &Buffer, waiting: Waiting) -> Waiting {
+    let Waiting::Bytes(used) = waiting else {
+        return waiting;
+    };
+    let all: &[u8] = out;
+    let n = used as usize;
+    written(io::write_all(STDOUT_FILENO, &all[..n]))
 }

@@ -1,31 +1,33 @@
 // A line of a listing, played on a device, and its answer as text. What a line asks for is said by `listing`, what a call answers by `tracker`.
 
 use listing::Call;
+use output::Buffer;
+use output::Waiting;
 use rules::Bytes;
 use rules::Device;
 use rules::Range;
 use rules::Settings;
 use tracker::Received;
-ghost use Prim.Native.Nat.{_+_, _≤_};
+ghost use Prim.Native.Nat.{_+_, _*_, _≤_};
 ghost use lib.ListN.{length};
 
-// After a line: the device, and how many bytes of answers wait.
+// After a line: the device, and the answers that wait.
 pub struct Played {
     pub device: Device,
-    pub used: usize,
+    pub waiting: Waiting,
 }
 
 // ---- text
 
 // Puts a name between spaces, and its number.
-fn put_named(out: &mut [u8], used: usize, name: &[u8], n: u64) -> usize {
-    let a = output::put_bytes(out, used, name);
+fn put_named(out: &mut Buffer, waiting: Waiting, name: &[u8], n: u64) -> Waiting {
+    let a = output::put_bytes(out, waiting, name);
     output::put_number(out, a, n)
 }
 
 // Puts a line that is a number alone.
-fn put_answer(out: &mut [u8], used: usize, number: u8) -> usize {
-    let a = output::put_number(out, used, number as u64);
+fn put_answer(out: &mut Buffer, waiting: Waiting, number: u8) -> Waiting {
+    let a = output::put_number(out, waiting, number as u64);
     output::put_byte(out, a, b'\n')
 }
 
@@ -52,18 +54,18 @@ pub fn none(marks: &mut [u64]) -> Device {
 }
 
 // Plays a `dev`: refused, it keeps the device there was.
-fn dev(d: Device, marks: &mut [u64], s: Settings, out: &mut [u8], used: usize) -> Played {
+fn dev(d: Device, marks: &mut [u64], s: Settings, out: &mut Buffer, waiting: Waiting) -> Played {
     let made = tracker::fresh(s, marks);
     let number = made.number;
-    let used = put_answer(out, used, number);
+    let waiting = put_answer(out, waiting, number);
     if number != 0 {
-        return Played { device: d, used };
+        return Played { device: d, waiting };
     }
     let device = made.device;
-    Played { device, used }
+    Played { device, waiting }
 }
 
-// Plays a `start`, by way of the bytes of a start structure.
+// Plays a `start` of `count` ranges, by way of the bytes of a start structure.
 fn start(
     d: Device,
     marks: &mut [u64],
@@ -71,39 +73,48 @@ fn start(
     granularity: u8,
     count: usize,
     ranges: [Range; 16],
-    out: &mut [u8],
-    used: usize,
-) -> Played {
+    out: &mut Buffer,
+    waiting: Waiting,
+) -> Played
+    requires { ⌜ count ≤ 16 ⌝ }
+{
     let mut data = [0u8; 200];
-    start_data::write_start(&mut data, granularity, (count % 4294967296) as u32, ranges);
+    start_data::write_start(&mut data, granularity, count as u32, ranges);
     let changed = tracker::start(d, marks, id, &data);
-    let used = put_answer(out, used, changed.number);
+    let waiting = put_answer(out, waiting, changed.number);
     let device = changed.device;
-    Played { device, used }
+    Played { device, waiting }
 }
 
 // Plays a `stop`.
-fn stop(d: Device, marks: &mut [u64], id: u16, out: &mut [u8], used: usize) -> Played {
+fn stop(d: Device, marks: &mut [u64], id: u16, out: &mut Buffer, waiting: Waiting) -> Played {
     let changed = tracker::stop(d, marks, id);
-    let used = put_answer(out, used, changed.number);
+    let waiting = put_answer(out, waiting, changed.number);
     let device = changed.device;
-    Played { device, used }
+    Played { device, waiting }
 }
 
 // Plays a `susp`.
-fn suspend(d: Device, marks: &[u64], id: u16, kind: u8, out: &mut [u8], used: usize) -> Played {
+fn suspend(
+    d: Device,
+    marks: &[u64],
+    id: u16,
+    kind: u8,
+    out: &mut Buffer,
+    waiting: Waiting,
+) -> Played {
     let changed = tracker::suspend(d, marks, id, kind);
-    let used = put_answer(out, used, changed.number);
+    let waiting = put_answer(out, waiting, changed.number);
     let device = changed.device;
-    Played { device, used }
+    Played { device, waiting }
 }
 
 // Plays a `resume`.
-fn resume(d: Device, marks: &[u64], id: u16, out: &mut [u8], used: usize) -> Played {
+fn resume(d: Device, marks: &[u64], id: u16, out: &mut Buffer, waiting: Waiting) -> Played {
     let changed = tracker::resume(d, marks, id);
-    let used = put_answer(out, used, changed.number);
+    let waiting = put_answer(out, waiting, changed.number);
     let device = changed.device;
-    Played { device, used }
+    Played { device, waiting }
 }
 
 // Plays a `write`: a done one answers its count too.
@@ -113,52 +124,48 @@ fn write(
     id: u16,
     at: u64,
     bytes: u64,
-    out: &mut [u8],
-    used: usize,
-) -> usize {
+    out: &mut Buffer,
+    waiting: Waiting,
+) -> Waiting {
     let written = tracker::write(d, marks, id, at, Bytes(bytes));
     if written.number != 0 {
-        return put_answer(out, used, written.number);
+        return put_answer(out, waiting, written.number);
     }
-    let a = output::put_bytes(out, used, b"0 ");
+    let a = output::put_bytes(out, waiting, b"0 ");
     let b = output::put_number(out, a, written.count as u64);
     output::put_byte(out, b, b'\n')
 }
 
 // Puts the line of the descriptor at index `at` of a report: its address and its length in units.
-fn put_descriptor(report: &[u8], at: usize, out: &mut [u8], used: usize) -> usize
+fn put_descriptor(report: &[u8], at: usize, out: &mut Buffer, waiting: Waiting) -> Waiting
     requires { ⌜ at + 16 ≤ length (now report) ⌝ }
 {
     let address = little::read_u64(report, at);
     let length = little::read_u32(report, at + 8);
-    let a = output::put_number(out, used, address);
+    let a = output::put_number(out, waiting, address);
     let b = output::put_byte(out, a, b' ');
     let c = output::put_number(out, b, length as u64);
     output::put_byte(out, c, b'\n')
 }
 
 // Puts the lines of a report's first `runs` descriptors.
-fn put_descriptors(report: &[u8], runs: usize, out: &mut [u8], used: usize) -> usize {
-    let mut at: usize = 16;
-    let mut left = runs;
-    let mut used = used;
-    while 0 < left {
-        if report.len() < 16 {
-            return used;
-        }
-        if report.len() - 16 < at {
-            return used;
-        }
-        used = put_descriptor(report, at, out, used);
-        at = at + 16;
-        left = left - 1;
+fn put_descriptors(report: &[u8], runs: usize, out: &mut Buffer, waiting: Waiting) -> Waiting
+    requires { ⌜ 16 + 16 * runs ≤ length (now report) ⌝ }
+{
+    let mut waiting = waiting;
+    let mut i: usize = 0;
+    while i < runs {
+        waiting = put_descriptor(report, 16 + 16 * i, out, waiting);
+        i = i + 1;
     }
-    used
+    waiting
 }
 
 // Puts the answer of a done receive: what the report's header says, and a line for each descriptor.
-fn put_report(received: Received, report: &[u8], out: &mut [u8], used: usize) -> usize {
-    let a = put_named(out, used, b"0 susp ", bit(received.suspended));
+fn put_report(received: Received, report: &[u8], out: &mut Buffer, waiting: Waiting) -> Waiting
+    requires { ⌜ 16 + 16 * received .runs ≤ length (now report) ⌝ }
+{
+    let a = put_named(out, waiting, b"0 susp ", bit(received.suspended));
     let b = put_named(out, a, b" more ", bit(received.more));
     let c = put_named(out, b, b" gran ", received.granularity as u64);
     let e = put_named(out, c, b" runs ", received.runs as u64);
@@ -172,40 +179,45 @@ fn receive(
     marks: &mut [u64],
     id: u16,
     report: &mut [u8],
-    out: &mut [u8],
-    used: usize,
-) -> usize {
+    out: &mut Buffer,
+    waiting: Waiting,
+) -> Waiting {
     let received = tracker::receive(d, marks, id, report);
     if received.number != 0 {
-        return put_answer(out, used, received.number);
+        return put_answer(out, waiting, received.number);
     }
-    put_report(received, report, out, used)
+    put_report(received, report, out, waiting)
 }
 
-// Plays a `recv` with a buffer of `size` bytes, at most 4096.
+// Plays a `recv` with a buffer of `size` bytes.
 fn receive_into(
     d: Device,
     marks: &mut [u64],
     id: u16,
     size: usize,
-    out: &mut [u8],
-    used: usize,
-) -> usize {
+    out: &mut Buffer,
+    waiting: Waiting,
+) -> Waiting
+    requires { ⌜ size ≤ 4096 ⌝ }
+{
     let mut report = [0u8; 4096];
-    if 4096 < size {
-        return used;
-    }
-    receive(d, marks, id, &mut report[..size], out, used)
+    receive(d, marks, id, &mut report[..size], out, waiting)
 }
 
 // Plays a line, and puts its answer.
-pub fn play(d: Device, marks: &mut [u64], line: &[u8], out: &mut [u8], used: usize) -> Played {
+pub fn play(
+    d: Device,
+    marks: &mut [u64],
+    line: &[u8],
+    out: &mut Buffer,
+    waiting: Waiting,
+) -> Played {
     let read = listing::read_line(line);
     let call = read.call;
     match call {
         Call::Bad => {
-            let used = output::put_bytes(out, used, b"bad\n");
-            Played { device: d, used }
+            let waiting = output::put_bytes(out, waiting, b"bad\n");
+            Played { device: d, waiting }
         }
         Call::Dev {
             manager,
@@ -225,7 +237,7 @@ pub fn play(d: Device, marks: &mut [u64], line: &[u8], out: &mut [u8], used: usi
                 count,
                 identifiers,
             };
-            dev(d, marks, s, out, used)
+            dev(d, marks, s, out, waiting)
         }
         Call::Start {
             id,
@@ -233,18 +245,18 @@ pub fn play(d: Device, marks: &mut [u64], line: &[u8], out: &mut [u8], used: usi
             count,
         } => {
             let ranges = read.ranges;
-            start(d, marks, id, granularity, count, ranges, out, used)
+            start(d, marks, id, granularity, count, ranges, out, waiting)
         }
-        Call::Stop(id) => stop(d, marks, id, out, used),
+        Call::Stop(id) => stop(d, marks, id, out, waiting),
         Call::Write { id, address, bytes } => {
-            let used = write(d, marks, id, address, bytes, out, used);
-            Played { device: d, used }
+            let waiting = write(d, marks, id, address, bytes, out, waiting);
+            Played { device: d, waiting }
         }
         Call::Recv { id, size } => {
-            let used = receive_into(d, marks, id, size, out, used);
-            Played { device: d, used }
+            let waiting = receive_into(d, marks, id, size, out, waiting);
+            Played { device: d, waiting }
         }
-        Call::Susp { id, kind } => suspend(d, marks, id, kind, out, used),
-        Call::Resume(id) => resume(d, marks, id, out, used),
+        Call::Susp { id, kind } => suspend(d, marks, id, kind, out, waiting),
+        Call::Resume(id) => resume(d, marks, id, out, waiting),
     }
 }

@@ -7,6 +7,8 @@
 // 600 mark words and 1024 lent bytes as they are after the call, with zeros past the lent ones.
 
 use libc::STDIN_FILENO;
+use output::Buffer;
+use output::Waiting;
 use rules::Bytes;
 use rules::Controller;
 use rules::Device;
@@ -18,10 +20,10 @@ use tracker::Received;
 ghost use Prim.Native.Nat.{_≤_};
 ghost use Rattle.io.specs.Counts.{Counts};
 
-// Between two bytes of input: how many bytes of a case are there, and how many bytes of answers wait to be written.
+// Between two bytes of input: how many bytes of a case are there, and the answers that wait to be written.
 struct State {
     there: usize,
-    used: usize,
+    waiting: Waiting,
 }
 
 // What a call answers, and the record after it. The count is a write's, and what was received is a receive's: zeros, beside the number, where it is none.
@@ -182,49 +184,49 @@ fn read_device(case: &[u8]) -> Device {
 // ---- the bytes of an answer
 
 // Puts the lowest `width` bytes of a number, lowest first. Past the eighth byte they are zeros.
-fn put_number(out: &mut [u8], used: usize, width: usize, n: u64) -> usize {
-    let mut at = used;
+fn put_number(out: &mut Buffer, waiting: Waiting, width: usize, n: u64) -> Waiting {
+    let mut waiting = waiting;
     let mut left = width;
     let mut rest = n;
     while 0 < left {
-        at = output::put_byte(out, at, (rest % 256) as u8);
+        waiting = output::put_byte(out, waiting, (rest % 256) as u8);
         rest = rest / 256;
         left = left - 1;
     }
-    at
+    waiting
 }
 
 // Puts a flag.
-fn put_flag(out: &mut [u8], used: usize, b: bool) -> usize {
+fn put_flag(out: &mut Buffer, waiting: Waiting, b: bool) -> Waiting {
     if b {
-        return output::put_byte(out, used, 1);
+        return output::put_byte(out, waiting, 1);
     }
-    output::put_byte(out, used, 0)
+    output::put_byte(out, waiting, 0)
 }
 
 // Puts a range.
-fn put_range(out: &mut [u8], used: usize, r: Range) -> usize {
-    let a = put_number(out, used, 8, r.start);
+fn put_range(out: &mut Buffer, waiting: Waiting, r: Range) -> Waiting {
+    let a = put_number(out, waiting, 8, r.start);
     put_number(out, a, 4, r.length as u64)
 }
 
 // Puts the ranges of a controller.
-fn put_ranges(out: &mut [u8], used: usize, ranges: [Range; 16]) -> usize {
-    let mut at = used;
+fn put_ranges(out: &mut Buffer, waiting: Waiting, ranges: [Range; 16]) -> Waiting {
+    let mut waiting = waiting;
     let mut i: usize = 0;
     while i < 16 {
-        at = put_range(out, at, ranges[i]);
+        waiting = put_range(out, waiting, ranges[i]);
         i = i + 1;
     }
-    at
+    waiting
 }
 
 // Puts whether a controller is tracked, and how.
-fn put_tracking(out: &mut [u8], used: usize, t: Tracking) -> usize {
+fn put_tracking(out: &mut Buffer, waiting: Waiting, t: Tracking) -> Waiting {
     match t {
-        Tracking::Off => put_number(out, used, 3, 0),
+        Tracking::Off => put_number(out, waiting, 3, 0),
         Tracking::On(granularity, count) => {
-            let a = output::put_byte(out, used, 1);
+            let a = output::put_byte(out, waiting, 1);
             let b = output::put_byte(out, a, granularity);
             output::put_byte(out, b, count)
         }
@@ -232,40 +234,40 @@ fn put_tracking(out: &mut [u8], used: usize, t: Tracking) -> usize {
 }
 
 // Puts a controller.
-fn put_controller(out: &mut [u8], used: usize, c: Controller) -> usize {
+fn put_controller(out: &mut Buffer, waiting: Waiting, c: Controller) -> Waiting {
     let t = c.tracking;
     let ranges = c.ranges;
-    let a = put_tracking(out, used, t);
+    let a = put_tracking(out, waiting, t);
     let b = put_flag(out, a, c.suspended);
     put_ranges(out, b, ranges)
 }
 
 // Puts the controllers.
-fn put_controllers(out: &mut [u8], used: usize, controllers: [Controller; 8]) -> usize {
-    let mut at = used;
+fn put_controllers(out: &mut Buffer, waiting: Waiting, controllers: [Controller; 8]) -> Waiting {
+    let mut waiting = waiting;
     let mut i: usize = 0;
     while i < 8 {
-        at = put_controller(out, at, controllers[i]);
+        waiting = put_controller(out, waiting, controllers[i]);
         i = i + 1;
     }
-    at
+    waiting
 }
 
 // Puts the identifiers.
-fn put_identifiers(out: &mut [u8], used: usize, identifiers: [u16; 8]) -> usize {
-    let mut at = used;
+fn put_identifiers(out: &mut Buffer, waiting: Waiting, identifiers: [u16; 8]) -> Waiting {
+    let mut waiting = waiting;
     let mut i: usize = 0;
     while i < 8 {
-        at = put_number(out, at, 2, identifiers[i] as u64);
+        waiting = put_number(out, waiting, 2, identifiers[i] as u64);
         i = i + 1;
     }
-    at
+    waiting
 }
 
 // Puts the settings.
-fn put_settings(out: &mut [u8], used: usize, s: Settings) -> usize {
+fn put_settings(out: &mut Buffer, waiting: Waiting, s: Settings) -> Waiting {
     let identifiers = s.identifiers;
-    let a = put_number(out, used, 2, s.manager as u64);
+    let a = put_number(out, waiting, 2, s.manager as u64);
     let b = output::put_byte(out, a, s.least);
     let c = output::put_byte(out, b, s.greatest);
     let e = put_flag(out, c, s.powers);
@@ -275,37 +277,37 @@ fn put_settings(out: &mut [u8], used: usize, s: Settings) -> usize {
 }
 
 // Puts a record.
-fn put_device(out: &mut [u8], used: usize, d: Device) -> usize {
+fn put_device(out: &mut Buffer, waiting: Waiting, d: Device) -> Waiting {
     let settings = d.settings;
     let controllers = d.controllers;
-    let a = put_settings(out, used, settings);
+    let a = put_settings(out, waiting, settings);
     put_controllers(out, a, controllers)
 }
 
 // Puts some words.
-fn put_words(out: &mut [u8], used: usize, words: &[u64]) -> usize {
-    let mut at = used;
+fn put_words(out: &mut Buffer, waiting: Waiting, words: &[u64]) -> Waiting {
+    let mut waiting = waiting;
     let mut i: usize = 0;
     while i < words.len() {
-        at = put_number(out, at, 8, words[i]);
+        waiting = put_number(out, waiting, 8, words[i]);
         i = i + 1;
     }
-    at
+    waiting
 }
 
 // Puts what a receive answers, less its number.
-fn put_received(out: &mut [u8], used: usize, r: Received) -> usize {
-    let a = put_flag(out, used, r.suspended);
+fn put_received(out: &mut Buffer, waiting: Waiting, r: Received) -> Waiting {
+    let a = put_flag(out, waiting, r.suspended);
     let b = put_flag(out, a, r.more);
     let c = output::put_byte(out, b, r.granularity);
     put_number(out, c, 8, r.runs as u64)
 }
 
 // Puts what a call answers, and the record after it.
-fn put_answer(out: &mut [u8], used: usize, a: Answer) -> usize {
+fn put_answer(out: &mut Buffer, waiting: Waiting, a: Answer) -> Waiting {
     let received = a.received;
     let device = a.device;
-    let b = output::put_byte(out, used, received.number);
+    let b = output::put_byte(out, waiting, received.number);
     let c = put_number(out, b, 8, a.count as u64);
     let e = put_received(out, c, received);
     put_device(out, e, device)
@@ -458,11 +460,11 @@ fn play_in(case: &[u8], marks: &mut [u64], lent: &mut [u8]) -> Answer {
 }
 
 // Plays a case, and puts its answer. There is room for more marks than a device has.
-fn play(case: &[u8], out: &mut [u8], used: usize) -> usize {
+fn play(case: &[u8], out: &mut Buffer, waiting: Waiting) -> Waiting {
     let mut marks = [0u64; 600];
     let mut lent = [0u8; 1024];
     let answer = play_in(case, &mut marks, &mut lent);
-    let a = put_answer(out, used, answer);
+    let a = put_answer(out, waiting, answer);
     let b = put_words(out, a, &marks);
     output::put_bytes(out, b, &lent)
 }
@@ -479,20 +481,18 @@ fn keep_byte(case: &mut [u8], at: usize, b: u8) -> usize {
 }
 
 // Takes a byte in, and plays the case that it ends.
-fn take_byte(s: State, case: &mut [u8], out: &mut [u8], b: u8) -> State {
+fn take_byte(s: State, case: &mut [u8], out: &mut Buffer, b: u8) -> State {
     let there = keep_byte(case, s.there, b);
+    let waiting = s.waiting;
     if there < case.len() {
-        return State {
-            there,
-            used: s.used,
-        };
+        return State { there, waiting };
     }
-    let used = play(case, out, s.used);
-    State { there: 0, used }
+    let waiting = play(case, out, waiting);
+    State { there: 0, waiting }
 }
 
 // Takes some input in.
-fn take_in(s: State, case: &mut [u8], out: &mut [u8], input: &[u8]) -> State {
+fn take_in(s: State, case: &mut [u8], out: &mut Buffer, input: &[u8]) -> State {
     let mut s = s;
     let mut i: usize = 0;
     while i < input.len() {
@@ -510,10 +510,13 @@ fn read_some(input: &mut [u8]) -> usize
     io::count(got, input)
 }
 
-// Plays the cases; a rest that is no whole case is none. What was answered is written out before more input is waited for. A proved loop has to end,
-// and nothing says that the input does: it counts its turns down, from a number that no run uses up.
-fn run(case: &mut [u8], out: &mut [u8], input: &mut [u8]) {
-    let mut s = State { there: 0, used: 0 };
+// Plays the cases, to their end or until writing fails; a rest that is no whole case is none. What was answered is written out before more input is waited
+// for. A proved loop has to end, and nothing says that the input does: it counts its turns down, from a number that no run uses up.
+fn run(case: &mut [u8], out: &mut Buffer, input: &mut [u8]) {
+    let mut s = State {
+        there: 0,
+        waiting: Waiting::Bytes(0),
+    };
     let mut turns = u64::MAX;
     while turns > 0 {
         let n = read_some(input);
@@ -521,8 +524,13 @@ fn run(case: &mut [u8], out: &mut [u8], input: &mut [u8]) {
             return;
         }
         s = take_in(s, case, out, &input[..n]);
-        output::flush(out, s.used);
-        s.used = 0;
+        let waiting = s.waiting;
+        let waiting = output::flush(out, waiting);
+        if output::failed(waiting) {
+            return;
+        }
+        let there = s.there;
+        s = State { there, waiting };
         turns -= 1;
     }
 }

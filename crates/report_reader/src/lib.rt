@@ -157,7 +157,8 @@ pub extern "C" fn tmc_report_more(report: &[u8]) -> u8
     if tmc_report_refusal(report) != 0 {
         return 0;
     }
-    report[1] % 2
+    let attributes = report[1];
+    attributes % 2
 }
 
 // The controller's identifier.

@@ -2,16 +2,19 @@
 // A line is played by `playing`; here stand only the buffers.
 
 use libc::STDIN_FILENO;
+use output::Buffer;
+use output::Waiting;
 use rules::Device;
+ghost use mathlib.Core.Path.{_≡_};
 ghost use Prim.Native.Nat.{_≤_};
 ghost use lib.ListN.{length};
 ghost use Rattle.io.specs.Counts.{Counts};
 
-// Between two bytes of input: the device, how many bytes of a line are there, and how many bytes of answers wait to be written.
+// Between two bytes of input: the device, how many bytes of a line are there, and the answers that wait to be written.
 struct Session {
     device: Device,
     length: usize,
-    used: usize,
+    waiting: Waiting,
 }
 
 // Where a line ends in some input: at the next line feed, or at the end of the input.
@@ -30,7 +33,10 @@ fn line_end(input: &[u8], from: usize) -> usize
 }
 
 // Puts a byte behind the `at` bytes of a line that are there, or drops it: a line that fills its buffer is too long already.
-fn keep_byte(line: &mut [u8], at: usize, b: u8) -> usize {
+fn keep_byte(line: &mut [u8], at: usize, b: u8) -> usize
+    requires { ⌜ at ≤ length (now line) ⌝ }
+    ensures { λ r. ⌜ r ≤ length (now (line .entry)) ⌝ }
+{
     if at < line.len() {
         line[at] = b;
         return at + 1;
@@ -39,7 +45,10 @@ fn keep_byte(line: &mut [u8], at: usize, b: u8) -> usize {
 }
 
 // Puts bytes behind the `used` bytes of a line that are there.
-fn put_part(line: &mut [u8], used: usize, part: &[u8]) -> usize {
+fn put_part(line: &mut [u8], used: usize, part: &[u8]) -> usize
+    requires { ⌜ used ≤ length (now line) ⌝ }
+    ensures { λ r. ⌜ r ≤ length (now (line .entry)) ⌝ }
+{
     let mut at = used;
     let mut i: usize = 0;
     while i < part.len() {
@@ -50,18 +59,20 @@ fn put_part(line: &mut [u8], used: usize, part: &[u8]) -> usize {
 }
 
 // Plays the line that is there, and none is there after it.
-fn play_line(s: Session, marks: &mut [u64], line: &[u8], out: &mut [u8]) -> Session {
+fn play_line(s: Session, marks: &mut [u64], line: &[u8], out: &mut Buffer) -> Session
+    requires { ⌜ s .length ≤ length (now line) ⌝ }
+    ensures { λ r. ⌜ r .length ≡ 0 ⌝ }
+{
     let length = s.length;
     let device = s.device;
-    if line.len() < length {
-        return s;
-    }
-    let played = playing::play(device, marks, &line[..length], out, s.used);
+    let waiting = s.waiting;
+    let played = playing::play(device, marks, &line[..length], out, waiting);
     let device = played.device;
+    let waiting = played.waiting;
     Session {
         device,
         length: 0,
-        used: played.used,
+        waiting,
     }
 }
 
@@ -70,9 +81,12 @@ fn take_in(
     s: Session,
     marks: &mut [u64],
     line: &mut [u8],
-    out: &mut [u8],
+    out: &mut Buffer,
     input: &[u8],
-) -> Session {
+) -> Session
+    requires { ⌜ s .length ≤ length (now line) ⌝ }
+    ensures { λ r. ⌜ r .length ≤ length (now (line .entry)) ⌝ }
+{
     let mut s = s;
     let mut at: usize = 0;
     while at < input.len() {
@@ -97,21 +111,24 @@ fn read_some(input: &mut [u8]) -> usize
 }
 
 // Plays the last line, where it has no line feed; an empty rest is none.
-fn finish(s: Session, marks: &mut [u64], line: &[u8], out: &mut [u8]) {
+fn finish(s: Session, marks: &mut [u64], line: &[u8], out: &mut Buffer)
+    requires { ⌜ s .length ≤ length (now line) ⌝ }
+{
     if 0 < s.length {
         let t = play_line(s, marks, line, out);
-        output::flush(out, t.used);
+        let waiting = t.waiting;
+        output::flush(out, waiting);
     }
 }
 
-// Plays the listing. What was answered is written out before more input is waited for. A proved loop has to end, and nothing says that the input does:
-// it counts its turns down, from a number that no run uses up.
-fn run(marks: &mut [u64], line: &mut [u8], out: &mut [u8], input: &mut [u8]) {
+// Plays the listing, to its end or until writing fails. What was answered is written out before more input is waited for. A proved loop has to end, and
+// nothing says that the input does: it counts its turns down, from a number that no run uses up.
+fn run(marks: &mut [u64], line: &mut [u8], out: &mut Buffer, input: &mut [u8]) {
     let device = playing::none(marks);
     let mut s = Session {
         device,
         length: 0,
-        used: 0,
+        waiting: Waiting::Bytes(0),
     };
     let mut turns = u64::MAX;
     while turns > 0 {
@@ -121,8 +138,18 @@ fn run(marks: &mut [u64], line: &mut [u8], out: &mut [u8], input: &mut [u8]) {
             return;
         }
         s = take_in(s, marks, line, out, &input[..n]);
-        output::flush(out, s.used);
-        s.used = 0;
+        let waiting = s.waiting;
+        let waiting = output::flush(out, waiting);
+        if output::failed(waiting) {
+            return;
+        }
+        let device = s.device;
+        let length = s.length;
+        s = Session {
+            device,
+            length,
+            waiting,
+        };
         turns -= 1;
     }
 }

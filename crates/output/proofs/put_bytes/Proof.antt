@@ -1,16 +1,15 @@
 -- `output::put_bytes` is safe and ends. The measure is the number of bytes left.
 use Prim.Native.Nat.{_≤_, _-_}
-use mathlib.Core.Path.{_≡_}
 use borrow.Author.Needs.{needs}
 use lib.ListN.{length}
 use Rattle.output.proofs.put_bytes.Statement.{statement}
 use Rattle.output.proofs.put_bytes.Tie as tie
 
 abbrev Inv-loop : tie.InvT-loop
-Inv-loop out₀ used text at₀ i₀ out at i = (length out ≡ length out₀) × (i ≤ length text)
+Inv-loop out₀ text waiting₀ i₀ out waiting i = i ≤ length text
 
 abbrev μ-loop : tie.MeasureT-loop
-μ-loop out₀ used text at₀ i₀ out at i = length text - i
+μ-loop out₀ text waiting₀ i₀ out waiting i = length text - i
 
 loop-holds : tie.Need-loop-holds Inv-loop μ-loop
 loop-holds c = search needs
@@ -30,9 +29,6 @@ loop-less c = search needs
 loop-again : tie.Need-loop-again Inv-loop μ-loop
 loop-again c = search needs
 
-same-length : tie.Need-same-length Inv-loop μ-loop
-same-length c = search needs
-
 returns : tie.Need-returns Inv-loop μ-loop
 returns c = search needs
 
@@ -48,5 +44,4 @@ put-bytes-spec =
     add-i
     loop-less
     loop-again
-    same-length
     returns)

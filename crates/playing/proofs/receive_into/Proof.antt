@@ -5,9 +5,6 @@ use borrow.Author.Needs.{needs}
 use Rattle.playing.proofs.receive_into.Statement.{statement}
 use Rattle.playing.proofs.receive_into.Tie as tie
 
-returns : tie.Need-returns
-returns c = search needs
-
 array-borrow-prefix-report : tie.Need-array-borrow-prefix-report
 array-borrow-prefix-report c = search needs
 
@@ -20,20 +17,15 @@ receive-requires c κs = search needs
 same-length : tie.Need-same-length
 same-length c = search needs
 
-same-length-2 : tie.Need-same-length-2
-same-length-2 c = search needs
-
-returns-2 : tie.Need-returns-2
-returns-2 c = search needs
+returns : tie.Need-returns
+returns c = search needs
 
 pub receive-into-spec : {M : Type 1} → statement M
 receive-into-spec =
     tie.close
     (tie.spec
-    returns
     array-borrow-prefix-report
     slice-aggregate-receive
     receive-requires
     same-length
-    same-length-2
-    returns-2)
+    returns)

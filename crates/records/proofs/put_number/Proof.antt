@@ -1,15 +1,14 @@
 -- `records::put_number` is safe and ends. The measure is the number of bytes left.
-use mathlib.Core.Path.{_≡_}
+use Prim.Native.Nat.{_≤_}
 use borrow.Author.Needs.{needs}
-use lib.ListN.{length}
 use Rattle.records.proofs.put_number.Statement.{statement}
 use Rattle.records.proofs.put_number.Tie as tie
 
 abbrev Inv-loop : tie.InvT-loop
-Inv-loop out₀ used width n at₀ left₀ rest₀ out at left rest = length out ≡ length out₀
+Inv-loop out₀ width n waiting₀ left₀ rest₀ out waiting left rest = left ≤ width
 
 abbrev μ-loop : tie.MeasureT-loop
-μ-loop out₀ used width n at₀ left₀ rest₀ out at left rest = left
+μ-loop out₀ width n waiting₀ left₀ rest₀ out waiting left rest = left
 
 loop-holds : tie.Need-loop-holds Inv-loop μ-loop
 loop-holds c = search needs
@@ -29,9 +28,6 @@ loop-less c = search needs
 loop-again : tie.Need-loop-again Inv-loop μ-loop
 loop-again c = search needs
 
-same-length : tie.Need-same-length Inv-loop μ-loop
-same-length c = search needs
-
 returns : tie.Need-returns Inv-loop μ-loop
 returns c = search needs
 
@@ -47,5 +43,4 @@ put-number-spec =
     sub-left
     loop-less
     loop-again
-    same-length
     returns)

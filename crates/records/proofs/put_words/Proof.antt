@@ -1,16 +1,15 @@
 -- `records::put_words` is safe and ends. The measure is the number of words left.
 use Prim.Native.Nat.{_≤_, _-_}
-use mathlib.Core.Path.{_≡_}
 use borrow.Author.Needs.{needs}
 use lib.ListN.{length}
 use Rattle.records.proofs.put_words.Statement.{statement}
 use Rattle.records.proofs.put_words.Tie as tie
 
 abbrev Inv-loop : tie.InvT-loop
-Inv-loop out₀ used words at₀ i₀ out at i = (length out ≡ length out₀) × (i ≤ length words)
+Inv-loop out₀ words waiting₀ i₀ out waiting i = i ≤ length words
 
 abbrev μ-loop : tie.MeasureT-loop
-μ-loop out₀ used words at₀ i₀ out at i = length words - i
+μ-loop out₀ words waiting₀ i₀ out waiting i = length words - i
 
 loop-holds : tie.Need-loop-holds Inv-loop μ-loop
 loop-holds c = search needs
@@ -33,9 +32,6 @@ loop-less c = search needs
 loop-again : tie.Need-loop-again Inv-loop μ-loop
 loop-again c = search needs
 
-same-length : tie.Need-same-length Inv-loop μ-loop
-same-length c = search needs
-
 returns : tie.Need-returns Inv-loop μ-loop
 returns c = search needs
 
@@ -52,5 +48,4 @@ put-words-spec =
     add-i
     loop-less
     loop-again
-    same-length
     returns)

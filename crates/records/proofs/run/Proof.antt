@@ -1,12 +1,12 @@
 -- `records::run` is safe and ends. The loop's invariant: the buffers keep their lengths. The measure is the number of turns left.
 use mathlib.Core.Path.{_≡_}
-use borrow.Author.Needs.{needs}
 use lib.ListN.{length}
+use borrow.Author.Needs.{needs}
 use Rattle.records.proofs.run.Statement.{statement}
 use Rattle.records.proofs.run.Tie as tie
 
 abbrev Inv-loop : tie.InvT-loop
-Inv-loop case₀ out₀ input₀ s₀ turns₀ case out input s turns = (length case ≡ length case₀) × (length out ≡ length out₀) × (length input ≡ length input₀)
+Inv-loop case₀ out₀ input₀ s₀ turns₀ case out input s turns = (length case ≡ length case₀) × (length input ≡ length input₀)
 
 abbrev μ-loop : tie.MeasureT-loop
 μ-loop case₀ out₀ input₀ s₀ turns₀ case out input s turns = turns
@@ -23,9 +23,6 @@ same-length c = search needs
 same-length-2 : tie.Need-same-length-2 Inv-loop μ-loop
 same-length-2 c = search needs
 
-same-length-3 : tie.Need-same-length-3 Inv-loop μ-loop
-same-length-3 c = search needs
-
 returns : tie.Need-returns Inv-loop μ-loop
 returns c = search needs
 
@@ -41,6 +38,18 @@ take-in-requires c κs = search needs
 flush-requires : tie.Need-flush-requires Inv-loop μ-loop
 flush-requires c κs = search needs
 
+failed-requires : tie.Need-failed-requires Inv-loop μ-loop
+failed-requires c κs = search needs
+
+same-length-3 : tie.Need-same-length-3 Inv-loop μ-loop
+same-length-3 c = search needs
+
+same-length-4 : tie.Need-same-length-4 Inv-loop μ-loop
+same-length-4 c = search needs
+
+returns-2 : tie.Need-returns-2 Inv-loop μ-loop
+returns-2 c = search needs
+
 sub-turns : tie.Need-sub-turns Inv-loop μ-loop
 sub-turns c = search needs
 
@@ -50,17 +59,14 @@ loop-less c = search needs
 loop-again : tie.Need-loop-again Inv-loop μ-loop
 loop-again c = search needs
 
-same-length-4 : tie.Need-same-length-4 Inv-loop μ-loop
-same-length-4 c = search needs
-
 same-length-5 : tie.Need-same-length-5 Inv-loop μ-loop
 same-length-5 c = search needs
 
 same-length-6 : tie.Need-same-length-6 Inv-loop μ-loop
 same-length-6 c = search needs
 
-returns-2 : tie.Need-returns-2 Inv-loop μ-loop
-returns-2 c = search needs
+returns-3 : tie.Need-returns-3 Inv-loop μ-loop
+returns-3 c = search needs
 
 pub run-spec : {M : Type 1} → statement M
 run-spec =
@@ -72,16 +78,18 @@ run-spec =
     read-some-requires
     same-length
     same-length-2
-    same-length-3
     returns
     slice-reshare-prefix-take-in
     slice-aggregate-take-in
     take-in-requires
     flush-requires
+    failed-requires
+    same-length-3
+    same-length-4
+    returns-2
     sub-turns
     loop-less
     loop-again
-    same-length-4
     same-length-5
     same-length-6
-    returns-2)
+    returns-3)

@@ -7,7 +7,7 @@ use Rattle.records.proofs.take_in.Statement.{statement}
 use Rattle.records.proofs.take_in.Tie as tie
 
 abbrev Inv-loop : tie.InvT-loop
-Inv-loop case₀ out₀ input s₀ i₀ case out s i = (length case ≡ length case₀) × (length out ≡ length out₀) × (i ≤ length input)
+Inv-loop case₀ out₀ input s₀ i₀ case out s i = (length case ≡ length case₀) × (i ≤ length input)
 
 abbrev μ-loop : tie.MeasureT-loop
 μ-loop case₀ out₀ input s₀ i₀ case out s i = length input - i
@@ -33,9 +33,6 @@ loop-again c = search needs
 same-length : tie.Need-same-length Inv-loop μ-loop
 same-length c = search needs
 
-same-length-2 : tie.Need-same-length-2 Inv-loop μ-loop
-same-length-2 c = search needs
-
 returns : tie.Need-returns Inv-loop μ-loop
 returns c = search needs
 
@@ -52,5 +49,4 @@ take-in-spec =
     loop-less
     loop-again
     same-length
-    same-length-2
     returns)

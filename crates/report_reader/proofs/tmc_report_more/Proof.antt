@@ -12,11 +12,11 @@ tmc-report-refusal-requires c κs = search needs
 returns : tie.Need-returns
 returns c = refused-answer _ _ (rw (c .before .tmc-report-refusal .ensures) at (c .if1 .taken))
 
-shared-slice-read-result : tie.Need-shared-slice-read-result
-shared-slice-read-result c = omega (arith, accepted-size _ (rw (c .before .before .tmc-report-refusal .ensures) at (c .before .if1 .left)))
+shared-slice-read-attributes : tie.Need-shared-slice-read-attributes
+shared-slice-read-attributes c = omega (arith, accepted-size _ (rw (c .before .before .tmc-report-refusal .ensures) at (c .before .if1 .left)))
 
 returns-2 : tie.Need-returns-2
 returns-2 c = bit-is _ ∙ accepted-answer _ (rw (c .before .before .tmc-report-refusal .ensures) at (c .before .if1 .left)) _
 
 pub tmc-report-more-spec : {M : Type 1} → statement M
-tmc-report-more-spec = tie.close (tie.spec tmc-report-refusal-requires returns shared-slice-read-result returns-2)
+tmc-report-more-spec = tie.close (tie.spec tmc-report-refusal-requires returns shared-slice-read-attributes returns-2)

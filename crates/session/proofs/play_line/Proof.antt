@@ -5,9 +5,6 @@ use borrow.Author.Needs.{needs}
 use Rattle.session.proofs.play_line.Statement.{statement}
 use Rattle.session.proofs.play_line.Tie as tie
 
-returns : tie.Need-returns
-returns c = search needs
-
 slice-aggregate-play : tie.Need-slice-aggregate-play
 slice-aggregate-play c = sym (length-take-le _ _ (search needs))
 
@@ -17,13 +14,8 @@ play-requires c κs = search needs
 same-length : tie.Need-same-length
 same-length c = search needs
 
-same-length-2 : tie.Need-same-length-2
-same-length-2 c = search needs
-
-returns-2 : tie.Need-returns-2
-returns-2 c = search needs
+returns : tie.Need-returns
+returns c = search needs
 
 pub play-line-spec : {M : Type 1} → statement M
-play-line-spec =
-    tie.close
-    (tie.spec returns slice-aggregate-play play-requires same-length same-length-2 returns-2)
+play-line-spec = tie.close (tie.spec slice-aggregate-play play-requires same-length returns)

@@ -1,4 +1,4 @@
--- `session::put_part` is safe and ends. The measure is the number of bytes left.
+-- `session::put_part` is safe, ends, and stays in the line's buffer. The measure is the number of bytes left.
 use Prim.Native.Nat.{_≤_, _-_}
 use mathlib.Core.Path.{_≡_}
 use borrow.Author.Needs.{needs}
@@ -7,7 +7,7 @@ use Rattle.session.proofs.put_part.Statement.{statement}
 use Rattle.session.proofs.put_part.Tie as tie
 
 abbrev Inv-loop : tie.InvT-loop
-Inv-loop line₀ used part at₀ i₀ line at i = (length line ≡ length line₀) × (i ≤ length part)
+Inv-loop line₀ used part at₀ i₀ line at i = (length line ≡ length line₀) × (at ≤ length line) × (i ≤ length part)
 
 abbrev μ-loop : tie.MeasureT-loop
 μ-loop line₀ used part at₀ i₀ line at i = length part - i

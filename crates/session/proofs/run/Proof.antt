@@ -1,13 +1,13 @@
--- `session::run` is safe and ends. The loop's invariant: the buffers keep their lengths. The measure is the number of turns left.
+-- `session::run` is safe and ends. The loop's invariant: the buffers keep their lengths, and the line lies in its buffer. The measure is the number of turns left.
+use Prim.Native.Nat.{_≤_}
 use mathlib.Core.Path.{_≡_}
-use borrow.Author.Needs.{needs}
 use lib.ListN.{length}
+use borrow.Author.Needs.{needs}
 use Rattle.session.proofs.run.Statement.{statement}
 use Rattle.session.proofs.run.Tie as tie
 
 abbrev Inv-loop : tie.InvT-loop
-Inv-loop marks₀ line₀ out₀ input₀ s₀ turns₀ marks line out input s turns =
-    (length marks ≡ length marks₀) × (length line ≡ length line₀) × (length out ≡ length out₀) × (length input ≡ length input₀)
+Inv-loop marks₀ line₀ out₀ input₀ s₀ turns₀ marks line out input s turns = (length marks ≡ length marks₀) × (length line ≡ length line₀) × (length input ≡ length input₀) × (s .length ≤ length line)
 
 abbrev μ-loop : tie.MeasureT-loop
 μ-loop marks₀ line₀ out₀ input₀ s₀ turns₀ marks line out input s turns = turns
@@ -33,9 +33,6 @@ same-length-2 c = search needs
 same-length-3 : tie.Need-same-length-3 Inv-loop μ-loop
 same-length-3 c = search needs
 
-same-length-4 : tie.Need-same-length-4 Inv-loop μ-loop
-same-length-4 c = search needs
-
 returns : tie.Need-returns Inv-loop μ-loop
 returns c = search needs
 
@@ -51,6 +48,21 @@ take-in-requires c κs = search needs
 flush-requires : tie.Need-flush-requires Inv-loop μ-loop
 flush-requires c κs = search needs
 
+failed-requires : tie.Need-failed-requires Inv-loop μ-loop
+failed-requires c κs = search needs
+
+same-length-4 : tie.Need-same-length-4 Inv-loop μ-loop
+same-length-4 c = search needs
+
+same-length-5 : tie.Need-same-length-5 Inv-loop μ-loop
+same-length-5 c = search needs
+
+same-length-6 : tie.Need-same-length-6 Inv-loop μ-loop
+same-length-6 c = search needs
+
+returns-2 : tie.Need-returns-2 Inv-loop μ-loop
+returns-2 c = search needs
+
 sub-turns : tie.Need-sub-turns Inv-loop μ-loop
 sub-turns c = search needs
 
@@ -60,20 +72,17 @@ loop-less c = search needs
 loop-again : tie.Need-loop-again Inv-loop μ-loop
 loop-again c = search needs
 
-same-length-5 : tie.Need-same-length-5 Inv-loop μ-loop
-same-length-5 c = search needs
-
-same-length-6 : tie.Need-same-length-6 Inv-loop μ-loop
-same-length-6 c = search needs
-
 same-length-7 : tie.Need-same-length-7 Inv-loop μ-loop
 same-length-7 c = search needs
 
 same-length-8 : tie.Need-same-length-8 Inv-loop μ-loop
 same-length-8 c = search needs
 
-returns-2 : tie.Need-returns-2 Inv-loop μ-loop
-returns-2 c = search needs
+same-length-9 : tie.Need-same-length-9 Inv-loop μ-loop
+same-length-9 c = search needs
+
+returns-3 : tie.Need-returns-3 Inv-loop μ-loop
+returns-3 c = search needs
 
 pub run-spec : {M : Type 1} → statement M
 run-spec =
@@ -88,17 +97,20 @@ run-spec =
     same-length
     same-length-2
     same-length-3
-    same-length-4
     returns
     slice-reshare-prefix-take-in
     slice-aggregate-take-in
     take-in-requires
     flush-requires
+    failed-requires
+    same-length-4
+    same-length-5
+    same-length-6
+    returns-2
     sub-turns
     loop-less
     loop-again
-    same-length-5
-    same-length-6
     same-length-7
     same-length-8
-    returns-2)
+    same-length-9
+    returns-3)

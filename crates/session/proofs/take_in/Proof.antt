@@ -1,13 +1,13 @@
 -- `session::take_in` is safe and ends: each turn passes a line feed or the rest. The measure is what is left of the input.
 use Prim.Native.Nat.{_≤_, _-_}
 use mathlib.Core.Path.{_≡_}
-use borrow.Author.Needs.{needs}
 use lib.ListN.{length}
+use borrow.Author.Needs.{needs}
 use Rattle.session.proofs.take_in.Statement.{statement}
 use Rattle.session.proofs.take_in.Tie as tie
 
 abbrev Inv-loop : tie.InvT-loop
-Inv-loop marks₀ line₀ out₀ input s₀ at₀ marks line out s at = (length marks ≡ length marks₀) × (length line ≡ length line₀) × (length out ≡ length out₀) × (at ≤ length input)
+Inv-loop marks₀ line₀ out₀ input s₀ at₀ marks line out s at = (length marks ≡ length marks₀) × (length line ≡ length line₀) × (s .length ≤ length line) × (at ≤ length input)
 
 abbrev μ-loop : tie.MeasureT-loop
 μ-loop marks₀ line₀ out₀ input s₀ at₀ marks line out s at = length input - at
@@ -54,9 +54,6 @@ same-length c = search needs
 same-length-2 : tie.Need-same-length-2 Inv-loop μ-loop
 same-length-2 c = search needs
 
-same-length-3 : tie.Need-same-length-3 Inv-loop μ-loop
-same-length-3 c = search needs
-
 returns : tie.Need-returns Inv-loop μ-loop
 returns c = search needs
 
@@ -80,5 +77,4 @@ take-in-spec =
     loop-again-2
     same-length
     same-length-2
-    same-length-3
     returns)
