@@ -4,6 +4,7 @@ pub mod StepLaws
 pub mod SessionLaws
 pub mod AnswerLaws
 pub mod ClosedLaws
+pub mod Contracts
 pub mod Demand1
 pub mod Demand2
 pub mod Structures

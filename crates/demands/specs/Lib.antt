@@ -1,5 +1,6 @@
 pub mod View
 pub mod Sessions
+pub mod Contracts
 pub mod Demand1
 pub mod Demand2
 pub mod Structures

@@ -5,6 +5,7 @@ use libc::STDIN_FILENO;
 use output::Buffer;
 use output::Waiting;
 use rules::Device;
+use rules::MARK_WORDS;
 ghost use mathlib.Core.Path.{_≡_};
 ghost use Prim.Native.Nat.{_≤_};
 ghost use lib.ListN.{length};
@@ -154,9 +155,9 @@ fn run(marks: &mut [u64], line: &mut [u8], out: &mut Buffer, input: &mut [u8]) {
     }
 }
 
-// The marks are 512 words. A line's buffer has a byte more than a line may have, so that one which is cut is still too long.
+// A line's buffer has a byte more than a line may have, so that one which is cut is still too long.
 fn main() {
-    let mut marks = [0u64; 512];
+    let mut marks = [0u64; MARK_WORDS];
     let mut line = [0u8; 1024];
     let mut out = [0u8; 65536];
     let mut input = [0u8; 65536];

@@ -1,0 +1,65 @@
+-- Each public function's contract is what the demands speak of: the contracts say so word for word. Assumes nothing.
+use Rattle.demands.specs.Contracts.{AsksNothing, CallsAre, StructuresAre, ReaderIs, Contracts}
+
+asks : AsksNothing
+asks =
+    record {
+      fresh = λ κs a. tt;
+      start = λ κs a. tt;
+      stop = λ κs a. tt;
+      write = λ κs a. tt;
+      receive = λ κs a. tt;
+      suspend = λ κs a. tt;
+      resume = λ κs a. tt;
+      read-header = λ κs a. tt;
+      read-start = λ κs a. tt;
+      write-start = λ κs a. tt;
+      refusal = λ κs a. tt;
+      bad-index = λ κs a. tt;
+      suspended = λ κs a. tt;
+      more = λ κs a. tt;
+      identifier = λ κs a. tt;
+      granularity = λ κs a. tt;
+      count = λ κs a. tt;
+      refusal-at = λ κs a. tt;
+      address = λ κs a. tt;
+      length = λ κs a. tt;
+    }
+
+calls : CallsAre
+calls =
+    record {
+      fresh = λ κs a r e p. p;
+      start = λ κs a r e p. p;
+      stop = λ κs a r e p. p;
+      write = λ κs a r e p. p;
+      receive = λ κs a r e p. p;
+      suspend = λ κs a r e p. p;
+      resume = λ κs a r e p. p;
+    }
+
+structures : StructuresAre
+structures =
+    record {
+      read-header = λ κs a r e p. p .is;
+      read-start = λ κs a r e p. p .is;
+      write-start = λ κs a r e p. p;
+    }
+
+reader : ReaderIs
+reader =
+    record {
+      refusal = λ κs a r e p. p;
+      bad-index = λ κs a r e p. p;
+      suspended = λ κs a r e p. p;
+      more = λ κs a r e p. p;
+      identifier = λ κs a r e p. p;
+      granularity = λ κs a r e p. p;
+      count = λ κs a r e p. p;
+      refusal-at = λ κs a r e p. p;
+      address = λ κs a r e p. p;
+      length = λ κs a r e p. p;
+    }
+
+pub contracts : Contracts
+contracts = record { asks = asks; calls = calls; structures = structures; reader = reader }

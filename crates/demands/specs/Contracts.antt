@@ -1,0 +1,100 @@
+-- What ties the source to the statements: each public function asks nothing of its caller ("Nothing is assumed of the caller"), and what its contract promises
+-- is what the demands speak of. `Pre` and `Post` of a function's `Reads` are its contract as the checker reads it off the source: of its arguments, its result
+-- and what it was lent, at exit. The arguments `a` are taken in their order in the source.
+use mathlib.Core.Path.{_≡_}
+use denote.Ref.{now}
+use lib.ListN.{length, take}
+use Rattle.rules.specs.Refusals.{refusal}
+use Rattle.rules.specs.StartData.{headerOf, startData, writeTests, startWritten}
+use Rattle.rules.specs.ReportReader.{reportRefusal, reportBadIndex, reportSuspended, reportMore, reportIdentifier, reportGranularity, reportCount, reportRefusalAt, reportAddress, reportLength}
+use Rattle.calls.specs.Calls.{freshChange, startChange, stopChange, writeNote, receiveReceipt, suspendChange, resumeChange}
+use Rattle.fresh.proofs.fresh.Reads as fresh
+use Rattle.track_send.proofs.start.Reads as start
+use Rattle.track_send.proofs.stop.Reads as stop
+use Rattle.writes.proofs.write.Reads as write
+use Rattle.track_receive.proofs.receive.Reads as receive
+use Rattle.migration_send.proofs.suspend.Reads as suspend
+use Rattle.migration_send.proofs.resume.Reads as resume
+use Rattle.start_data.proofs.read_header.Reads as read-header
+use Rattle.start_data.proofs.read_start.Reads as read-start
+use Rattle.start_data.proofs.write_start.Reads as write-start
+use Rattle.report_reader.proofs.tmc_report_refusal.Reads as refusal-of
+use Rattle.report_reader.proofs.tmc_report_bad_index.Reads as bad-index
+use Rattle.report_reader.proofs.tmc_report_suspended.Reads as suspended
+use Rattle.report_reader.proofs.tmc_report_more.Reads as more
+use Rattle.report_reader.proofs.tmc_report_identifier.Reads as identifier
+use Rattle.report_reader.proofs.tmc_report_granularity.Reads as granularity
+use Rattle.report_reader.proofs.tmc_report_count.Reads as count
+use Rattle.report_reader.proofs.tmc_report_refusal_at.Reads as refusal-at
+use Rattle.report_reader.proofs.tmc_report_address.Reads as address
+use Rattle.report_reader.proofs.tmc_report_length.Reads as run-length
+
+-- what each asks holds of any arguments
+pub record AsksNothing : Type 1 where
+  pub fresh : (κs : _) (a : _) → fresh.Pre κs a
+  pub start : (κs : _) (a : _) → start.Pre κs a
+  pub stop : (κs : _) (a : _) → stop.Pre κs a
+  pub write : (κs : _) (a : _) → write.Pre κs a
+  pub receive : (κs : _) (a : _) → receive.Pre κs a
+  pub suspend : (κs : _) (a : _) → suspend.Pre κs a
+  pub resume : (κs : _) (a : _) → resume.Pre κs a
+  pub read-header : (κs : _) (a : _) → read-header.Pre κs a
+  pub read-start : (κs : _) (a : _) → read-start.Pre κs a
+  pub write-start : (κs : _) (a : _) → write-start.Pre κs a
+  pub refusal : (κs : _) (a : _) → refusal-of.Pre κs a
+  pub bad-index : (κs : _) (a : _) → bad-index.Pre κs a
+  pub suspended : (κs : _) (a : _) → suspended.Pre κs a
+  pub more : (κs : _) (a : _) → more.Pre κs a
+  pub identifier : (κs : _) (a : _) → identifier.Pre κs a
+  pub granularity : (κs : _) (a : _) → granularity.Pre κs a
+  pub count : (κs : _) (a : _) → count.Pre κs a
+  pub refusal-at : (κs : _) (a : _) → refusal-at.Pre κs a
+  pub address : (κs : _) (a : _) → address.Pre κs a
+  pub length : (κs : _) (a : _) → run-length.Pre κs a
+
+-- the calls of `tracker`: the answer, every word of the marks that were lent to be changed, and every byte of the buffer
+pub record CallsAre : Type 1 where
+  pub fresh : (κs : _) (a : _) (r : _) (e : _) → fresh.Post κs a r e
+      → let c = freshChange (a .0) (now (a .1 .0)) in
+      (r ≡ c .answer) × (now (e .1 .0) ≡ c .marks)
+  pub start : (κs : _) (a : _) (r : _) (e : _) → start.Post κs a r e
+      → let c = startChange (a .0) (now (a .1 .0)) (a .1 .1 .0) (now (a .1 .1 .1 .0)) in
+      (r ≡ c .answer) × (now (e .1 .0) ≡ c .marks)
+  pub stop : (κs : _) (a : _) (r : _) (e : _) → stop.Post κs a r e
+      → let c = stopChange (a .0) (now (a .1 .0)) (a .1 .1 .0) in
+      (r ≡ c .answer) × (now (e .1 .0) ≡ c .marks)
+  pub write : (κs : _) (a : _) (r : _) (e : _) → write.Post κs a r e
+      → let c = writeNote (a .0) (now (a .1 .0)) (a .1 .1 .0) (record { address = a .1 .1 .1 .0; bytes = a .1 .1 .1 .1 .0 .0 }) in
+      (r ≡ c .answer) × (now (e .1 .0) ≡ c .marks)
+  pub receive : (κs : _) (a : _) (r : _) (e : _) → receive.Post κs a r e
+      → let c = receiveReceipt (a .0) (now (a .1 .0)) (a .1 .1 .0) (now (a .1 .1 .1 .0)) in
+      (r ≡ c .answer) × (now (e .1 .0) ≡ c .marks) × (now (e .1 .1 .1 .0) ≡ c .buffer)
+  pub suspend : (κs : _) (a : _) (r : _) (e : _) → suspend.Post κs a r e → r ≡ suspendChange (a .0) (length (now (a .1 .0))) (a .1 .1 .0) (a .1 .1 .1 .0)
+  pub resume : (κs : _) (a : _) (r : _) (e : _) → resume.Post κs a r e → r ≡ resumeChange (a .0) (length (now (a .1 .0))) (a .1 .1 .0)
+
+-- the start structure's readers and its writer
+pub record StructuresAre : Type 1 where
+  pub read-header : (κs : _) (a : _) (r : _) (e : _) → read-header.Post κs a r e → r ≡ headerOf (now (a .0))
+  pub read-start : (κs : _) (a : _) (r : _) (e : _) → read-start.Post κs a r e → r ≡ startData (now (a .0))
+  pub write-start : (κs : _) (a : _) (r : _) (e : _) → write-start.Post κs a r e
+      → let n = a .1 .1 .0 in
+      (r ≡ refusal (writeTests (length (now (a .0))) n)) × (now (e .0) ≡ startWritten (now (a .0)) (a .1 .0) n (take n (a .1 .1 .1 .0)))
+
+-- the report's reader
+pub record ReaderIs : Type 1 where
+  pub refusal : (κs : _) (a : _) (r : _) (e : _) → refusal-of.Post κs a r e → r ≡ reportRefusal (now (a .0))
+  pub bad-index : (κs : _) (a : _) (r : _) (e : _) → bad-index.Post κs a r e → r ≡ reportBadIndex (now (a .0))
+  pub suspended : (κs : _) (a : _) (r : _) (e : _) → suspended.Post κs a r e → r ≡ reportSuspended (now (a .0))
+  pub more : (κs : _) (a : _) (r : _) (e : _) → more.Post κs a r e → r ≡ reportMore (now (a .0))
+  pub identifier : (κs : _) (a : _) (r : _) (e : _) → identifier.Post κs a r e → r ≡ reportIdentifier (now (a .0))
+  pub granularity : (κs : _) (a : _) (r : _) (e : _) → granularity.Post κs a r e → r ≡ reportGranularity (now (a .0))
+  pub count : (κs : _) (a : _) (r : _) (e : _) → count.Post κs a r e → r ≡ reportCount (now (a .0))
+  pub refusal-at : (κs : _) (a : _) (r : _) (e : _) → refusal-at.Post κs a r e → r ≡ reportRefusalAt (now (a .0)) (a .1 .0)
+  pub address : (κs : _) (a : _) (r : _) (e : _) → address.Post κs a r e → r ≡ reportAddress (now (a .0)) (a .1 .0)
+  pub length : (κs : _) (a : _) (r : _) (e : _) → run-length.Post κs a r e → r ≡ reportLength (now (a .0)) (a .1 .0)
+
+pub record Contracts : Type 1 where
+  pub asks : AsksNothing
+  pub calls : CallsAre
+  pub structures : StructuresAre
+  pub reader : ReaderIs
