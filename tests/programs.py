@@ -152,6 +152,19 @@ def run_in_talk(program, lines, answers):
     return None if result == Run(b"", "ended") else f"after the last answer came {result.output!r}, and it {result.ending}"
 
 
+def ends_unheard(program, line):
+    """Whether a program that can't write ends, although this line comes again and again."""
+    with open("/dev/full", "wb") as full:
+        process = subprocess.Popen(program.command, stdin=subprocess.PIPE, stdout=full, stderr=subprocess.DEVNULL, bufsize=0)
+    end, taken = time.monotonic() + SECONDS_FOR_AN_ANSWER, True
+    while taken and time.monotonic() < end:
+        taken = send(process, line)
+        time.sleep(0.01)
+    process.kill()
+    process.communicate()
+    return not taken
+
+
 def read_soon(pipe, length):
     """Reads so many bytes, or those that came before the time was over."""
     got, end = b"", time.monotonic() + SECONDS_FOR_AN_ANSWER

@@ -3,7 +3,7 @@ use mathlib.Core.Path.{_≡_, sym, ap, _∙_}
 use Prim.Native.Nat.{ℕ, _+_, _*_, _≤_, _<_}
 use native.Mathlib.Omega.{arith}
 use lib.ListN.{length, getD, take}
-use Rattle.rules.specs.Settings.{markWords}
+use Rattle.rules.specs.Settings.{shareAt, markWords}
 use Rattle.rules.specs.Units.{units}
 use Rattle.rules.specs.declared.Device.{Device}
 use Rattle.rules.specs.declared.Tracking.the-variants.{On}
@@ -13,7 +13,6 @@ use Rattle.record.specs.declared.Place.the-variants.{At, Refused}
 use Rattle.record.proofs.RecordLaws.{whereIs-at, soundDevice-held}
 use Rattle.ranges.proofs.RangeLaws.{HeldFacts}
 use Rattle.calls.specs.Inner.{placeNumber}
-use Rattle.calls.specs.Calls.{shareAt}
 
 -- ---- the place
 

@@ -7,7 +7,7 @@ use Prim.Native.Nat.{ℕ, _+_, _*_, _≤_}
 use native.Mathlib.Omega.{arith}
 use borrow.Author.Tests.{leb-true}
 use lib.ListN.{length, take, length-take, length-map}
-use Rattle.rules.specs.Settings.{placeOf}
+use Rattle.rules.specs.Settings.{shareAt, placeOf}
 use Rattle.rules.specs.Units.{Unit, units, pending}
 use Rattle.rules.specs.Report.{runs, descriptor, room}
 use Rattle.rules.specs.Order.{receiveOrder}
@@ -19,7 +19,7 @@ use Rattle.rules.specs.declared.Tracking.the-variants.{Off, On}
 use Rattle.rules.proofs.RefusalLaws.{verdict-both}
 use Rattle.record.specs.Record.{controllerAt, seenIn}
 use Rattle.calls.specs.declared.Received.{Received}
-use Rattle.calls.specs.Calls.{shareAt, marksAt, Receipt, received, receiveIn, receiveDone, receiveReceipt}
+use Rattle.calls.specs.Calls.{marksAt, Receipt, received, receiveIn, receiveDone, receiveReceipt}
 
 -- the runs that a receive answers stand in its buffer, behind the report's header
 abbrev Fits : List ℕ → Receipt → Type 0

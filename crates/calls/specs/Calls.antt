@@ -1,6 +1,6 @@
 -- What each call answers and leaves, as a total function of what it is given: any record, any words, any bytes. The refusals are the tables of
 -- `rules` (Order.antt), and what is done is done by the rules' own functions on the controller's units and marks.
-use Prim.Native.Nat.{ℕ, _*_}
+use Prim.Native.Nat.{ℕ}
 use mathlib.Core.Bool.{Bool, false, _||_}
 use mathlib.Core.List.{List, []}
 use mathlib.Core.Option.{Option, none, some}
@@ -12,7 +12,7 @@ use Rattle.bits.specs.Share.{getShare, putShare}
 use Rattle.bits.specs.Pack.{pack}
 use Rattle.little.specs.Little.{put}
 use Rattle.rules.specs.Refusals.{verdict}
-use Rattle.rules.specs.Settings.{placeOf}
+use Rattle.rules.specs.Settings.{shareSize, shareAt, placeOf}
 use Rattle.rules.specs.Units.{Unit, Write, units, mark, newly}
 use Rattle.rules.specs.StartData.{granularityOf, countOf, rangesOf, placed}
 use Rattle.rules.specs.Report.{Report, room, reportOn, marksLeft, reportBytes}
@@ -31,14 +31,6 @@ use Rattle.calls.specs.declared.Written.{Written}
 use Rattle.calls.specs.declared.Received.{Received}
 
 -- ---- a controller's marks
-
--- the bits of each controller's share: 64 words
-abbrev pub shareSize : ℕ
-shareSize = 4096
-
--- the first bit of the share of the controller at a place
-abbrev pub shareAt : ℕ → ℕ
-shareAt i = shareSize * i
 
 -- so many marks from a bit on
 abbrev pub marksAt : List ℕ → ℕ → ℕ → List Bool

@@ -6,7 +6,7 @@ use record::Place;
 use rules::Device;
 ghost use mathlib.Core.Path.{_≡_};
 ghost use Prim.Native.Nat.{_<_};
-ghost use Rattle.calls.specs.Calls.{shareAt};
+ghost use Rattle.rules.specs.Settings.{shareAt};
 ghost use Rattle.calls.specs.Inner.{placeNumber};
 
 // The answer of a call that may change the record: its number, and the record as it is afterwards.

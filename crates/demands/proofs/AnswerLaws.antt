@@ -8,7 +8,7 @@ use Prim.Native.Nat.{ℕ}
 use lib.Dec.{eqb}
 use lib.ListN.{length}
 use Rattle.rules.specs.Refusals.{Test, verdict, refusal}
-use Rattle.rules.specs.Settings.{markWords, settingsOk}
+use Rattle.rules.specs.Settings.{shareAt, markWords, settingsOk}
 use Rattle.rules.specs.Units.{Write}
 use Rattle.rules.specs.Order.{freshOrder}
 use Rattle.rules.specs.Device.{closedDevice, freshOf}
@@ -19,7 +19,7 @@ use Rattle.rules.specs.declared.Tracking.{Tracking}
 use Rattle.rules.specs.declared.Tracking.the-variants.{Off, On}
 use Rattle.rules.proofs.RefusalLaws.{verdict-has, verdict-map}
 use Rattle.record.specs.Record.{controllerAt}
-use Rattle.calls.specs.Calls.{shareAt, freshChange, startDone, stopDone, flagDone, noteIn, writeDone, receiveIn, receiveDone}
+use Rattle.calls.specs.Calls.{freshChange, startDone, stopDone, flagDone, noteIn, writeDone, receiveIn, receiveDone}
 use Rattle.demands.specs.Demand1.{Answers}
 
 -- what a table's call answers: the first test's number, and refused what is had of every refusal

@@ -2,33 +2,35 @@
 use mathlib.Core.Path.{_≡_, refl, sym, ap, ap₂, subst, _∙_}
 use mathlib.Core.Logic.{_↔_}
 use mathlib.Core.Bool.{Bool, true, false, _||_, true≢false}
-use mathlib.Core.List.{List, [], _∷_, map}
+use mathlib.Core.List.{List, [], _∷_, _++_, map}
 use mathlib.Core.Option.{Option, none, some}
-use Prim.Native.Nat.{ℕ, zero, suc, _+_, _*_, _≤_, _<_}
+use Prim.Native.Nat.{ℕ, zero, suc, _+_, _*_, _^_, _≤_, _<_}
 use native.Mathlib.Omega.{arith}
 use lib.ListN.{length, take, getD, getElem?, replicate, length-map, length-take}
-use borrow.Author.Tests.{eq-eqb, leb-true, not-true}
+use borrow.Author.Tests.{eq-eqb, le-leb, leb-true, not-true}
 use Rattle.bits.specs.Flat.{flat}
 use Rattle.bits.proofs.Share.{getShare-at}
 use Rattle.little.proofs.Put.{put-take-front}
 use Rattle.rules.specs.Lists.{join}
-use Rattle.rules.specs.Settings.{markWords, placeOf}
+use Rattle.rules.specs.Refusals.{Test, passes}
+use Rattle.rules.specs.Settings.{shareSize, shareAt, markWords, placeOf, granularityOk}
 use Rattle.rules.specs.Units.{Unit, Write, units, touches, mark, newly}
-use Rattle.rules.specs.StartData.{granularityOf, countOf, rangesOf, placed}
+use Rattle.rules.specs.Ranges.{powersOk}
+use Rattle.rules.specs.StartData.{granularityOf, countOf, rangesOf, headerTests, placed}
 use Rattle.rules.specs.Report.{descriptor, room, marksLeft, reportedRuns, reportBytes}
-use Rattle.rules.specs.Order.{Op, start, stop, write, receive, order, startOrder, stopOrder, writeOrder, receiveOrder}
+use Rattle.rules.specs.Order.{Op, start, stop, write, receive, Seen, order, startWho, startListed, startOwn, startShared, startOrder, stopOrder, writeOrder, receiveOrder}
 use Rattle.rules.specs.Device.{cleaned, freshDevice, freshOf}
-use Rattle.rules.specs.Machine.{off, on, slot, isSuspended, refused, noReport, State, slotOf, slotAt, Call, lent}
+use Rattle.rules.specs.Machine.{off, on, slot, isSuspended, refused, noReport, State, countsIn, seenAt, slotOf, slotAt, Call, lent}
 use Rattle.rules.specs.History.{Did, pendingBy, PendingBy, tracksBy, suspendedBy, marksBy, slotBy}
-use Rattle.rules.specs.Demands.{UnitsListed}
+use Rattle.rules.specs.Demands.{sessionEnd, UnitsListed}
 use Rattle.rules.specs.declared.Range.{Range}
 use Rattle.rules.specs.declared.Settings.{Settings}
 use Rattle.rules.specs.declared.Tracking.{Tracking}
 use Rattle.rules.specs.declared.Tracking.the-variants.{Off, On}
 use Rattle.rules.specs.declared.Controller.{Controller}
 use Rattle.rules.specs.declared.Device.{Device}
-use Rattle.rules.proofs.ListLaws.{getElem?-at}
-use Rattle.rules.proofs.RefusalLaws.{verdict-has, verdict-done}
+use Rattle.rules.proofs.ListLaws.{All-append, not-intro, getElem?-at}
+use Rattle.rules.proofs.RefusalLaws.{Passed, passes-Passed, verdict-has, verdict-passed, verdict-done}
 use Rattle.rules.proofs.UnitLaws.{mark-length, mark-at}
 use Rattle.rules.proofs.RunLaws.{clearFirst-length}
 use Rattle.rules.proofs.SlotHistory.{pendingBy-iff}
@@ -40,16 +42,16 @@ use Rattle.ranges.proofs.RangeLaws.{HeldFacts}
 use Rattle.record.proofs.RecordLaws.{soundDevice-facts, soundDevice-held}
 use Rattle.report_data.proofs.Blocks.{reportBytes-length, report-rest}
 use Rattle.report_reader.proofs.ReadBack.{reads-back}
-use Rattle.calls.specs.Calls.{shareSize, shareAt, marksAt, withMarks, withClear, freshChange, Change, changed, startDone, startChange, stopDone, stopChange, Note, noted, writeDone, writeNote, Receipt, received, reportIn, receiveDone, receiveReceipt}
+use Rattle.calls.specs.Calls.{marksAt, withMarks, withClear, freshChange, Change, changed, startDone, startChange, stopDone, stopChange, Note, noted, writeDone, writeNote, Receipt, received, reportIn, receiveDone, receiveReceipt}
 use Rattle.demands.specs.View.{marksOf, view, run}
 use Rattle.demands.specs.Sessions.{begun, outcome, endOf, historyIn}
 use Rattle.demands.specs.Demand2.{bitOf, toldOf, Elsewhere, Replaced, Wrote, Received, Tracked, Moves, starts, stops, writes, Stands, Demand2}
 use Rattle.demands.proofs.MarkLaws.{clear-bit, clear-elsewhere, put-bit, put-elsewhere}
-use Rattle.demands.proofs.ViewLaws.{Fits, slot-at, placeOf-used}
+use Rattle.demands.proofs.ViewLaws.{Fits, slot-at, seen-same, placeOf-used}
 use Rattle.demands.proofs.StepLaws.{order-numbers}
 use Rattle.demands.proofs.SessionLaws.{begins, fits-after}
 use Rattle.demands.proofs.ClosedLaws.{fresh-done, session, history-same, slot-same, equals}
-use Rattle.demands.proofs.AnswerLaws.{fresh-answers}
+use Rattle.demands.proofs.AnswerLaws.{fresh-answers, write-zero}
 use Rattle.demands.proofs.Demand1.{soundness}
 
 -- ---- fresh
@@ -156,14 +158,6 @@ module _ (s : Settings) (ws : List ℕ) (ks : List Call) (eight : length (s .ide
           let running : c .suspended ≡ false = not-true (c .suspended) (r .1 .1 .1 .0) in
           rw place (replaced _ _ _ (r .0 ∙ rw running))
 
-      -- ---- suspended, as its calls and answers tell
-
-      is-refused : suspendedBy false h ≡ true → (o : Op) → Moves o → outcome (endOf s ws ks) (record { id = a; op = o }) ≡ record { answer = refused 4; device = d; marks = l; bytes = lent o }
-      unfolding run startChange stopChange writeNote
-      is-refused e o (starts x) = rw (place, sure, flag-is, e)
-      is-refused e o stops = rw (place, sure, flag-is, e)
-      is-refused e o (writes w) = rw (place, sure, flag-is, e)
-
       -- ---- not tracked, as its calls and answers tell
 
       is-off : tracksBy none h ≡ none → c .tracking ≡ Off
@@ -172,6 +166,41 @@ module _ (s : Settings) (ws : List ℕ) (ks : List Call) (eight : length (s .ide
           go : (t : Tracking) → marksOf l (shareAt i) t (c .ranges) ≡ off → t ≡ Off
           go Off q = refl
           go (On g n) q = let z : _≡_ {A = ℕ} 0 1 = cc in absurd (omega arith)
+
+      -- ---- what is not refused
+
+      may-write : (w : Write) → suspendedBy false h ≡ false → w .address + w .bytes ≤ 2 ^ 64 → writeNote d l a w .answer .number ≡ 0
+      unfolding writeNote
+      may-write w e k = rw (place, sure, flag-is, e, le-leb (w .address + w .bytes) (2 ^ 64) k) (write-zero d l w (some i))
+
+      -- the settings say the same of a structure once unused places are zeros
+      listed-same : (x : List ℕ) → startListed (d .settings) x ≡ startListed s x
+      unfolding granularityOk powersOk
+      listed-same x = ap (λ (t : Settings). startListed t x) settings-are
+
+      may-start : (x : List ℕ) → suspendedBy false h ≡ false → tracksBy none h ≡ none → passes (headerTests x ++ startListed s x) ≡ true
+          → countOf x + countsIn (sessionEnd s (length ws) ks) ≤ s .limit → startChange d l a x .answer .number ≡ 0
+      unfolding startChange
+      may-start x e idle ok few =
+          let v = seenIn d (length l) (some i) in
+          let counts : v .counts ≡ countsIn (sessionEnd s (length ws) ks) = ap (λ (z : Seen). z .counts) (subst (λ q. seenIn d (length l) q ≡ seenAt (view d l) q) place (seen-same d l fits a)) ∙ ap countsIn (session s ws ks eight .state) in
+          let structure : Passed (headerTests x ++ startListed (d .settings) x) = subst (λ (ts : List Test). Passed (headerTests x ++ ts)) (sym (listed-same x)) (passes-Passed (headerTests x ++ startListed s x) ok) in
+          let who : Passed (startWho v) = (sure, (refl, (not-intro (c .suspended) (flag-is ∙ e), (rw (is-off idle) refl, tt)))) in
+          let limit : d .settings .limit ≡ s .limit = ap (λ (t : Settings). t .limit) settings-are in
+          let shared : Passed (startShared (d .settings) (v .counts) x) = (le-leb (countOf x + v .counts) (d .settings .limit) (omega (arith, few, counts, limit)), tt) in
+          rw place
+          (ap (λ (k : Change). k .answer .number)
+          (verdict-passed (startOrder (d .settings) v x) (startDone d l x (some i)) (λ n j. changed n d l)
+          (All-append (λ (t : Test). t .ok ≡ true) (startOwn (d .settings) v x) (startShared (d .settings) (v .counts) x)
+          (All-append (λ (t : Test). t .ok ≡ true) (startWho v) (headerTests x ++ startListed (d .settings) x) who structure) shared)))
+
+      -- ---- suspended, as its calls and answers tell
+
+      is-refused : suspendedBy false h ≡ true → (o : Op) → Moves o → outcome (endOf s ws ks) (record { id = a; op = o }) ≡ record { answer = refused 4; device = d; marks = l; bytes = lent o }
+      unfolding run startChange stopChange writeNote
+      is-refused e o (starts x) = rw (place, sure, flag-is, e)
+      is-refused e o stops = rw (place, sure, flag-is, e)
+      is-refused e o (writes w) = rw (place, sure, flag-is, e)
 
       -- ---- tracked, as its calls and answers tell
 
@@ -277,8 +306,26 @@ module _ (s : Settings) (ws : List ℕ) (ks : List Call) (eight : length (s .ide
             (λ n. refl) (order-numbers (d .settings) (seenIn d (length l) (some i)) (receive x)) (rw place at e) in
             rw place (subst (Received h a i g us x l) (sym (r .0 ∙ rw (held .tracking, held .ranges, held .marks, flag-is))) (stored x (leb-true 32 (length x) (r .1 .1 .1 .1 .0))))
 
+        -- ---- what is not refused
+
+        may-stop : suspendedBy false h ≡ false → stopChange d l a .answer .number ≡ 0
+        unfolding stopChange
+        may-stop e = rw (place, sure, flag-is, e, held .tracking)
+
+        may-receive : (x : List ℕ) → 32 ≤ length x → receiveReceipt d l a x .answer .number ≡ 0
+        unfolding receiveReceipt
+        may-receive x k = rw (place, sure, held .tracking, le-leb 32 (length x) k)
+
         is-tracked : Tracked s ws ks a i g rs
-        is-tracked = record { listed = is-listed; pending = is-pending; written = is-written; received = is-received }
+        is-tracked =
+            record {
+              listed = is-listed;
+              pending = is-pending;
+              written = is-written;
+              received = is-received;
+              may-stop = may-stop;
+              may-receive = may-receive;
+            }
 
     -- ---- any controller
 
@@ -308,6 +355,8 @@ module _ (s : Settings) (ws : List ℕ) (ks : List Call) (eight : length (s .ide
           tracked = λ i g rs at by. is-tracked i at g rs by;
           untracked = is-idle;
           suspended = is-suspended;
+          may-write = λ i w at. may-write i at w;
+          may-start = λ i x at. may-start i at x;
           started = λ i x at. is-started i at x;
           stopped = λ i at. is-stopped i at;
         }

@@ -16,8 +16,8 @@ use Rattle.bits.proofs.Flat.{flat-length}
 use Rattle.bits.proofs.Span.{fill-length, fill-at-in, fill-at-below, fill-at-above}
 use Rattle.bits.proofs.Share.{getShare-length, getShare-at, putShare-length, putShare-at-in, putShare-at-below, putShare-at-above, getShare-putShare, getShare-putShare-below, getShare-putShare-above, getShare-fill-below, getShare-fill-above}
 use Rattle.bits.proofs.Pack.{pack-length, flat-pack}
-use Rattle.rules.specs.Settings.{markWords}
-use Rattle.calls.specs.Calls.{shareSize, shareAt, marksAt, withMarks, withClear}
+use Rattle.rules.specs.Settings.{shareSize, shareAt, markWords}
+use Rattle.calls.specs.Calls.{marksAt, withMarks, withClear}
 use Rattle.demands.specs.Demand2.{bitOf, Elsewhere}
 
 -- of two places one is first

@@ -15,7 +15,7 @@ use Rattle.bits.proofs.Flat.{flat-length}
 use Rattle.little.proofs.Put.{put-take-front, put-length}
 use Rattle.rules.specs.Lists.{join}
 use Rattle.rules.specs.Refusals.{Test, verdict}
-use Rattle.rules.specs.Settings.{markWords, placeOf}
+use Rattle.rules.specs.Settings.{shareSize, shareAt, markWords, placeOf}
 use Rattle.rules.specs.Units.{Unit, Write, units, clear, mark}
 use Rattle.rules.specs.StartData.{granularityOf, countOf, rangesOf, noRange, placed}
 use Rattle.rules.specs.Report.{room, marksLeft, reportedRuns}
@@ -38,7 +38,7 @@ use Rattle.rules.proofs.Isolation.{withSlot-slotAt}
 use Rattle.record.specs.Record.{soundWith, noController, controllerAt, withController, isOn, seenIn}
 use Rattle.ranges.proofs.RangeLaws.{listTests-numbers, listTests-facts}
 use Rattle.record.proofs.RecordLaws.{soundDevice-facts, soundDevice-held}
-use Rattle.calls.specs.Calls.{shareSize, shareAt, marksAt, withMarks, withClear, Change, changed, started, startDone, startChange, stopped, stopDone, stopChange, flagged, flagDone, suspendChange, resumeChange, Note, noted, noteIn, writeDone, writeNote, Receipt, received, receiveIn, receiveDone, receiveReceipt}
+use Rattle.calls.specs.Calls.{marksAt, withMarks, withClear, Change, changed, started, startDone, startChange, stopped, stopDone, stopChange, flagged, flagDone, suspendChange, resumeChange, Note, noted, noteIn, writeDone, writeNote, Receipt, received, receiveIn, receiveDone, receiveReceipt}
 use Rattle.calls.specs.declared.Changed.{Changed}
 use Rattle.demands.specs.View.{marksOf, slotOf, view, Outcome, answered, changes, flags, notes, receipts, runAs, run}
 use Rattle.demands.proofs.MarkLaws.{clear-length, clear-own, clear-other, put-length as marks-length, put-own, put-other}

@@ -12,7 +12,7 @@ use lib.ListN.{length, getD, set, take, length-take, length-set}
 use lib.Seq.{ext-getD, getD-set-same, getD-set-other, length-take-le}
 use borrow.Author.Tests.{eq-eqb, eqb-true, eqb-false}
 use Rattle.rules.specs.Lists.{sum}
-use Rattle.rules.specs.Settings.{markWords, placeOf}
+use Rattle.rules.specs.Settings.{shareAt, markWords, placeOf}
 use Rattle.rules.specs.Device.{heldCount, heldIn, heldOf, controllersOf, sound, soundDevice}
 use Rattle.rules.specs.Machine.{Slot, slot, freshSlot, isTracked, heldBy, slotAt, withSlot, soundState, countsIn, seenAt}
 use Rattle.rules.specs.declared.Range.{Range}
@@ -23,7 +23,6 @@ use Rattle.rules.specs.declared.Device.{Device}
 use Rattle.rules.proofs.ListLaws.{All, All-take}
 use Rattle.rules.proofs.StateLaws.{placeOf-is}
 use Rattle.record.specs.Record.{soundWith, noController, withController, isOn, countsOf, seenIn}
-use Rattle.calls.specs.Calls.{shareAt}
 use Rattle.demands.specs.View.{marksOf, slotOf, slotsFrom, view}
 
 -- ---- what holds of each record and its marks in a session

@@ -4,18 +4,19 @@ use Prim.Native.Nat.{ℕ, _+_, _^_, _≤_, _<_}
 use mathlib.Core.Path.{_≡_}
 use mathlib.Core.Logic.{_↔_}
 use mathlib.Core.Bool.{Bool, true, false, _||_}
-use mathlib.Core.List.{List, [], map}
+use mathlib.Core.List.{List, [], _++_, map}
 use mathlib.Core.Option.{none, some}
 use lib.ListN.{length, take, drop, getD, getElem?, replicate}
 use Rattle.bits.specs.Flat.{flat}
-use Rattle.rules.specs.Settings.{markWords, placeOf}
+use Rattle.rules.specs.Refusals.{passes}
+use Rattle.rules.specs.Settings.{shareSize, shareAt, markWords, placeOf}
 use Rattle.rules.specs.Units.{Unit, Write, units, touches, newly}
-use Rattle.rules.specs.StartData.{granularityOf, countOf, rangesOf, placed}
+use Rattle.rules.specs.StartData.{granularityOf, countOf, rangesOf, headerTests, placed}
 use Rattle.rules.specs.Report.{room, reportOn, marksLeft, reportBytes}
 use Rattle.rules.specs.ReportReader.{reportSize}
-use Rattle.rules.specs.Order.{Op, start, stop, write}
+use Rattle.rules.specs.Order.{Op, start, stop, write, startListed}
 use Rattle.rules.specs.Device.{cleaned, freshDevice}
-use Rattle.rules.specs.Machine.{refused, pendingIn, slotOf, lent}
+use Rattle.rules.specs.Machine.{refused, pendingIn, countsIn, slotOf, lent}
 use Rattle.rules.specs.History.{Did, PendingBy, pendingBy, tracksBy, suspendedBy, slotBy}
 use Rattle.rules.specs.Demands.{sessionEnd, sessionHistory, lentBytes, UnitsListed, Reports, Room, ReadBack, Touches, Writes}
 use Rattle.rules.specs.Machine.{Call}
@@ -25,7 +26,7 @@ use Rattle.rules.specs.declared.Tracking.the-variants.{Off, On}
 use Rattle.rules.specs.declared.Settings.{Settings}
 use Rattle.rules.specs.declared.Device.{Device}
 use Rattle.record.specs.Record.{withController}
-use Rattle.calls.specs.Calls.{shareSize, shareAt, Change, Receipt, freshChange, startChange, stopChange, writeNote, receiveReceipt}
+use Rattle.calls.specs.Calls.{Change, Receipt, freshChange, startChange, stopChange, writeNote, receiveReceipt}
 use Rattle.demands.specs.View.{view}
 use Rattle.demands.specs.Sessions.{Left, outcome, endOf, historyIn, bytesIn}
 
@@ -109,6 +110,9 @@ pub record Tracked (s : Settings) (ws : List ℕ) (ks : List Call) (a i g : ℕ)
   pub received : (x : List ℕ)
       → let r = receiveReceipt (endOf s ws ks .device) (endOf s ws ks .marks) a x in
       r .answer .number ≡ 0 → Received (historyIn s ws ks a) a i g (units g rs) x (endOf s ws ks .marks) r
+  -- a stop and a receive are refused for nothing but what document 01 says
+  pub may-stop : suspendedBy false (historyIn s ws ks a) ≡ false → stopChange (endOf s ws ks .device) (endOf s ws ks .marks) a .answer .number ≡ 0
+  pub may-receive : (x : List ℕ) → 32 ≤ length x → receiveReceipt (endOf s ws ks .device) (endOf s ws ks .marks) a x .answer .number ≡ 0
 
 -- the calls that a suspended controller is refused
 pub data Moves : Op → Type 0 where
@@ -129,6 +133,12 @@ pub record Stands (s : Settings) (ws : List ℕ) (ks : List Call) (a : ℕ) : Ty
   pub suspended : suspendedBy false (historyIn s ws ks a) ≡ true → (o : Op) → Moves o
       → outcome (endOf s ws ks) (record { id = a; op = o })
       ≡ record { answer = refused 4; device = endOf s ws ks .device; marks = endOf s ws ks .marks; bytes = lent o }
+  -- a write and a start are refused for nothing but what document 01 says
+  pub may-write : (i : ℕ) (w : Write) → placeOf s a ≡ some i → suspendedBy false (historyIn s ws ks a) ≡ false → w .address + w .bytes ≤ 2 ^ 64
+      → writeNote (endOf s ws ks .device) (endOf s ws ks .marks) a w .answer .number ≡ 0
+  pub may-start : (i : ℕ) (x : List ℕ) → placeOf s a ≡ some i → suspendedBy false (historyIn s ws ks a) ≡ false → tracksBy none (historyIn s ws ks a) ≡ none
+      → passes (headerTests x ++ startListed s x) ≡ true → countOf x + countsIn (sessionEnd s (length ws) ks) ≤ s .limit
+      → startChange (endOf s ws ks .device) (endOf s ws ks .marks) a x .answer .number ≡ 0
   -- "An accepted start clears the controller's 64 words and records granularity and ranges"
   pub started : (i : ℕ) (x : List ℕ) → placeOf s a ≡ some i
       → let c = startChange (endOf s ws ks .device) (endOf s ws ks .marks) a x in

@@ -14,7 +14,8 @@ use Rattle.rules.specs.declared.Tracking.the-variants.{Off, On}
 use Rattle.rules.specs.declared.Controller.{Controller}
 use Rattle.rules.specs.declared.Device.{Device}
 use Rattle.calls.specs.declared.Changed.{Changed}
-use Rattle.calls.specs.Calls.{shareAt, marksAt, Change, startChange, stopChange, suspendChange, resumeChange, Note, writeNote, Receipt, receiveReceipt}
+use Rattle.rules.specs.Settings.{shareAt}
+use Rattle.calls.specs.Calls.{marksAt, Change, startChange, stopChange, suspendChange, resumeChange, Note, writeNote, Receipt, receiveReceipt}
 
 -- ---- a record and its marks
 

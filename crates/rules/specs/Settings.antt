@@ -48,6 +48,13 @@ markWords = 512
 abbrev pub mostUnits : ℕ
 mostUnits = 4096
 
+-- the controllers have 64 words each, in their order in the settings: the bits of a share, and the first bit of the share of the controller at a place
+abbrev pub shareSize : ℕ
+shareSize = 4096
+
+abbrev pub shareAt : ℕ → ℕ
+shareAt i = shareSize * i
+
 -- ---- granularities
 
 -- the bytes of a unit: 2^n times 4 KiB

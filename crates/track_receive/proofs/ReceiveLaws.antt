@@ -11,7 +11,7 @@ use Rattle.bits.specs.Share.{getShare, putShare}
 use Rattle.bits.proofs.Pack.{pack-only}
 use Rattle.little.specs.Little.{put}
 use Rattle.report_data.proofs.Blocks.{report-done}
-use Rattle.rules.specs.Settings.{placeOf}
+use Rattle.rules.specs.Settings.{shareAt, placeOf}
 use Rattle.rules.specs.Units.{Unit, units, pending}
 use Rattle.rules.specs.Report.{runs, Report, descriptor, room, reportOn, reportHeader, reportedRuns, marksLeft}
 use Rattle.rules.specs.Order.{receiveOrder}
@@ -23,7 +23,7 @@ use Rattle.rules.proofs.RunLaws.{runs-length-le, pending-length-le}
 use Rattle.record.specs.Record.{noController, whereIs, seenIn}
 use Rattle.record.specs.declared.Place.the-variants.{At, Refused}
 use Rattle.record.proofs.RecordLaws.{Located, whereIs-at, whereIs-refused}
-use Rattle.calls.specs.Calls.{shareAt, withMarks, marksAt, Receipt, received, reportIn, receiveDone, receiveReceipt}
+use Rattle.calls.specs.Calls.{withMarks, marksAt, Receipt, received, reportIn, receiveDone, receiveReceipt}
 use Rattle.scan.specs.Scan.{Lists}
 use Rattle.calls.specs.declared.Received.{Received}
 

@@ -13,7 +13,7 @@ use Rattle.little.specs.Little.{recordsAt}
 use Rattle.little.proofs.Put.{put-take-front}
 use Rattle.little.proofs.Records.{recordsAt-length}
 use Rattle.rules.specs.Refusals.{Test, _else_, verdict, refusal, passes}
-use Rattle.rules.specs.Settings.{placeOf, granularityOk}
+use Rattle.rules.specs.Settings.{shareAt, placeOf, granularityOk}
 use Rattle.rules.specs.Ranges.{rangeTests, listTests}
 use Rattle.rules.specs.StartData.{granularityOf, countOf, rangesOf, rangeAt, startSize, headerOf, noRange, placed}
 use Rattle.rules.specs.Order.{startListed, startShared, startOrder}
@@ -29,7 +29,7 @@ use Rattle.record.proofs.RecordLaws.{Located, whereIs-at, whereIs-refused}
 use Rattle.ranges.proofs.RangeLaws.{listTests-numbers}
 use Rattle.start_data.specs.Answer.{headerSays}
 use Rattle.start_data.proofs.Answers.{headerOf-is, HeaderIs, headerOf-refused, HeaderRefused, noHeader, otherVersion}
-use Rattle.calls.specs.Calls.{changed, withClear, shareAt, startDone, startChange}
+use Rattle.calls.specs.Calls.{changed, withClear, startDone, startChange}
 
 -- the tests of a start after those of its header: 7, 8 (listed ranges), 9, 10, 11 and 12
 abbrev listedTests : Settings → ℕ → List ℕ → List Test

@@ -7,14 +7,14 @@ use lib.ListN.{length, getD, drop}
 use Rattle.bits.specs.Flat.{flat, Words}
 use Rattle.bits.specs.Span.{fill}
 use Rattle.bits.proofs.Pack.{pack-only}
-use Rattle.rules.specs.Settings.{placeOf}
+use Rattle.rules.specs.Settings.{shareSize, shareAt, placeOf}
 use Rattle.rules.specs.Order.{stopOrder}
 use Rattle.rules.specs.declared.Device.{Device}
 use Rattle.rules.specs.declared.Tracking.the-variants.{Off, On}
 use Rattle.record.specs.Record.{noController, withController, whereIs, seenIn}
 use Rattle.record.specs.declared.Place.the-variants.{At, Refused}
 use Rattle.record.proofs.RecordLaws.{Located, whereIs-at, whereIs-refused}
-use Rattle.calls.specs.Calls.{changed, withClear, shareSize, shareAt, stopped, stopDone, stopChange}
+use Rattle.calls.specs.Calls.{changed, withClear, stopped, stopDone, stopChange}
 
 -- words that have a share clear
 pub cleared : (ws ws′ : List ℕ) (base : ℕ) → length ws′ ≡ length ws → Words ws′ → flat ws′ ≡ fill false (flat ws) base shareSize → ws′ ≡ withClear ws base

@@ -13,13 +13,13 @@ ghost use mathlib.Core.List.{_++_};
 ghost use Prim.Native.Nat.{_<_};
 ghost use lib.ListN.{length};
 ghost use Rattle.rules.specs.Refusals.{refusal};
-ghost use Rattle.rules.specs.Settings.{markWords};
+ghost use Rattle.rules.specs.Settings.{shareAt, markWords};
 ghost use Rattle.rules.specs.StartData.{headerOf};
 ghost use Rattle.rules.specs.declared.Header.the-variants.{Is};
 ghost use Rattle.rules.specs.Device.{soundDevice};
 ghost use Rattle.record.specs.Record.{countsOf};
 ghost use Rattle.start_data.specs.Answer.{headerSays};
-ghost use Rattle.calls.specs.Calls.{shareAt, withClear, startChange, stopChange};
+ghost use Rattle.calls.specs.Calls.{withClear, startChange, stopChange};
 ghost use Rattle.rules.specs.Order.{startListed, startShared};
 
 // Makes the share of the controller at place i clear.

@@ -14,7 +14,7 @@ use Rattle.bits.specs.Pack.{pack}
 use Rattle.bits.proofs.Flat.{flat-length}
 use Rattle.bits.proofs.Pack.{pack-only, pack-flat}
 use Rattle.bits.proofs.Share.{getShare-length, putShare-getShare}
-use Rattle.rules.specs.Settings.{placeOf}
+use Rattle.rules.specs.Settings.{shareAt, placeOf}
 use Rattle.rules.specs.Units.{Unit, Write, units, touches, mark, newly}
 use Rattle.rules.specs.Order.{writeOrder}
 use Rattle.rules.specs.declared.Device.{Device}
@@ -25,7 +25,7 @@ use Rattle.settings.specs.Found.{foundAt}
 use Rattle.settings.specs.declared.Found.the-variants as found
 use Rattle.record.specs.declared.Place.the-variants.{At, Refused}
 use Rattle.record.proofs.RecordLaws.{Located, whereIs-at, whereIs-refused}
-use Rattle.calls.specs.Calls.{shareAt, withMarks, marksAt, noted, writeDone, writeNote}
+use Rattle.calls.specs.Calls.{withMarks, marksAt, noted, writeDone, writeNote}
 use Rattle.calls.proofs.PlaceLaws.{share-within}
 
 -- ---- the place, on a record that is known to be sound

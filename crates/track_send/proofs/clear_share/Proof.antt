@@ -8,7 +8,7 @@ use denote.Ref.{now}
 use borrow.Author.Needs.{needs}
 use Rattle.bits.specs.Flat.{flat}
 use Rattle.bits.specs.Span.{fill}
-use Rattle.calls.specs.Calls.{shareSize, shareAt}
+use Rattle.rules.specs.Settings.{shareSize, shareAt}
 use Rattle.track_send.proofs.clear_share.Statement.{statement}
 use Rattle.track_send.proofs.clear_share.Tie as tie
 

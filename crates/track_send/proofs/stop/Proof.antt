@@ -73,7 +73,7 @@ mul-t14 : tie.Need-mul-t14
 mul-t14 c = omega (arith, below (c .before .before .before .before .before .before .before .before .before))
 
 element-set-from-e : tie.Need-element-set-from-e
-element-set-from-e c = below (c .before .before .before .before .before .before .before .before .before)
+element-set-from-e c = omega (arith, below (c .before .before .before .before .before .before .before .before .before))
 
 same-length : tie.Need-same-length
 same-length c = search needs
