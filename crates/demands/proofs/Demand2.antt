@@ -1,14 +1,17 @@
 -- Demand 2, proved of the calls: what a session leaves is what the rules' session leaves, and of that the rules' demand 2 is proved. Assumes nothing.
 use mathlib.Core.Path.{_≡_, refl, sym, ap, ap₂, subst, _∙_}
 use mathlib.Core.Logic.{_↔_}
-use mathlib.Core.Bool.{Bool, true, false, _||_, true≢false}
+use mathlib.Core.Bool.{Bool, true, false, _||_, cond, true≢false}
 use mathlib.Core.List.{List, [], _∷_, _++_, map}
 use mathlib.Core.Option.{Option, none, some}
-use Prim.Native.Nat.{ℕ, zero, suc, _+_, _*_, _^_, _≤_, _<_}
+use Prim.Native.Nat.{ℕ, zero, suc, _+_, _*_, _/_, _%_, _^_, _≤_, _<_}
 use native.Mathlib.Omega.{arith}
+use lib.Dec.{leb, eqb}
+use lib.Seq.{getD-take}
 use lib.ListN.{length, take, getD, getElem?, replicate, length-map, length-take}
-use borrow.Author.Tests.{eq-eqb, le-leb, leb-true, not-true}
+use borrow.Author.Tests.{eq-eqb, le-leb, leb-true, leb-false, not-true}
 use Rattle.bits.specs.Flat.{flat}
+use Rattle.bits.proofs.Flat.{flat-at}
 use Rattle.bits.proofs.Share.{getShare-at}
 use Rattle.little.proofs.Put.{put-take-front}
 use Rattle.rules.specs.Lists.{join}
@@ -34,7 +37,7 @@ use Rattle.rules.proofs.RefusalLaws.{Passed, passes-Passed, verdict-has, verdic
 use Rattle.rules.proofs.UnitLaws.{mark-length, mark-at}
 use Rattle.rules.proofs.RunLaws.{clearFirst-length}
 use Rattle.rules.proofs.SlotHistory.{pendingBy-iff}
-use Rattle.rules.proofs.StateLaws.{cleaned-place, after-settings}
+use Rattle.rules.proofs.StateLaws.{placeOf-is, cleaned-place, after-settings}
 use Rattle.rules.proofs.SoundLaws.{fresh-opens}
 use Rattle.rules.proofs.Theorems as rules
 use Rattle.record.specs.Record.{soundWith, controllerAt, withController, seenIn}
@@ -42,10 +45,10 @@ use Rattle.ranges.proofs.RangeLaws.{HeldFacts}
 use Rattle.record.proofs.RecordLaws.{soundDevice-facts, soundDevice-held}
 use Rattle.report_data.proofs.Blocks.{reportBytes-length, report-rest}
 use Rattle.report_reader.proofs.ReadBack.{reads-back}
-use Rattle.calls.specs.Calls.{marksAt, withMarks, withClear, freshChange, Change, changed, startDone, startChange, stopDone, stopChange, Note, noted, writeDone, writeNote, Receipt, received, reportIn, receiveDone, receiveReceipt}
+use Rattle.calls.specs.Calls.{marksAt, withMarks, withClear, freshChange, Change, changed, startDone, startChange, stopDone, stopChange, flagDone, suspendChange, resumeChange, Note, noted, writeDone, writeNote, Receipt, received, reportIn, receiveDone, receiveReceipt}
 use Rattle.demands.specs.View.{marksOf, view, run}
 use Rattle.demands.specs.Sessions.{begun, outcome, endOf, historyIn}
-use Rattle.demands.specs.Demand2.{bitOf, toldOf, Elsewhere, Replaced, Wrote, Received, Tracked, Moves, starts, stops, writes, Stands, Demand2}
+use Rattle.demands.specs.Demand2.{bitOf, toldOf, Elsewhere, Kept, Flagged, Replaced, Wrote, Received, Tracked, Moves, starts, stops, writes, Stands, Demand2}
 use Rattle.demands.proofs.MarkLaws.{clear-bit, clear-elsewhere, put-bit, put-elsewhere}
 use Rattle.demands.proofs.ViewLaws.{Fits, slot-at, seen-same, placeOf-used}
 use Rattle.demands.proofs.StepLaws.{order-numbers}
@@ -59,6 +62,20 @@ use Rattle.demands.proofs.Demand1.{soundness}
 fresh-is : (s : Settings) (ws : List ℕ) → freshChange s ws .answer .number ≡ 0 → (freshChange s ws .answer .device ≡ freshDevice s) × (freshChange s ws .marks ≡ replicate markWords 0)
 unfolding freshChange freshOf
 fresh-is s ws e = let f = fresh-done s ws e in rw (f .0, eq-eqb (length ws) markWords (f .1), f .1) (refl, refl)
+
+-- ---- places
+
+bit-at : (ws : List ℕ) (i m : ℕ) → bitOf ws i m ≡ eqb (getD ws (64 * i + m / 64) 0 / 2 ^ (m % 64) % 2) 1
+bit-at ws i m =
+    let e : (shareAt i + m) / 64 ≡ 64 * i + m / 64 = omega arith in
+    let f : (shareAt i + m) % 64 ≡ m % 64 = omega arith in
+    flat-at ws (shareAt i + m) ∙ rw (e, f)
+
+is-place : (s : Settings) (a i : ℕ) → length (s .identifiers) ≡ 8 → placeOf s a ≡ some i → (i < s .count) × (getD (s .identifiers) i 0 ≡ a)
+is-place s a i eight e =
+    let p = placeOf-is s a i e in
+    let n : i < s .count = omega (arith, p .0, length-take (s .count) (s .identifiers)) in
+    (n, sym (getD-take (s .count) (s .identifiers) i 0 n) ∙ p .1)
 
 -- ---- laws of lists
 
@@ -99,6 +116,11 @@ module _ (s : Settings) (ws : List ℕ) (ks : List Call) (eight : length (s .ide
       ap (λ (st : State). st .settings) (session s ws ks eight .state)
       ∙ after-settings ks _
       ∙ ap (λ (st : State). st .settings) (fresh-opens s (length ws) (sym (fresh-answers s ws .first) ∙ made) .0)
+
+  settings-kept : Kept s (d .settings)
+  settings-kept =
+      subst (Kept s) (sym settings-are)
+      (record { manager = refl; least = refl; greatest = refl; powers = refl; limit = refl; count = refl; identifiers = rw eight })
 
   module _ (a : ℕ) where
     abbrev h : List Did
@@ -166,6 +188,30 @@ module _ (s : Settings) (ws : List ℕ) (ks : List Call) (eight : length (s .ide
           go : (t : Tracking) → marksOf l (shareAt i) t (c .ranges) ≡ off → t ≡ Off
           go Off q = refl
           go (On g n) q = let z : _≡_ {A = ℕ} 0 1 = cc in absurd (omega arith)
+
+      -- ---- suspend and resume
+
+      is-suspend : (kind : ℕ)
+          → let r = suspendChange d (length l) a kind in
+          ((r .number ≡ 0) ↔ (kind ≤ 1)) × (r .number ≡ 0 → Flagged d i (suspendedBy false h || eqb kind 1) r)
+      unfolding suspendChange
+      is-suspend kind = rw (place, sure) (go (leb kind 1) refl)
+        where
+          go : (b : Bool) → leb kind 1 ≡ b
+              → let r = cond b (flagDone d (some i) (c .suspended || eqb kind 1)) (record { number = 15; device = d }) in
+              ((r .number ≡ 0) ↔ (kind ≤ 1)) × (r .number ≡ 0 → Flagged d i (suspendedBy false h || eqb kind 1) r)
+          go true e = (((λ z. leb-true kind 1 e), (λ z. refl)), (λ z. rw flag-is))
+          go false e = (((λ z. absurd (omega (arith, z))), (λ k. absurd (omega (arith, leb-false kind 1 e)))), (λ z. absurd (omega (arith, z))))
+
+      is-resume : let r = resumeChange d (length l) a in ((r .number ≡ 0) ↔ (suspendedBy false h ≡ true)) × (r .number ≡ 0 → Flagged d i false r)
+      unfolding resumeChange
+      is-resume = rw (place, sure) (go (c .suspended) flag-is)
+        where
+          go : (b : Bool) → b ≡ suspendedBy false h
+              → let r = cond b (flagDone d (some i) false) (record { number = 13; device = d }) in
+              ((r .number ≡ 0) ↔ (suspendedBy false h ≡ true)) × (r .number ≡ 0 → Flagged d i false r)
+          go true e = (((λ z. sym e), (λ z. refl)), (λ z. refl))
+          go false e = (((λ z. absurd (omega (arith, z))), (λ k. absurd (true≢false (sym k ∙ sym e)))), (λ z. absurd (omega (arith, z))))
 
       -- ---- what is not refused
 
@@ -289,6 +335,7 @@ module _ (s : Settings) (ws : List ℕ) (ks : List Call) (eight : length (s .ide
             let fit : 16 + 16 * length (r .descriptors) ≤ length x = omega (arith, long, listed-few k us p) in
             record {
               report = refl;
+              says = (refl, refl);
               reports = rules.demand-2 .reports s (length ws) ks a (suspendedBy false h) g rs p (sym (slot-same s ws ks eight a) ∙ is-told ∙ ap (λ t. slot (suspendedBy false h) (marksBy h t)) by) k;
               fits = rules.demand-2 .room (length x) (omega (arith, long));
               answer = refl;
@@ -359,6 +406,8 @@ module _ (s : Settings) (ws : List ℕ) (ks : List Call) (eight : length (s .ide
           may-start = λ i x at. may-start i at x;
           started = λ i x at. is-started i at x;
           stopped = λ i at. is-stopped i at;
+          suspends = λ i kind at. is-suspend i at kind;
+          resumes = λ i at. is-resume i at;
         }
 
 -- ---- all of it
@@ -368,7 +417,9 @@ demand-2 =
     record {
       rules = λ s a ws ks eight. equals s ws ks eight a ks (record { answers = refl; bytes = refl; units = refl });
       fresh = fresh-is;
-      settings = settings-are;
+      bits = bit-at;
+      place = is-place;
+      settings = settings-kept;
       stands = is-standing;
       touches = rules.demand-2 .touches;
     }

@@ -1,11 +1,12 @@
 -- Demand 2, as statements about the calls of `tracker`, after any session of them: fresh, then any calls in any order. Its settings have the eight places of
 -- their type. What is said of a controller begins with what its own calls and answers tell (rules' History), not with what the record says.
-use Prim.Native.Nat.{ℕ, _+_, _^_, _≤_, _<_}
+use Prim.Native.Nat.{ℕ, _+_, _-_, _*_, _/_, _%_, _^_, _≤_, _<_}
 use mathlib.Core.Path.{_≡_}
 use mathlib.Core.Logic.{_↔_}
 use mathlib.Core.Bool.{Bool, true, false, _||_}
 use mathlib.Core.List.{List, [], _++_, map}
 use mathlib.Core.Option.{none, some}
+use lib.Dec.{eqb}
 use lib.ListN.{length, take, drop, getD, getElem?, replicate}
 use Rattle.bits.specs.Flat.{flat}
 use Rattle.rules.specs.Refusals.{passes}
@@ -15,7 +16,7 @@ use Rattle.rules.specs.StartData.{granularityOf, countOf, rangesOf, headerTests
 use Rattle.rules.specs.Report.{room, reportOn, marksLeft, reportBytes}
 use Rattle.rules.specs.ReportReader.{reportSize}
 use Rattle.rules.specs.Order.{Op, start, stop, write, startListed}
-use Rattle.rules.specs.Device.{cleaned, freshDevice}
+use Rattle.rules.specs.Device.{freshDevice}
 use Rattle.rules.specs.Machine.{refused, pendingIn, countsIn, slotOf, lent}
 use Rattle.rules.specs.History.{Did, PendingBy, pendingBy, tracksBy, suspendedBy, slotBy}
 use Rattle.rules.specs.Demands.{sessionEnd, sessionHistory, lentBytes, UnitsListed, Reports, Room, ReadBack, Touches, Writes}
@@ -25,8 +26,9 @@ use Rattle.rules.specs.declared.Tracking.{Tracking}
 use Rattle.rules.specs.declared.Tracking.the-variants.{Off, On}
 use Rattle.rules.specs.declared.Settings.{Settings}
 use Rattle.rules.specs.declared.Device.{Device}
-use Rattle.record.specs.Record.{withController}
-use Rattle.calls.specs.Calls.{Change, Receipt, freshChange, startChange, stopChange, writeNote, receiveReceipt}
+use Rattle.record.specs.Record.{controllerAt, withController}
+use Rattle.calls.specs.declared.Changed.{Changed}
+use Rattle.calls.specs.Calls.{Change, Receipt, freshChange, startChange, stopChange, suspendChange, resumeChange, writeNote, receiveReceipt}
 use Rattle.demands.specs.View.{view}
 use Rattle.demands.specs.Sessions.{Left, outcome, endOf, historyIn, bytesIn}
 
@@ -55,11 +57,27 @@ pub record Elsewhere (i n : ℕ) (ws ws′ : List ℕ) : Type 0 where
   pub below : (b : ℕ) → b < shareAt i → getD (flat ws′) b false ≡ getD (flat ws) b false
   pub above : (b : ℕ) → shareAt i + n ≤ b → getD (flat ws′) b false ≡ getD (flat ws) b false
 
+-- settings t as they were given, with zeros in the places of identifiers that are not in use
+pub record Kept (s t : Settings) : Type 0 where
+  pub manager : t .manager ≡ s .manager
+  pub least : t .least ≡ s .least
+  pub greatest : t .greatest ≡ s .greatest
+  pub powers : t .powers ≡ s .powers
+  pub limit : t .limit ≡ s .limit
+  pub count : t .count ≡ s .count
+  pub identifiers : t .identifiers ≡ take (s .count) (s .identifiers) ++ replicate (8 - s .count) 0
+
 -- the marks that a history tells of some units
 abbrev pub toldOf : List Did → List Unit → List Bool
 toldOf h us = map (pendingBy h) us
 
 -- ---- an accepted call
+
+-- a suspend or a resume of the controller at place i: its flag is set or clear, and all else is as it was
+abbrev pub Flagged : Device → ℕ → Bool → Changed → Type 0
+Flagged d i b c =
+    let was = controllerAt d (some i) in
+    c .device ≡ withController d i (record { tracking = was .tracking; suspended = b; ranges = was .ranges })
 
 -- a start or a stop of the controller at place i: its record is replaced, its share is clear, and all else is as it was
 pub record Replaced (d : Device) (ws : List ℕ) (i : ℕ) (tracking : Tracking) (suspended : Bool) (ranges : List Range) (c : Change) : Type 0 where
@@ -81,6 +99,7 @@ pub record Wrote (h : List Did) (i : ℕ) (us : List Unit) (w : Write) (ws : Lis
 pub record Received (h : List Did) (a i g : ℕ) (us : List Unit) (x : List ℕ) (ws : List ℕ) (r : Receipt) : Type 0 where
   -- "A report lists the earliest pending runs that fit; More To Report is clear exactly when nothing stays pending"; it says suspended as the history does
   pub report : r .report ≡ reportOn (suspendedBy false h) g (room (length x)) us (toldOf h us)
+  pub says : (r .report .suspended ≡ suspendedBy false h) × (r .report .granularity ≡ g)
   pub reports : Reports (suspendedBy false h) g (room (length x)) us (toldOf h us)
   pub fits : Room (length x)
   -- the answer says what the report's header says
@@ -148,6 +167,14 @@ pub record Stands (s : Settings) (ws : List ℕ) (ks : List Call) (a : ℕ) : Ty
   pub stopped : (i : ℕ) → placeOf s a ≡ some i
       → let c = stopChange (endOf s ws ks .device) (endOf s ws ks .marks) a in
       c .answer .number ≡ 0 → Replaced (endOf s ws ks .device) (endOf s ws ks .marks) i Off false [] c
+  -- "Suspend type 1 suspends, also where already suspended. Type 0 is a notice and changes nothing"; it is refused for another type alone
+  pub suspends : (i kind : ℕ) → placeOf s a ≡ some i
+      → let c = suspendChange (endOf s ws ks .device) (length (endOf s ws ks .marks)) a kind in
+      ((c .number ≡ 0) ↔ (kind ≤ 1)) × (c .number ≡ 0 → Flagged (endOf s ws ks .device) i (suspendedBy false (historyIn s ws ks a) || eqb kind 1) c)
+  -- a resume makes the flag clear; it is refused for one that is not suspended alone
+  pub resumes : (i : ℕ) → placeOf s a ≡ some i
+      → let c = resumeChange (endOf s ws ks .device) (length (endOf s ws ks .marks)) a in
+      ((c .number ≡ 0) ↔ (suspendedBy false (historyIn s ws ks a) ≡ true)) × (c .number ≡ 0 → Flagged (endOf s ws ks .device) i false c)
 
 -- ---- all of it
 
@@ -158,10 +185,14 @@ pub record Demand2 : Type 1 where
   pub fresh : (s : Settings) (ws : List ℕ)
       → let c = freshChange s ws in
       c .answer .number ≡ 0 → (c .answer .device ≡ freshDevice s) × (c .marks ≡ replicate markWords 0)
+  -- "The controllers in the settings have 64 words each, in their order there, one bit a unit, lowest bit first"
+  pub bits : (ws : List ℕ) (i m : ℕ) → bitOf ws i m ≡ eqb (getD ws (64 * i + m / 64) 0 / 2 ^ (m % 64) % 2) 1
+  -- an identifier stands where the settings list it
+  pub place : (s : Settings) (a i : ℕ) → length (s .identifiers) ≡ 8 → placeOf s a ≡ some i → (i < s .count) × (getD (s .identifiers) i 0 ≡ a)
   -- after any calls from it, each given what the last one left: the settings are those that it was made with, and each controller stands as its calls and
   -- answers tell
   pub settings : (s : Settings) (ws : List ℕ) (ks : List Call) → length (s .identifiers) ≡ 8 → freshChange s ws .answer .number ≡ 0
-      → endOf s ws ks .device .settings ≡ cleaned s
+      → Kept s (endOf s ws ks .device .settings)
   pub stands : (s : Settings) (ws : List ℕ) (ks : List Call) → length (s .identifiers) ≡ 8 → freshChange s ws .answer .number ≡ 0 → (a : ℕ) → Stands s ws ks a
   -- "A written range … touches each unit with which it shares a byte"
   pub touches : (w : Write) (u : Unit) → Touches w u

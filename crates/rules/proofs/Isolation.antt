@@ -46,13 +46,16 @@ limit-same k n l y refuse = go (leb (k + n) l) refl
     go true e f = let h = leb-true (k + n) l e in rw (le-leb (k + 0) l (omega arith))
     go false e f = absurd (f refl)
 
-slotStep-same : (b : Bool) (s : Settings) (a : ℕ) (c : Slot) (n : ℕ) (o : Op) → numberOf ((slotStep s (seenFor b s a c n) c o) .0) ≢ 12
+not-limit : (n : ℕ) → not (member n (12 ∷ [])) ≡ true → n ≢ 12
+not-limit n e q = true≢false (sym e ∙ ap (λ m. not (member m (12 ∷ []))) q)
+
+slotStep-same : (b : Bool) (s : Settings) (a : ℕ) (c : Slot) (n : ℕ) (o : Op) → not (member (numberOf ((slotStep s (seenFor b s a c n) c o) .0)) (sharedRefusals o)) ≡ true
     → aloneStep b s a c o ≡ slotStep s (seenFor b s a c n) c o
 unfolding order
 slotStep-same b s a c n (start x) f =
     verdict-append before (last 0) y refuse
     ∙ verdict-same (refuse 12 0) before (verdict (last n) y refuse) (verdict (last 0) y refuse) refuse (limit-same (countOf x) n (s .limit) y refuse)
-    (λ e. f (ap (λ (r : Answer × Slot). numberOf (r .0)) (verdict-append before (last n) y refuse ∙ e)))
+    (λ e. not-limit (numberOf ((slotStep s (seenFor b s a c n) c (start x)) .0)) f (ap (λ (r : Answer × Slot). numberOf (r .0)) (verdict-append before (last n) y refuse ∙ e)))
     ∙ sym (verdict-append before (last n) y refuse)
   where
     before : List Test
@@ -143,9 +146,6 @@ seems-own a st k ks os z own same h =
 
 -- ---- a session in which it is not hindered
 
-not-shared : (n : ℕ) → not (member n sharedRefusals) ≡ true → n ≢ 12
-not-shared n e q = true≢false (sym e ∙ ap (λ m. not (member m sharedRefusals)) q)
-
 pub seems-unhindered : (a : ℕ) (ks : List Call) (st : State) → Sized st → unhindered (historyOf a (events st ks)) ≡ true → Seems a st ks (ops a ks)
 seems-unhindered a [] st z f = record { history = refl; end = refl }
 seems-unhindered a (k ∷ ks) st z f =
@@ -167,10 +167,11 @@ seems-unhindered a (k ∷ ks) st z f =
         × (slotOf (after st′ ks) a ≡ aloneAfter (soundState st) (st .settings) a (slotOf st a) (cond b (k .op ∷ ops a ks) (ops a ks)))
     go true q ih f =
         let own : k .id ≡ a = eqb-true (k .id) a q in
-        let free : numberOf ((ownStep st a (k .op)) .0) ≢ 12 =
-        subst (λ (x : Answer). numberOf x ≢ 12) (step-own-answer st k a own) (not-shared (numberOf ((step st k) .0)) (and-left (not (member (numberOf ((step st k) .0)) sharedRefusals)) (unhindered (historyOf a es)) f)) in
+        let free : not (member (numberOf ((ownStep st a (k .op)) .0)) (sharedRefusals (k .op))) ≡ true =
+        subst (λ (x : Answer). not (member (numberOf x) (sharedRefusals (k .op))) ≡ true) (step-own-answer st k a own)
+        (and-left (not (member (numberOf ((step st k) .0)) (sharedRefusals (k .op)))) (unhindered (historyOf a es)) f) in
         seems-own a st k ks (ops a ks) z own (sym (slotStep-same (soundState st) (st .settings) a (slotOf st a) (countsIn st) (k .op) free))
-        (ih (and-right (not (member (numberOf ((step st k) .0)) sharedRefusals)) (unhindered (historyOf a es)) f))
+        (ih (and-right (not (member (numberOf ((step st k) .0)) (sharedRefusals (k .op)))) (unhindered (historyOf a es)) f))
     go false q ih f = seems-other a st k ks (ops a ks) (eqb-false (k .id) a q) (ih f)
 
 -- ---- a session of its calls alone: the counts are its own, which do not matter to it

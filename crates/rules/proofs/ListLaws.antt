@@ -284,6 +284,27 @@ pub any-last : {A : Type 0} (p : A → Bool) (xs : List A) (y : A) → any p (xs
 any-last p [] y e = or-left-false (p y) false e
 any-last p (x ∷ xs) y e = any-last p xs y (or-right-false (p x) (any p (xs ++ y ∷ [])) e)
 
+-- an element that passes, and one that does not, by their places
+pub any-none-at : {A : Type 0} (p : A → Bool) (xs : List A) (n j : ℕ) (d : A) → any p (take n xs) ≡ false → j < n → j < length xs → p (getD xs j d) ≡ false
+any-none-at p [] n j d e h k = absurd (omega arith)
+any-none-at p (x ∷ xs) zero j d e h k = absurd (omega arith)
+any-none-at p (x ∷ xs) (suc n) zero d e h k = or-left-false (p x) (any p (take n xs)) e
+any-none-at p (x ∷ xs) (suc n) (suc j) d e h k = any-none-at p xs n j d (or-right-false (p x) (any p (take n xs)) e) (omega arith) (omega arith)
+
+pub any-from : {A : Type 0} (p : A → Bool) (xs : List A) (j : ℕ) (d : A) → j < length xs → p (getD xs j d) ≡ true → any p xs ≡ true
+any-from p [] j d h e = absurd (omega arith)
+any-from p (x ∷ xs) zero d h e = or-intro-left (p x) (any p xs) e
+any-from p (x ∷ xs) (suc j) d h e = or-intro-right (p x) (any p xs) (any-from p xs j d (omega arith) e)
+
+pub any-where : {A : Type 0} (p : A → Bool) (xs : List A) → any p xs ≡ true → (m : ℕ) × (x : A) × (getElem? xs m ≡ some x) × (p x ≡ true)
+any-where p [] e = absurd (true≢false (sym e))
+any-where {A} p (x ∷ xs) e = go (any-where p xs) (p x) refl e
+  where
+    go : (any p xs ≡ true → (m : ℕ) × (y : A) × (getElem? xs m ≡ some y) × (p y ≡ true)) → (b : Bool) → p x ≡ b → (b || any p xs) ≡ true
+        → (m : ℕ) × (y : A) × (getElem? (x ∷ xs) m ≡ some y) × (p y ≡ true)
+    go later true q h = (0, x, refl, q)
+    go later false q h = let r = later h in (suc (r .0), r .1, r .2, r .3)
+
 pub keep-length : {A : Type 0} (f : A → Bool) (xs : List A) → length (keep f xs) ≤ length xs
 keep-length f [] = omega arith
 keep-length f (x ∷ xs) = go (keep-length f xs) (f x)

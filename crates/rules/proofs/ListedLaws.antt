@@ -12,15 +12,15 @@ use native.Mathlib.Decide.{decLt}
 use lib.Dec.{leb, ltb, eqb}
 use lib.ListN.{length, take, getD, getElem?, length-append}
 use lib.Seq.{getD-at, take-at}
-use borrow.Author.Tests.{le-leb, lt-ltb, leb-true, ltb-true, eq-eqb, not-true}
+use borrow.Author.Tests.{le-leb, lt-ltb, leb-true, ltb-true, eq-eqb, eqb-true, not-true}
 use Rattle.rules.specs.Lists.{any, keep}
 use Rattle.rules.specs.Settings.{unitSize}
-use Rattle.rules.specs.Units.{Unit, unitsOfRow, covers, uncovered, unitsFrom, units}
+use Rattle.rules.specs.Units.{Unit, unitsOfRow, endOf, covers, uncovered, unitsFrom, units}
 use Rattle.rules.specs.Ranges.{rowOk, rowsOk}
 use Rattle.rules.specs.StartData.{noRange}
-use Rattle.rules.specs.Demands.{UnitsListed}
+use Rattle.rules.specs.Demands.{InRange, UnitsListed}
 use Rattle.rules.specs.declared.Range.{Range}
-use Rattle.rules.proofs.ListLaws.{All, All-map, All-both, All-append, All-keep, All-kept, All-at, Pairwise, Pairwise-append, Pairwise-keep, Pairwise-at, and-left, and-right, and-intro, or-intro-left, or-intro-right, or-neither, any-snoc, some-inj}
+use Rattle.rules.proofs.ListLaws.{All, All-map, All-both, All-append, All-keep, All-kept, All-at, Pairwise, Pairwise-append, Pairwise-keep, Pairwise-at, and-left, and-right, and-intro, or-intro-left, or-intro-right, or-neither, any-snoc, any-none-at, any-from, any-where, some-inj}
 use Rattle.rules.proofs.RowLaws.{rowOk-facts}
 use Rattle.rules.proofs.UnitLaws.{In, Free, Apart, Aligned, aligned-gap, unitSize-pos, unitsOfRow-row, unitsOfRow-within, unitsFrom-sized, unitsFrom-aligned, unitsFrom-apart}
 
@@ -162,6 +162,24 @@ units-ordered s row before (r ∷ rs) z =
     later : List Unit
     later = unitsFrom s (suc row) (before ++ r ∷ []) rs
 
+-- ---- a range covers what lies in it
+
+covers-in : (g : ℕ) (r : Range) (x : ℕ) → covers (unitSize g) r x ≡ true → InRange g r x
+covers-in g r x e = (
+  leb-true (r .start) x (and-left (leb (r .start) x) (ltb x (endOf (unitSize g) r)) e),
+  ltb-true x (endOf (unitSize g) r) (and-right (leb (r .start) x) (ltb x (endOf (unitSize g) r)) e),
+)
+
+in-covers : (g : ℕ) (r : Range) (x : ℕ) → InRange g r x → covers (unitSize g) r x ≡ true
+in-covers g r x w =
+    and-intro (leb (r .start) x) (ltb x (endOf (unitSize g) r)) (le-leb (r .start) x (w .0)) (lt-ltb x (endOf (unitSize g) r) (w .1))
+
+-- past the last range there is none, of length 0
+in-listed : (g : ℕ) (rs : List Range) (j x : ℕ) → InRange g (getD rs j noRange) x → j < length rs
+in-listed g [] j x w = absurd (omega (arith, w .0, w .1, zero-mul (unitSize g)))
+in-listed g (r ∷ rs) zero x w = omega arith
+in-listed g (r ∷ rs) (suc j) x w = omega (arith, in-listed g rs j x w)
+
 -- ---- all of it
 
 aligned-of : (g : ℕ) (rs : List Range) → rowsOk g rs ≡ true → All (Aligned (unitSize g)) rs
@@ -177,8 +195,13 @@ units-listed g rs e =
       sized = λ m u q. All-at (λ v. v .size ≡ s) (units g rs) m u (unitsFrom-sized s 0 [] rs) q;
       multiple = λ m u q. All-at (λ v. v .address % s ≡ 0) (units g rs) m u (unitsFrom-aligned s 0 [] rs h) q;
       in-order = λ m n u v l p q. Pairwise-at Before (units g rs) (units-ordered s 0 [] rs (unitSize-pos g)) m n u v l p q;
-      own = λ m u q. All-at (Own s rs) (units g rs) m u o q .0;
-      earliest = λ m u q. All-at (Own s rs) (units g rs) m u o q .1;
-      there = λ x d c. all-begin s 0 [] rs x (unitSize-pos g) h d refl c;
+      own = λ m u q. covers-in g (getD rs (u .row) noRange) (u .address) (All-at (Own s rs) (units g rs) m u o q .0);
+      earliest = λ m u q j l w.
+          true≢false (sym (in-covers g (getD rs j noRange) (u .address) w)
+          ∙ any-none-at (λ r. covers s r (u .address)) rs (u .row) j noRange (All-at (Own s rs) (units g rs) m u o q .1) l (in-listed g rs j (u .address) w));
+      there = λ x j d w.
+          let c = any-from (λ r. covers s r x) rs j noRange (in-listed g rs j x w) (in-covers g (getD rs j noRange) x w) in
+          let f = any-where (λ (u : Unit). eqb (u .address) x) (units g rs) (all-begin s 0 [] rs x (unitSize-pos g) h d refl c) in
+          (f .0, f .1, f .2, eqb-true (f .1 .address) x (f .3));
       apart = λ m n u v p q x i j. Apart-at (units g rs) (unitsFrom-apart s 0 [] rs (unitSize-pos g) h) m n u v p q x i j;
     }

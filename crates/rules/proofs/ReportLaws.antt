@@ -4,15 +4,17 @@ use mathlib.Core.Logic.{_↔_}
 use mathlib.Core.Bool.{Bool, true, false, _&&_, not, cond, and-true, and-false, true≢false}
 use mathlib.Core.List.{List, [], _∷_, map}
 use mathlib.Core.Option.{some}
-use Prim.Native.Nat.{ℕ, _+_, _<_}
+use Prim.Native.Nat.{ℕ, zero, suc, _+_, _≤_, _<_}
 use native.Mathlib.Omega.{arith}
-use lib.ListN.{drop, getElem?}
+use lib.Dec.{eqb}
+use borrow.Author.Tests.{eqb-true, eq-eqb}
+use lib.ListN.{length, take, drop, getElem?}
 use Rattle.rules.specs.Lists.{all, join, nonEmpty}
 use Rattle.rules.specs.Settings.{unitSize}
 use Rattle.rules.specs.Units.{Unit, Write, touches, mark, newly, pending}
 use Rattle.rules.specs.Report.{follows, withFirst, runs, reportedRuns, marksLeft}
-use Rattle.rules.specs.Demands.{isRow, areCut, becomes, Reports, Writes}
-use Rattle.rules.proofs.ListLaws.{All, All-map, All-left, All-at, map-at, join-take-drop, and-intro, not-intro}
+use Rattle.rules.specs.Demands.{isRow, areCut, becomes, setIn, Runs, Reports, Writes}
+use Rattle.rules.proofs.ListLaws.{All, All-map, All-left, All-at, map-at, join-take-drop, and-left, and-right, and-intro, not-intro}
 use Rattle.rules.proofs.UnitLaws.{Free, Apart, Sized, All-pending, Apart-pending, newly-is, unitSize-pos}
 use Rattle.rules.proofs.RunLaws.{listed, runs-join, runs-unlisted, first-runs, marksLeft-map, more-exactly}
 
@@ -89,6 +91,36 @@ module _ (f : Unit → Bool) (g k : ℕ) (us : List Unit) (sized : Sized (unitSi
   pub unlisted-same : listed g (reportedRuns k us (map f us)) u ≡ false → getElem? (marksLeft k us (map f us)) n ≡ getElem? (map f us) n
   unlisted-same e = left-at ∙ rw e (ap some (and-true (f u))) ∙ sym (map-at f us n u at)
 
+-- ---- pending units, in order
+
+pending-each : (us : List Unit) (p : List Bool) (n : ℕ) (u : Unit) → getElem? us n ≡ some u → getElem? p n ≡ some true → getElem? (pending us p) (setIn (take n p)) ≡ some u
+pending-each [] p n u e f = let z : _≡_ {A = ℕ} 0 1 = cc in absurd (omega arith)
+pending-each (v ∷ us) [] n u e f = let z : _≡_ {A = ℕ} 0 1 = cc in absurd (omega arith)
+pending-each (v ∷ us) (true ∷ p) zero u e f = e
+pending-each (v ∷ us) (true ∷ p) (suc n) u e f = pending-each us p n u e f
+pending-each (v ∷ us) (false ∷ p) zero u e f = let z : _≡_ {A = ℕ} 0 1 = cc in absurd (omega arith)
+pending-each (v ∷ us) (false ∷ p) (suc n) u e f = pending-each us p n u e f
+
+pending-no-more : (us : List Unit) (p : List Bool) → length (pending us p) ≤ setIn p
+pending-no-more [] p = omega arith
+pending-no-more (u ∷ us) [] = omega arith
+pending-no-more (u ∷ us) (true ∷ p) = omega (arith, pending-no-more us p)
+pending-no-more (u ∷ us) (false ∷ p) = pending-no-more us p
+
+-- when a unit follows another, and what tells of a run
+pub runs-are : Runs
+runs-are =
+    record {
+      follows = λ u v. (
+        (λ e. (
+          eqb-true (u .row) (v .row) (and-left (eqb (u .row) (v .row)) (eqb (u .address + u .size) (v .address)) e),
+          eqb-true (u .address + u .size) (v .address) (and-right (eqb (u .row) (v .row)) (eqb (u .address + u .size) (v .address)) e),
+        )),
+        (λ h. and-intro (eqb (u .row) (v .row)) (eqb (u .address + u .size) (v .address)) (eq-eqb (u .row) (v .row) (h .0)) (eq-eqb (u .address + u .size) (v .address) (h .1))),
+      );
+      descriptor = λ u us. refl;
+    }
+
 nonEmpty-not : (us : List Unit) → (nonEmpty us ≡ false) ↔ (us ≡ [])
 nonEmpty-not [] = ((λ e. refl), (λ e. refl))
 nonEmpty-not (u ∷ us) = ((λ e. absurd (true≢false e)), (λ e. ap nonEmpty e))
@@ -97,6 +129,7 @@ nonEmpty-not (u ∷ us) = ((λ e. absurd (true≢false e)), (λ e. ap nonEmpty e
 pub reports-map : (b : Bool) (f : Unit → Bool) (g k : ℕ) (us : List Unit) → Sized (unitSize g) us → Apart us → Reports b g k us (map f us)
 reports-map b f g k us sized separate =
     record {
+      are-pending = record { each = pending-each us (map f us); no-more = pending-no-more us (map f us) };
       in-order = runs-join (pending us (map f us));
       rows = runs-cut (pending us (map f us)) .0;
       longest = runs-cut (pending us (map f us)) .1;

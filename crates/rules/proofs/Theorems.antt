@@ -14,12 +14,14 @@ use Rattle.rules.specs.Settings.{settingsOk, placeOf, granularityOk, uni
 use Rattle.rules.specs.Units.{Unit, Write, units, touches}
 use Rattle.rules.specs.Ranges.{rangeTests, powersOk, unitsOk}
 use Rattle.rules.specs.StartData.{rangesOf, startBytes}
+use Rattle.rules.specs.Report.{reportBytes}
 use Rattle.rules.specs.Order.{Op, start, stop, write, receive, suspend, resume, order}
 use Rattle.rules.specs.Device.{sound, heldOk}
 use Rattle.rules.specs.Machine.{Answer, refused, off, on, Slot, slot, pendingIn, accepted, State, opened, fresh, closed, slotAt, withSlot, slotOf, seenAt, stepAt, Call, step, after}
 use Rattle.rules.specs.History.{Did, only, pendingBy}
 use Rattle.rules.specs.Demands.{sessionEnd, sessionHistory, Refusals, Soundness, Pending, Demand2, Agree, unhindered, lentBytes, Demand3, Granularities}
 use Rattle.rules.specs.Worked.{cases, Worked}
+use Rattle.rules.specs.Layouts.{Layouts}
 use Rattle.rules.specs.declared.Settings.{Settings}
 use Rattle.rules.proofs.ListLaws.{map-at, some-inj}
 use Rattle.rules.proofs.RefusalLaws.{verdict-has}
@@ -29,7 +31,7 @@ use Rattle.rules.proofs.SlotHistory.{Known, pendingBy-iff}
 use Rattle.rules.proofs.SoundLaws.{after-sound, fresh-opens, fresh-closed, closed-unsound}
 use Rattle.rules.proofs.Sessions.{known-session, slot-told}
 use Rattle.rules.proofs.Isolation.{withSlot-slotAt, step-unsound, history-alone, slot-alone}
-use Rattle.rules.proofs.ReportLaws.{reports-map, writes-always}
+use Rattle.rules.proofs.ReportLaws.{reports-map, runs-are, writes-always}
 
 -- ---- refusals
 
@@ -108,6 +110,7 @@ demand-2 =
           let w : Known h b (on g rs p) = rw e at (known-session s words a ks) in
           rw (w .marks .0) (reports-map b (pendingBy h) g k (units g rs) (unitsFrom-sized (unitSize g) 0 [] rs) (w .marks .1));
       touches = λ w u. record { exactly = λ z. shares-a-byte w u z; none = λ e. rw e };
+      runs = runs-are;
       room = λ bytes h. record { fits = omega arith; no-more = omega arith };
       writes = writes-always;
     }
@@ -156,3 +159,9 @@ granularity g h =
 pub worked : Worked
 unfolding cases settingsOk placeOf granularityOk rangeTests powersOk unitsOk rangesOf startBytes fresh step order sound heldOk numberAt numberBytes records recordsAt
 worked = refl
+
+-- ---- the bytes of a start structure and of a report
+
+pub layouts : Layouts
+unfolding startBytes reportBytes numberBytes records
+layouts = record { structure = refl; report = refl; more = refl }

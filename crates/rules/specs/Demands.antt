@@ -1,6 +1,6 @@
 -- What is asked of the rules, as statements, each proved in proofs/Theorems.antt. A session is any list of calls from a fresh device, each call given what
 -- the last one left; a refused fresh makes the closed device, and the statements hold of it too.
-use Prim.Native.Nat.{ℕ, suc, _+_, _%_, _^_, _≤_, _<_}
+use Prim.Native.Nat.{ℕ, suc, _+_, _*_, _%_, _^_, _≤_, _<_}
 use mathlib.Core.Path.{_≡_}
 use mathlib.Core.Logic.{_≢_, _↔_, _⊎_}
 use mathlib.Core.Bool.{Bool, true, false, _&&_, not}
@@ -11,12 +11,12 @@ use lib.ListN.{length, take, drop, getD, getElem?}
 use Rattle.rules.specs.Lists.{all, any, join, member}
 use Rattle.rules.specs.Refusals.{refusal}
 use Rattle.rules.specs.Settings.{unitSize, bytesOf}
-use Rattle.rules.specs.Units.{Unit, Write, covers, units, touches, mark, newly, pending}
+use Rattle.rules.specs.Units.{Unit, Write, units, touches, mark, newly, pending}
 use Rattle.rules.specs.Ranges.{rowsOk}
 use Rattle.rules.specs.StartData.{noRange, startSize, startBytes, startData, startWritten, placed}
 use Rattle.rules.specs.Report.{follows, runs, Descriptor, descriptor, Report, room, reportOn, marksLeft}
 use Rattle.rules.specs.ReportReader.{reportSize, bit, reportRefusal, reportSuspended, reportMore, reportIdentifier, reportGranularity, reportCount, reportRefusalAt, reportAddress, reportLength}
-use Rattle.rules.specs.Order.{freshOrder}
+use Rattle.rules.specs.Order.{Op, start, stop, write, receive, suspend, resume, freshOrder}
 use Rattle.rules.specs.Machine.{refused, slot, on, pendingIn, State, fresh, soundState, slotOf, Call, step, after, events, lent, stored, numberOf, newlyOf, noReport, reportOf}
 use Rattle.rules.specs.History.{Did, only, historyOf, PendingBy, lists, slotBy}
 use Rattle.rules.specs.declared.Range.{Range}
@@ -55,6 +55,10 @@ pub record Pending (s : Settings) (words : ℕ) (ks : List Call) (a : ℕ) : Typ
       → (n : ℕ) (u : Unit) → getElem? (units g rs) n ≡ some u
       → (getElem? p n ≡ some true) ↔ PendingBy (sessionHistory s words ks a) u
 
+-- a byte lies in a range, with units of 2^g times 4 KiB
+abbrev pub InRange : ℕ → Range → ℕ → Type 0
+InRange g r x = (r .start ≤ x) × (x < r .start + r .length * 2 ^ (12 + g))
+
 -- which units ranges have, and their order: of ranges that pass 9 each by itself
 pub record UnitsListed (g : ℕ) (rs : List Range) : Type 0 where
   -- "A granularity n means a unit of 2^n times 4 KiB": each has that size, and stands at a multiple of it
@@ -65,10 +69,10 @@ pub record UnitsListed (g : ℕ) (rs : List Range) : Type 0 where
       → (u .row < v .row) ⊎ ((u .row ≡ v .row) × (u .address < v .address))
   -- W2: "A unit covered by several ranges counts once and belongs to the earliest listed": it is covered by the range in whose row it stands, and by none
   -- that is listed before
-  pub own : (m : ℕ) (u : Unit) → getElem? (units g rs) m ≡ some u → covers (unitSize g) (getD rs (u .row) noRange) (u .address) ≡ true
-  pub earliest : (m : ℕ) (u : Unit) → getElem? (units g rs) m ≡ some u → any (λ r. covers (unitSize g) r (u .address)) (take (u .row) rs) ≡ false
+  pub own : (m : ℕ) (u : Unit) → getElem? (units g rs) m ≡ some u → InRange g (getD rs (u .row) noRange) (u .address)
+  pub earliest : (m : ℕ) (u : Unit) → getElem? (units g rs) m ≡ some u → (j : ℕ) → j < u .row → InRange g (getD rs j noRange) (u .address) → ⊥
   -- each one that a range covers is there
-  pub there : (x : ℕ) → x % unitSize g ≡ 0 → any (λ r. covers (unitSize g) r x) rs ≡ true → any (λ (u : Unit). eqb (u .address) x) (units g rs) ≡ true
+  pub there : (x j : ℕ) → x % unitSize g ≡ 0 → InRange g (getD rs j noRange) x → (m : ℕ) × (u : Unit) × (getElem? (units g rs) m ≡ some u) × (u .address ≡ x)
   -- and once: no two have a byte in common
   pub apart : (m n : ℕ) (u v : Unit) → getElem? (units g rs) m ≡ some u → getElem? (units g rs) n ≡ some v
       → (x : ℕ) → (u .address ≤ x) × (x < u .address + u .size) → (v .address ≤ x) × (x < v .address + v .size) → m ≡ n
@@ -94,9 +98,27 @@ areCut [] = true
 areCut (r ∷ []) = true
 areCut (r ∷ q ∷ rs) = isCut r q && areCut (q ∷ rs)
 
+-- how many of some marks are set
+abbrev pub setIn : List Bool → ℕ
+setIn [] = 0
+setIn (true ∷ p) = suc (setIn p)
+setIn (false ∷ p) = setIn p
+
+-- a pending unit stands behind as many as are pending before it, and there are no others
+pub record PendingAre (us : List Unit) (p : List Bool) : Type 0 where
+  pub each : (n : ℕ) (u : Unit) → getElem? us n ≡ some u → getElem? p n ≡ some true → getElem? (pending us p) (setIn (take n p)) ≡ some u
+  pub no-more : length (pending us p) ≤ setIn p
+
+-- "A run is a longest row of consecutive pending units within one range"; it is told by its first address and its length in units
+pub record Runs : Type 0 where
+  pub follows : (u v : Unit) → (follows u v ≡ true) ↔ ((u .row ≡ v .row) × (u .address + u .size ≡ v .address))
+  pub descriptor : (u : Unit) (us : List Unit) → descriptor (u ∷ us) ≡ record { address = u .address; length = length (u ∷ us) }
+
 -- "A report lists the earliest pending runs that fit; More To Report is clear exactly when nothing stays pending": of a controller that a session
 -- left with marks p on the units us of its ranges, and a report with room for k runs
 pub record Reports (b : Bool) (g k : ℕ) (us : List Unit) (p : List Bool) : Type 0 where
+  -- the pending units, each once and in the order of the units
+  pub are-pending : PendingAre us p
   -- the runs are the pending units in their order, cut where the next unit does not follow in the same range, and nowhere else
   pub in-order : join (runs (pending us p)) ≡ pending us p
   pub rows : all isRow (runs (pending us p)) ≡ true
@@ -142,6 +164,7 @@ pub record Demand2 : Type 1 where
   pub pending : (s : Settings) (words : ℕ) (ks : List Call) (a : ℕ) → Pending s words ks a
   pub reports : (s : Settings) (words : ℕ) (ks : List Call) (a : ℕ) (b : Bool) (g : ℕ) (rs : List Range) (p : List Bool)
       → slotOf (sessionEnd s words ks) a ≡ slot b (on g rs p) → (k : ℕ) → Reports b g k (units g rs) p
+  pub runs : Runs
   pub room : (bytes : ℕ) → 16 ≤ bytes → Room bytes
   pub touches : (w : Write) (u : Unit) → Touches w u
   pub writes : (w : Write) (us : List Unit) (p : List Bool) → Writes w us p
@@ -186,13 +209,18 @@ pub record ReadBack (id : ℕ) (r : Report) (x : List ℕ) : Type 0 where
 
 -- ---- demand 3
 
--- the refusals that tell of what controllers share: the descriptor limit
-abbrev pub sharedRefusals : List ℕ
-sharedRefusals = 12 ∷ []
+-- the refusals of a call that tell of what controllers share: of a start the descriptor limit, and of no other call any
+abbrev pub sharedRefusals : Op → List ℕ
+sharedRefusals (start x) = 12 ∷ []
+sharedRefusals stop = []
+sharedRefusals (write w) = []
+sharedRefusals (receive x) = []
+sharedRefusals (suspend kind) = []
+sharedRefusals resume = []
 
 -- none of a controller's calls was refused for what it shares
 abbrev pub unhindered : List Did → Bool
-unhindered h = all (λ (d : Did). not (member (numberOf (d .answer)) sharedRefusals)) h
+unhindered h = all (λ (d : Did). not (member (numberOf (d .answer)) (sharedRefusals (d .op)))) h
 
 -- the bytes that a controller's calls leave in what was lent with them
 abbrev pub lentBytes : ℕ → List Did → List (List ℕ)

@@ -12,4 +12,5 @@ pub mod Machine
 pub mod History
 pub mod Demands
 pub mod Worked
+pub mod Layouts
 pub mod Promise
