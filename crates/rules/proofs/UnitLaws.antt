@@ -89,6 +89,14 @@ unitsOfRow-within row s r =
 pub unitSize-pos : (g : ℕ) → 0 < unitSize g
 unitSize-pos g = pow-pos (12 + g)
 
+-- a unit of a later range is covered by none of the ranges before
+unitsFrom-free : (s row : ℕ) (before rs : List Range) → All (λ v. any (λ q. covers s q (v .address)) before ≡ false) (unitsFrom s row before rs)
+unitsFrom-free s row before [] = tt
+unitsFrom-free s row before (r ∷ rs) =
+    All-append (λ v. any (λ q. covers s q (v .address)) before ≡ false) (keep (uncovered s before) (unitsOfRow row s (r .start) (r .length))) (unitsFrom s (suc row) (before ++ r ∷ []) rs)
+    (All-map (λ v e. not-true (any (λ q. covers s q (v .address)) before) e) (keep (uncovered s before) (unitsOfRow row s (r .start) (r .length))) (All-kept (uncovered s before) (unitsOfRow row s (r .start) (r .length))))
+    (All-map (λ v e. any-left (λ q. covers s q (v .address)) before (r ∷ []) e) (unitsFrom s (suc row) (before ++ r ∷ []) rs) (unitsFrom-free s (suc row) (before ++ r ∷ []) rs))
+
 pub unitsFrom-sized : (s row : ℕ) (before rs : List Range) → Sized s (unitsFrom s row before rs)
 unitsFrom-sized s row before [] = tt
 unitsFrom-sized s row before (r ∷ rs) =
@@ -104,14 +112,6 @@ unitsFrom-length s row before (r ∷ rs) =
     (omega (arith, keep-length (uncovered s before) (unitsOfRow row s (r .start) (r .length)), unitsOfRow-length row s (r .start) (r .length), unitsFrom-length s (suc row) (before ++ r ∷ []) rs))
 
 -- ---- each unit is there once: the units of ranges that begin at multiples of the unit share no byte
-
--- a unit of a later range is covered by none of the ranges before
-unitsFrom-free : (s row : ℕ) (before rs : List Range) → All (λ v. any (λ q. covers s q (v .address)) before ≡ false) (unitsFrom s row before rs)
-unitsFrom-free s row before [] = tt
-unitsFrom-free s row before (r ∷ rs) =
-    All-append (λ v. any (λ q. covers s q (v .address)) before ≡ false) (keep (uncovered s before) (unitsOfRow row s (r .start) (r .length))) (unitsFrom s (suc row) (before ++ r ∷ []) rs)
-    (All-map (λ v e. not-true (any (λ q. covers s q (v .address)) before) e) (keep (uncovered s before) (unitsOfRow row s (r .start) (r .length))) (All-kept (uncovered s before) (unitsOfRow row s (r .start) (r .length))))
-    (All-map (λ v e. any-left (λ q. covers s q (v .address)) before (r ∷ []) e) (unitsFrom s (suc row) (before ++ r ∷ []) rs) (unitsFrom-free s (suc row) (before ++ r ∷ []) rs))
 
 abbrev pub Aligned : ℕ → Range → Type 0
 Aligned s r = r .start % s ≡ 0
