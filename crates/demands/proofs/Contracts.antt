@@ -12,6 +12,7 @@ asks =
       suspend = λ κs a. tt;
       resume = λ κs a. tt;
       read-header = λ κs a. tt;
+      read-ranges = λ κs a. tt;
       read-start = λ κs a. tt;
       write-start = λ κs a. tt;
       refusal = λ κs a. tt;
@@ -24,6 +25,7 @@ asks =
       refusal-at = λ κs a. tt;
       address = λ κs a. tt;
       length = λ κs a. tt;
+      read-line = λ κs a. tt;
     }
 
 calls : CallsAre
@@ -42,6 +44,7 @@ structures : StructuresAre
 structures =
     record {
       read-header = λ κs a r e p. p .is;
+      read-ranges = λ κs a r e p. p;
       read-start = λ κs a r e p. p .is;
       write-start = λ κs a r e p. p;
     }
@@ -62,4 +65,4 @@ reader =
     }
 
 pub contracts : Contracts
-contracts = record { asks = asks; calls = calls; structures = structures; reader = reader }
+contracts = record { asks = asks; calls = calls; structures = structures; reader = reader; line = λ κs a r e p. p }

@@ -79,7 +79,7 @@ demand-1 =
                   startData-none x bad,
                 );
           };
-      write-start = λ buffer g n rs h. startWritten-refused buffer g n rs h;
+      write-start = λ buffer g n rs. record { first = refl; refused = startWritten-refused buffer g n rs };
       read-report = λ x.
           record {
             first = refl;

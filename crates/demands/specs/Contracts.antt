@@ -7,6 +7,8 @@ use lib.ListN.{length, take}
 use Rattle.rules.specs.Refusals.{refusal}
 use Rattle.rules.specs.StartData.{headerOf, startData, writeTests, startWritten}
 use Rattle.rules.specs.ReportReader.{reportRefusal, reportBadIndex, reportSuspended, reportMore, reportIdentifier, reportGranularity, reportCount, reportRefusalAt, reportAddress, reportLength}
+use Rattle.start_data.specs.Answer.{rangesRead}
+use Rattle.listing.specs.Listing.{lineOf}
 use Rattle.calls.specs.Calls.{freshChange, startChange, stopChange, writeNote, receiveReceipt, suspendChange, resumeChange}
 use Rattle.fresh.proofs.fresh.Reads as fresh
 use Rattle.track_send.proofs.start.Reads as start
@@ -18,6 +20,7 @@ use Rattle.migration_send.proofs.resume.Reads as resume
 use Rattle.start_data.proofs.read_header.Reads as read-header
 use Rattle.start_data.proofs.read_start.Reads as read-start
 use Rattle.start_data.proofs.write_start.Reads as write-start
+use Rattle.start_data.proofs.read_ranges.Reads as read-ranges
 use Rattle.report_reader.proofs.tmc_report_refusal.Reads as refusal-of
 use Rattle.report_reader.proofs.tmc_report_bad_index.Reads as bad-index
 use Rattle.report_reader.proofs.tmc_report_suspended.Reads as suspended
@@ -28,6 +31,7 @@ use Rattle.report_reader.proofs.tmc_report_count.Reads as count
 use Rattle.report_reader.proofs.tmc_report_refusal_at.Reads as refusal-at
 use Rattle.report_reader.proofs.tmc_report_address.Reads as address
 use Rattle.report_reader.proofs.tmc_report_length.Reads as run-length
+use Rattle.listing.proofs.read_line.Reads as read-line
 
 -- what each asks holds of any arguments
 pub record AsksNothing : Type 1 where
@@ -39,6 +43,7 @@ pub record AsksNothing : Type 1 where
   pub suspend : (κs : _) (a : _) → suspend.Pre κs a
   pub resume : (κs : _) (a : _) → resume.Pre κs a
   pub read-header : (κs : _) (a : _) → read-header.Pre κs a
+  pub read-ranges : (κs : _) (a : _) → read-ranges.Pre κs a
   pub read-start : (κs : _) (a : _) → read-start.Pre κs a
   pub write-start : (κs : _) (a : _) → write-start.Pre κs a
   pub refusal : (κs : _) (a : _) → refusal-of.Pre κs a
@@ -51,6 +56,7 @@ pub record AsksNothing : Type 1 where
   pub refusal-at : (κs : _) (a : _) → refusal-at.Pre κs a
   pub address : (κs : _) (a : _) → address.Pre κs a
   pub length : (κs : _) (a : _) → run-length.Pre κs a
+  pub read-line : (κs : _) (a : _) → read-line.Pre κs a
 
 -- the calls of `tracker`: the answer, every word of the marks that were lent to be changed, and every byte of the buffer
 pub record CallsAre : Type 1 where
@@ -75,6 +81,7 @@ pub record CallsAre : Type 1 where
 -- the start structure's readers and its writer
 pub record StructuresAre : Type 1 where
   pub read-header : (κs : _) (a : _) (r : _) (e : _) → read-header.Post κs a r e → r ≡ headerOf (now (a .0))
+  pub read-ranges : (κs : _) (a : _) (r : _) (e : _) → read-ranges.Post κs a r e → r ≡ rangesRead (now (a .0)) (a .1 .0)
   pub read-start : (κs : _) (a : _) (r : _) (e : _) → read-start.Post κs a r e → r ≡ startData (now (a .0))
   pub write-start : (κs : _) (a : _) (r : _) (e : _) → write-start.Post κs a r e
       → let n = a .1 .1 .0 in
@@ -98,3 +105,5 @@ pub record Contracts : Type 1 where
   pub calls : CallsAre
   pub structures : StructuresAre
   pub reader : ReaderIs
+  -- a line of the session listing
+  pub line : (κs : _) (a : _) (r : _) (e : _) → read-line.Post κs a r e → r ≡ lineOf (now (a .0))

@@ -63,7 +63,7 @@ pub record Demand1 : Type 0 where
       Answers (h .number) (readTests x) ((h .place ≡ placeIn (readTests x)) × (h .granularity ≡ 0) × (h .count ≡ 0) × (startData x .ranges ≡ placed []))
   -- its writer leaves every byte
   pub write-start : (buffer : List ℕ) (g n : ℕ) (rs : List Range)
-      → refusal (writeTests (length buffer) n) ≢ 0 → startWritten buffer g n rs ≡ buffer
+      → Answers (refusal (writeTests (length buffer) n)) (writeTests (length buffer) n) (startWritten buffer g n rs ≡ buffer)
   -- W1: of a refused report, and of a refused index, every other answer is 0
   pub read-report : (x : List ℕ)
       → Answers (reportRefusal x) (reportTests x)
