@@ -12,7 +12,7 @@ use Rattle.bits.specs.Flat.{flat, Words}
 use Rattle.bits.specs.Span.{fill}
 use Rattle.bits.proofs.Flat.{flat-length, flat-inj, flat-zeros}
 use Rattle.bits.proofs.Span.{fill-whole}
-use Rattle.rules.specs.Settings.{settingsOk}
+use Rattle.rules.specs.Settings.{markWords, settingsOk}
 use Rattle.rules.specs.Device.{freshDevice, closedDevice, freshOf}
 use Rattle.rules.specs.declared.Settings.{Settings}
 use Rattle.calls.specs.Calls.{freshChange, changed}
@@ -62,10 +62,10 @@ pub fresh-settings : (s : Settings) (ws : List ℕ) → settingsOk s ≡ false �
 unfolding freshChange freshOf
 fresh-settings s ws e = rw e
 
-pub fresh-words : (s : Settings) (ws : List ℕ) → settingsOk s ≡ true → (length ws ≡ 512 → ⊥) → freshChange s ws ≡ changed 1 closedDevice ws
+pub fresh-words : (s : Settings) (ws : List ℕ) → settingsOk s ≡ true → (length ws ≡ markWords → ⊥) → freshChange s ws ≡ changed 1 closedDevice ws
 unfolding freshChange freshOf
-fresh-words s ws e h = rw (e, ne-eqb (length ws) 512 h)
+fresh-words s ws e h = rw (e, ne-eqb (length ws) markWords h)
 
-pub fresh-done : (s : Settings) (ws : List ℕ) → settingsOk s ≡ true → length ws ≡ 512 → freshChange s ws ≡ changed 0 (freshDevice s) (replicate (length ws) 0)
+pub fresh-done : (s : Settings) (ws : List ℕ) → settingsOk s ≡ true → length ws ≡ markWords → freshChange s ws ≡ changed 0 (freshDevice s) (replicate (length ws) 0)
 unfolding freshChange freshOf
-fresh-done s ws e h = rw (e, eq-eqb (length ws) 512 h)
+fresh-done s ws e h = rw (e, eq-eqb (length ws) markWords h)

@@ -61,7 +61,7 @@ fn closed() -> Device
 }
 
 // Makes a fresh device from settings: all marks are 0, nobody is tracked or suspended. Refused, in this order: 16 settings that break the rules, 1
-// marks that are not 512 words; then the device is closed, all zeros, and answers 1 to every call.
+// marks of another number of words; then the device is closed, all zeros, and answers 1 to every call.
 pub fn fresh(s: Settings, marks: &mut [u64]) -> Changed
     ensures { λ r. ⌜ (r ≡ freshChange s (now (marks .entry)) .answer) × (now (marks .exit) ≡ freshChange s (now (marks .entry)) .marks) ⌝ }
 {

@@ -10,7 +10,7 @@ use lib.ListN.{length, getD}
 use borrow.Author.Tests.{leb-true, le-leb, lt-leb}
 use Rattle.rules.specs.Lists.{all, every, sum}
 use Rattle.rules.specs.Refusals.{Test, _else_, passes, refusal}
-use Rattle.rules.specs.Settings.{granularityOk, unitSize, bytesOf}
+use Rattle.rules.specs.Settings.{mostUnits, granularityOk, unitSize, bytesOf}
 use Rattle.rules.specs.Units.{endOf, units}
 use Rattle.rules.specs.Ranges.{rowTests, rowOk, rowsOk, rowsTests, rangeTests, isPower, powersOk, unitsOk, listTests}
 use Rattle.rules.specs.declared.Range.{Range}
@@ -81,11 +81,11 @@ rangeTests-passed g n rs h k e = rangeTests-passes g n rs ∙ rw (le-leb 1 n h, 
 -- ---- 9, 10 and 11
 
 -- 11 is passed where the lengths together are few enough, and else by the count of different units
-pub unitsOk-few : (g : ℕ) (rs : List Range) → sum (map (λ (r : Range). r .length) rs) ≤ 4096 → true ≡ unitsOk g rs
+pub unitsOk-few : (g : ℕ) (rs : List Range) → sum (map (λ (r : Range). r .length) rs) ≤ mostUnits → true ≡ unitsOk g rs
 unfolding unitsOk
-unitsOk-few g rs h = sym (le-leb (length (units g rs)) 4096 (omega (arith, h, unitsFrom-length (unitSize g) 0 [] rs)))
+unitsOk-few g rs h = sym (le-leb (length (units g rs)) mostUnits (omega (arith, h, unitsFrom-length (unitSize g) 0 [] rs)))
 
-pub unitsOk-count : (g : ℕ) (rs : List Range) (n : ℕ) → n ≡ length (units g rs) → leb n 4096 ≡ unitsOk g rs
+pub unitsOk-count : (g : ℕ) (rs : List Range) (n : ℕ) → n ≡ length (units g rs) → leb n mostUnits ≡ unitsOk g rs
 unfolding unitsOk
 unitsOk-count g rs n e = rw e
 
@@ -127,7 +127,7 @@ pub record HeldFacts (s : Settings) (g n : ℕ) (rs : List Range) : Type 0 where
   pub few : n ≤ 16
   pub rows : rowsOk g rs ≡ true
   pub powers : powersOk s rs ≡ true
-  pub total : length (units g rs) ≤ 4096
+  pub total : length (units g rs) ≤ mostUnits
 
 module _ (s : Settings) (g n : ℕ) (rs : List Range) where
   pub listTests-facts : s .greatest ≤ 20 → granularityOk s g ≡ true → Passed (listTests s g n rs) → HeldFacts s g n rs
@@ -142,5 +142,5 @@ module _ (s : Settings) (g n : ℕ) (rs : List Range) where
         few = leb-true n 16 (nine .1 .0);
         rows = sym (rowsTests-passes g 0 rs) ∙ passes-all (rowsTests g 0 rs) (nine .1 .1);
         powers = rest .0;
-        total = leb-true (length (units g rs)) 4096 (rest .1 .0);
+        total = leb-true (length (units g rs)) mostUnits (rest .1 .0);
       }

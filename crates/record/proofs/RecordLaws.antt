@@ -11,7 +11,7 @@ use lib.Dec.{leb, eqb}
 use borrow.Author.Tests.{eqb-true, eq-eqb, ne-eqb}
 use Rattle.rules.specs.Lists.{all, sum, isSome}
 use Rattle.rules.specs.Refusals.{Test, _else_, verdict, passes}
-use Rattle.rules.specs.Settings.{identifiersOf, settingsOk, placeOf, granularityOk}
+use Rattle.rules.specs.Settings.{markWords, identifiersOf, settingsOk, placeOf, granularityOk}
 use Rattle.rules.specs.Ranges.{listTests}
 use Rattle.rules.specs.Device.{heldCount, heldIn, heldOf, heldOk, controllersOf, soundRules, sound, soundDevice}
 use Rattle.rules.specs.declared.Range.{Range}
@@ -113,26 +113,26 @@ soundDevice-held d i g n e h k t =
 -- ---- where a call finds its controller
 
 module _ (d : Device) (words id : ℕ) where
-  pub whereIs-words : (words ≡ 512 → ⊥) → whereIs d words id ≡ Refused 1
+  pub whereIs-words : (words ≡ markWords → ⊥) → whereIs d words id ≡ Refused 1
   unfolding whereIs soundWith
-  whereIs-words h = rw (ne-eqb words 512 h, and-false (soundDevice d))
+  whereIs-words h = rw (ne-eqb words markWords h, and-false (soundDevice d))
 
   pub whereIs-unsound : soundDevice d ≡ false → whereIs d words id ≡ Refused 1
   unfolding whereIs soundWith
   whereIs-unsound e = rw e
 
   -- else as the search finds
-  pub whereIs-nothing : words ≡ 512 → soundDevice d ≡ true → foundAt (placeOf (d .settings) id) ≡ Nothing → whereIs d words id ≡ Refused 2
+  pub whereIs-nothing : words ≡ markWords → soundDevice d ≡ true → foundAt (placeOf (d .settings) id) ≡ Nothing → whereIs d words id ≡ Refused 2
   unfolding whereIs soundWith
-  whereIs-nothing h e f = rw (e, eq-eqb words 512 h) (go (placeOf (d .settings) id) f)
+  whereIs-nothing h e f = rw (e, eq-eqb words markWords h) (go (placeOf (d .settings) id) f)
     where
       go : (p : Option ℕ) → foundAt p ≡ Nothing → placeAt p ≡ Refused 2
       go none e = refl
       go (some i) e = let z : _≡_ {A = ℕ} 0 1 = cc in absurd (omega arith)
 
-  pub whereIs-found : (i : ℕ) → words ≡ 512 → soundDevice d ≡ true → foundAt (placeOf (d .settings) id) ≡ found.At i → whereIs d words id ≡ At i
+  pub whereIs-found : (i : ℕ) → words ≡ markWords → soundDevice d ≡ true → foundAt (placeOf (d .settings) id) ≡ found.At i → whereIs d words id ≡ At i
   unfolding whereIs soundWith
-  whereIs-found i h e f = rw (e, eq-eqb words 512 h) (go (placeOf (d .settings) id) f)
+  whereIs-found i h e f = rw (e, eq-eqb words markWords h) (go (placeOf (d .settings) id) f)
     where
       go : (p : Option ℕ) → foundAt p ≡ found.At i → placeAt p ≡ At i
       go none e = let z : _≡_ {A = ℕ} 0 1 = cc in absurd (omega arith)
@@ -152,12 +152,12 @@ whereIs-refused d words id n e ts done refuse = go (soundWith d words) (placeOf 
     go true none e = let z : 2 ≡ n = cc in ap (λ k. refuse k 0) z
     go true (some i) e = let z : _≡_ {A = ℕ} 0 1 = cc in absurd (omega arith)
 
--- what is known where a place was found: the record is sound and the marks are 512 words, together and each by itself; the identifier stands
+-- what is known where a place was found: the record is sound and the marks have their words, together and each by itself; the identifier stands
 -- there in the settings; the place is one of 8, and in use
 pub record Located (d : Device) (words id i : ℕ) : Type 0 where
   pub seen : soundWith d words ≡ true
   pub sound : soundDevice d ≡ true
-  pub whole : words ≡ 512
+  pub whole : words ≡ markWords
   pub place : placeOf (d .settings) id ≡ some i
   pub below : i < 8
   pub used : i < d .settings .count
@@ -171,13 +171,13 @@ pub whereIs-at : (d : Device) (words id i : ℕ) → whereIs d words id ≡ At i
 unfolding whereIs soundWith placeOf
 whereIs-at d words id i e =
     let w = placeAt-at (soundWith d words) (placeOf (d .settings) id) i e in
-    let s = and-left (soundDevice d) (eqb words 512) (w .0) in
+    let s = and-left (soundDevice d) (eqb words markWords) (w .0) in
     let m = placeFrom-is (identifiersOf (d .settings)) 0 id i (w .1) in
     let used : i < d .settings .count = omega (arith, m .1, m .2, length-take (d .settings .count) (d .settings .identifiers)) in
     record {
       seen = w .0;
       sound = s;
-      whole = eqb-true words 512 (and-right (soundDevice d) (eqb words 512) (w .0));
+      whole = eqb-true words markWords (and-right (soundDevice d) (eqb words markWords) (w .0));
       place = w .1;
       below = omega (arith, soundDevice-facts d s .count);
       used = used;

@@ -9,6 +9,7 @@ use lib.Dec.{eqb}
 use lib.ListN.{length, getD, getElem?, take, drop, length-map, length-take}
 use lib.Seq.{drop-nil}
 use borrow.Author.Tests.{ne-eqb}
+use Rattle.rules.specs.Settings.{mostUnits}
 use Rattle.little.specs.Little.{numberBytes, put, records}
 use Rattle.little.proofs.Put.{put-drop, put-length}
 use Rattle.little.proofs.Numbers.{numberAt-one, numberAt-here, numberAt-next}
@@ -108,7 +109,7 @@ module _ (id : ℕ) (r : Report) (x : List ℕ) (fits : 16 + 16 * length (r .des
   suspended-back : suspendedIn stored ≡ r .suspended
   suspended-back = rw attributes-back (suspended-bit (r .suspended) (r .more))
 
-  module _ (small : id < 2 ^ 16) (g : r .granularity ≤ 20) (few : length (r .descriptors) ≤ 4096) (each : All (Fitting (r .granularity)) (r .descriptors)) where
+  module _ (small : id < 2 ^ 16) (g : r .granularity ≤ 20) (few : length (r .descriptors) ≤ mostUnits) (each : All (Fitting (r .granularity)) (r .descriptors)) where
     identifier-back : identifierIn stored ≡ id
     identifier-back = numberAt-here stored 2 2 id _ from-2 (omega (arith, small))
 
@@ -178,14 +179,14 @@ module _ (id g : ℕ) (b : Bool) (rs : List Range) (p : List Bool) (x : List ℕ
   abbrev made : Report
   made = reportOn b g (room (length x)) (units g rs) p
 
-  pub reads-back : id < 2 ^ 16 → g ≤ 20 → rowsOk g rs ≡ true → length (units g rs) ≤ 4096 → 32 ≤ length x → ReadBack id made (put x 0 (reportBytes id made))
+  pub reads-back : id < 2 ^ 16 → g ≤ 20 → rowsOk g rs ≡ true → length (units g rs) ≤ mostUnits → 32 ≤ length x → ReadBack id made (put x 0 (reportBytes id made))
   reads-back small granularity rows total long =
       report-back id made x (omega (arith, count, div-fits)) small granularity (omega (arith, count-few)) (listed-fit g rs rows total p (room (length x))) (some-listed (runs (pending (units g rs) p)))
     where
       count : length (made .descriptors) ≤ room (length x)
       count = rw (length-map, length-take) (omega arith)
 
-      count-few : length (made .descriptors) ≤ 4096
+      count-few : length (made .descriptors) ≤ mostUnits
       count-few = rw (length-map, length-take) (omega (arith, runs-few g rs rows total p (room (length x))))
 
       div-fits : 16 + 16 * ((length x - 16) / 16) ≤ length x

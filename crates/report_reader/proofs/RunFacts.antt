@@ -8,7 +8,7 @@ use native.Mathlib.Nat.{add-mod-right, zero-mul, suc-mul}
 use lib.ListN.{length, take, length-append}
 use borrow.Author.Tests.{le-leb, eq-eqb}
 use Rattle.rules.specs.Lists.{keep, join}
-use Rattle.rules.specs.Settings.{unitSize}
+use Rattle.rules.specs.Settings.{mostUnits, unitSize}
 use Rattle.rules.specs.Units.{Unit, unitsOfRow, uncovered, unitsFrom, units, pending}
 use Rattle.rules.specs.Ranges.{rowTests, rowOk, rowsOk}
 use Rattle.rules.specs.Report.{runs, Descriptor, rangeOf, descriptor, reportedRuns}
@@ -61,7 +61,7 @@ pub record Fitting (g : ℕ) (d : Descriptor) : Type 0 where
   pub address : d .address < 2 ^ 64
   pub length : d .length < 2 ^ 32
 
-run-fits : (g : ℕ) (r : List Unit) → Run (unitSize g) r → All (Within (unitSize g)) r → length r ≤ 4096 → Fitting g (descriptor r)
+run-fits : (g : ℕ) (r : List Unit) → Run (unitSize g) r → All (Within (unitSize g)) r → length r ≤ mostUnits → Fitting g (descriptor r)
 run-fits g [] c h l = absurd c
 run-fits g (u ∷ us) c h l =
     let e : u .address + suc (length us) * unitSize g ≤ 2 ^ 64 = chain-end (unitSize g) (u .address) u us c h in
@@ -75,11 +75,11 @@ run-fits g (u ∷ us) c h l =
 
 -- ---- what a report lists
 
-module _ (g : ℕ) (rs : List Range) (rows : rowsOk g rs ≡ true) (total : length (units g rs) ≤ 4096) (p : List Bool) (k : ℕ) where
+module _ (g : ℕ) (rs : List Range) (rows : rowsOk g rs ≡ true) (total : length (units g rs) ≤ mostUnits) (p : List Bool) (k : ℕ) where
   abbrev us : List Unit
   us = pending (units g rs) p
 
-  few : length us ≤ 4096
+  few : length us ≤ mostUnits
   few = omega (arith, pending-length-le (units g rs) p, total)
 
   all-runs : All (λ r. Fitting g (descriptor r)) (runs us)
@@ -98,5 +98,5 @@ module _ (g : ℕ) (rs : List Range) (rows : rowsOk g rs ≡ true) (total : leng
       All-of-map [] h = tt
       All-of-map (x ∷ xs) h = (h .0, All-of-map xs (h .1))
 
-  pub runs-few : length (runs us) ≤ 4096
+  pub runs-few : length (runs us) ≤ mostUnits
   runs-few = omega (arith, runs-length-le us, few)

@@ -2,6 +2,7 @@ use mathlib.Core.Path.{refl, sym, _∙_}
 use denote.Ref.{now}
 use borrow.Author.Needs.{needs}
 use borrow.Author.Tests.{not-true, not-false}
+use Rattle.rules.specs.Settings.{markWords}
 use Rattle.settings.proofs.SettingsLaws.{settingsOk-count}
 use Rattle.calls.proofs.Answers.{leaves}
 use Rattle.fresh.proofs.FreshLaws.{clear-words, fresh-settings, fresh-words, fresh-done}
@@ -57,7 +58,7 @@ returns-3 c =
     let a = q .before .before .before .args in
     leaves _ 0 _ _ _ _ (fresh-done (a .s) (now (a .marks)) (sym (q .before .settings-ok .ensures) ∙ not-false _ (q .if1 .left)) (p .if2 .left))
     (c .untracked .ensures ∙ rw (c .before .clean .ensures))
-    (clear-words 512 (now (a .marks)) _ (p .if2 .left) (λ i. c .before .before .slice-known2 .given i .fits) (c .before .before .before .before .clear-span .ensures) ∙ rw (p .if2 .left))
+    (clear-words markWords (now (a .marks)) _ (p .if2 .left) (λ i. c .before .before .slice-known2 .given i .fits) (c .before .before .before .before .clear-span .ensures) ∙ rw (p .if2 .left))
 
 pub fresh-spec : {M : Type 1} → statement M
 fresh-spec =

@@ -2,6 +2,7 @@
 use mathlib.Core.Path.{sym, _∙_}
 use borrow.Author.Needs.{needs}
 use borrow.Author.Tests.{not-true, not-false, eq-eqb}
+use Rattle.rules.specs.Settings.{markWords}
 use Rattle.record.specs.Record.{soundWith}
 use Rattle.record.proofs.RecordLaws.{whereIs-words, whereIs-unsound}
 use Rattle.calls.proofs.Answers.{notes}
@@ -21,7 +22,7 @@ returns-2 c = notes _ 1 0 _ (write-refused _ _ _ _ _ (whereIs-unsound _ _ _ (sym
 note-requires : tie.Need-note-requires
 unfolding soundWith
 note-requires c κs =
-    rw (sym (c .before .before .sound .ensures) ∙ not-false _ (c .before .if2 .left), eq-eqb _ 512 (c .before .before .before .if1 .left))
+    rw (sym (c .before .before .sound .ensures) ∙ not-false _ (c .before .if2 .left), eq-eqb _ markWords (c .before .before .before .if1 .left))
 
 same-length : tie.Need-same-length
 same-length c = search needs
