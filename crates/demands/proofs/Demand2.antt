@@ -363,7 +363,7 @@ module _ (s : Settings) (ws : List ℕ) (ks : List Call) (eight : length (s .ide
         unfolding receiveReceipt
         may-receive x k = rw (place, sure, held .tracking, le-leb 32 (length x) k)
 
-        is-tracked : Tracked s ws ks a i g rs
+        is-tracked : Tracked (endOf s ws ks) h a i g rs
         is-tracked =
             record {
               listed = is-listed;
@@ -395,7 +395,7 @@ module _ (s : Settings) (ws : List ℕ) (ks : List Call) (eight : length (s .ide
         go none k = absurd (true≢false (sym e ∙ ap isSuspended (sym is-told ∙ ap (slotAt (view d l)) (place-of ∙ k))))
         go (some i) k = is-refused i k e
 
-    pub is-standing : Stands s ws ks a
+    pub is-standing : Stands s (endOf s ws ks) h (countsIn (sessionEnd s (length ws) ks)) a
     is-standing =
         record {
           told = is-told;
@@ -421,5 +421,6 @@ demand-2 =
       place = is-place;
       settings = settings-kept;
       stands = is-standing;
+      runs = rules.demand-2 .runs;
       touches = rules.demand-2 .touches;
     }

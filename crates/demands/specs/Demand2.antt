@@ -17,10 +17,9 @@ use Rattle.rules.specs.Report.{room, reportOn, marksLeft, reportBytes}
 use Rattle.rules.specs.ReportReader.{reportSize}
 use Rattle.rules.specs.Order.{Op, start, stop, write, startListed}
 use Rattle.rules.specs.Device.{freshDevice}
-use Rattle.rules.specs.Machine.{refused, pendingIn, countsIn, slotOf, lent}
+use Rattle.rules.specs.Machine.{refused, pendingIn, countsIn, slotOf, Call, lent}
 use Rattle.rules.specs.History.{Did, PendingBy, pendingBy, tracksBy, suspendedBy, slotBy}
-use Rattle.rules.specs.Demands.{sessionEnd, sessionHistory, lentBytes, UnitsListed, Reports, Room, ReadBack, Touches, Writes}
-use Rattle.rules.specs.Machine.{Call}
+use Rattle.rules.specs.Demands.{sessionEnd, sessionHistory, lentBytes, UnitsListed, Runs, Reports, Room, ReadBack, Touches, Writes}
 use Rattle.rules.specs.declared.Range.{Range}
 use Rattle.rules.specs.declared.Tracking.{Tracking}
 use Rattle.rules.specs.declared.Tracking.the-variants.{Off, On}
@@ -114,24 +113,24 @@ pub record Received (h : List Did) (a i g : ℕ) (us : List Unit) (x : List ℕ)
   pub left : (m : ℕ) (u : Unit) → getElem? us m ≡ some u → bitOf (r .marks) i m ≡ getD (marksLeft (room (length x)) us (toldOf h us)) m false
   pub elsewhere : Elsewhere i (length us) ws (r .marks)
 
--- ---- a controller after a session
+-- ---- a controller after a session, which left l; of it a history h tells
 
--- a controller a at place i, of which its calls and answers tell that it is tracked with granularity g and ranges rs
-pub record Tracked (s : Settings) (ws : List ℕ) (ks : List Call) (a i g : ℕ) (rs : List Range) : Type 0 where
+-- a controller a at place i, of which h tells that it is tracked with granularity g and ranges rs
+pub record Tracked (l : Left) (h : List Did) (a i g : ℕ) (rs : List Range) : Type 0 where
   -- its units: which, in what order, and that each is there once (W2)
   pub listed : UnitsListed g rs
   -- "a unit of a tracked range is pending exactly if an accepted write by its controller touched it after tracking last started and after it was last
   -- reported"
-  pub pending : (m : ℕ) (u : Unit) → getElem? (units g rs) m ≡ some u → (bitOf (endOf s ws ks .marks) i m ≡ true) ↔ PendingBy (historyIn s ws ks a) u
+  pub pending : (m : ℕ) (u : Unit) → getElem? (units g rs) m ≡ some u → (bitOf (l .marks) i m ≡ true) ↔ PendingBy h u
   pub written : (w : Write)
-      → let n = writeNote (endOf s ws ks .device) (endOf s ws ks .marks) a w in
-      n .answer .number ≡ 0 → Wrote (historyIn s ws ks a) i (units g rs) w (endOf s ws ks .marks) (n .answer .count) (n .marks)
+      → let n = writeNote (l .device) (l .marks) a w in
+      n .answer .number ≡ 0 → Wrote h i (units g rs) w (l .marks) (n .answer .count) (n .marks)
   pub received : (x : List ℕ)
-      → let r = receiveReceipt (endOf s ws ks .device) (endOf s ws ks .marks) a x in
-      r .answer .number ≡ 0 → Received (historyIn s ws ks a) a i g (units g rs) x (endOf s ws ks .marks) r
+      → let r = receiveReceipt (l .device) (l .marks) a x in
+      r .answer .number ≡ 0 → Received h a i g (units g rs) x (l .marks) r
   -- a stop and a receive are refused for nothing but what document 01 says
-  pub may-stop : suspendedBy false (historyIn s ws ks a) ≡ false → stopChange (endOf s ws ks .device) (endOf s ws ks .marks) a .answer .number ≡ 0
-  pub may-receive : (x : List ℕ) → 32 ≤ length x → receiveReceipt (endOf s ws ks .device) (endOf s ws ks .marks) a x .answer .number ≡ 0
+  pub may-stop : suspendedBy false h ≡ false → stopChange (l .device) (l .marks) a .answer .number ≡ 0
+  pub may-receive : (x : List ℕ) → 32 ≤ length x → receiveReceipt (l .device) (l .marks) a x .answer .number ≡ 0
 
 -- the calls that a suspended controller is refused
 pub data Moves : Op → Type 0 where
@@ -139,42 +138,40 @@ pub data Moves : Op → Type 0 where
   stops : Moves stop
   writes : (w : Write) → Moves (write w)
 
--- any controller a
-pub record Stands (s : Settings) (ws : List ℕ) (ks : List Call) (a : ℕ) : Type 0 where
+-- any controller a of a device that was made from settings s and now tracks so many counts
+pub record Stands (s : Settings) (l : Left) (h : List Did) (counts a : ℕ) : Type 0 where
   -- what record and marks hold of it is what its calls and answers tell: granularity, ranges, the suspended flag, and each unit's mark
-  pub told : slotOf (view (endOf s ws ks .device) (endOf s ws ks .marks)) a ≡ slotBy (historyIn s ws ks a)
-  pub tracked : (i g : ℕ) (rs : List Range) → placeOf s a ≡ some i → tracksBy none (historyIn s ws ks a) ≡ some (g, rs) → Tracked s ws ks a i g rs
+  pub told : slotOf (view (l .device) (l .marks)) a ≡ slotBy h
+  pub tracked : (i g : ℕ) (rs : List Range) → placeOf s a ≡ some i → tracksBy none h ≡ some (g, rs) → Tracked l h a i g rs
   -- "For a controller that isn't tracked a call not refused is done with count 0", and no mark changes
-  pub untracked : (w : Write) → tracksBy none (historyIn s ws ks a) ≡ none
-      → let n = writeNote (endOf s ws ks .device) (endOf s ws ks .marks) a w in
-      (n .answer .count ≡ 0) × (n .marks ≡ endOf s ws ks .marks)
+  pub untracked : (w : Write) → tracksBy none h ≡ none
+      → let n = writeNote (l .device) (l .marks) a w in
+      (n .answer .count ≡ 0) × (n .marks ≡ l .marks)
   -- a suspended controller's start, stop and write are refused, and change nothing
-  pub suspended : suspendedBy false (historyIn s ws ks a) ≡ true → (o : Op) → Moves o
-      → outcome (endOf s ws ks) (record { id = a; op = o })
-      ≡ record { answer = refused 4; device = endOf s ws ks .device; marks = endOf s ws ks .marks; bytes = lent o }
+  pub suspended : suspendedBy false h ≡ true → (o : Op) → Moves o
+      → outcome l (record { id = a; op = o }) ≡ record { answer = refused 4; device = l .device; marks = l .marks; bytes = lent o }
   -- a write and a start are refused for nothing but what document 01 says
-  pub may-write : (i : ℕ) (w : Write) → placeOf s a ≡ some i → suspendedBy false (historyIn s ws ks a) ≡ false → w .address + w .bytes ≤ 2 ^ 64
-      → writeNote (endOf s ws ks .device) (endOf s ws ks .marks) a w .answer .number ≡ 0
-  pub may-start : (i : ℕ) (x : List ℕ) → placeOf s a ≡ some i → suspendedBy false (historyIn s ws ks a) ≡ false → tracksBy none (historyIn s ws ks a) ≡ none
-      → passes (headerTests x ++ startListed s x) ≡ true → countOf x + countsIn (sessionEnd s (length ws) ks) ≤ s .limit
-      → startChange (endOf s ws ks .device) (endOf s ws ks .marks) a x .answer .number ≡ 0
+  pub may-write : (i : ℕ) (w : Write) → placeOf s a ≡ some i → suspendedBy false h ≡ false → w .address + w .bytes ≤ 2 ^ 64
+      → writeNote (l .device) (l .marks) a w .answer .number ≡ 0
+  pub may-start : (i : ℕ) (x : List ℕ) → placeOf s a ≡ some i → suspendedBy false h ≡ false → tracksBy none h ≡ none
+      → passes (headerTests x ++ startListed s x) ≡ true → countOf x + counts ≤ s .limit
+      → startChange (l .device) (l .marks) a x .answer .number ≡ 0
   -- "An accepted start clears the controller's 64 words and records granularity and ranges"
   pub started : (i : ℕ) (x : List ℕ) → placeOf s a ≡ some i
-      → let c = startChange (endOf s ws ks .device) (endOf s ws ks .marks) a x in
-      c .answer .number ≡ 0
-      → Replaced (endOf s ws ks .device) (endOf s ws ks .marks) i (On (granularityOf x) (countOf x)) false (rangesOf x) c
+      → let c = startChange (l .device) (l .marks) a x in
+      c .answer .number ≡ 0 → Replaced (l .device) (l .marks) i (On (granularityOf x) (countOf x)) false (rangesOf x) c
   -- "An accepted stop clears them again and forgets the ranges"
   pub stopped : (i : ℕ) → placeOf s a ≡ some i
-      → let c = stopChange (endOf s ws ks .device) (endOf s ws ks .marks) a in
-      c .answer .number ≡ 0 → Replaced (endOf s ws ks .device) (endOf s ws ks .marks) i Off false [] c
+      → let c = stopChange (l .device) (l .marks) a in
+      c .answer .number ≡ 0 → Replaced (l .device) (l .marks) i Off false [] c
   -- "Suspend type 1 suspends, also where already suspended. Type 0 is a notice and changes nothing"; it is refused for another type alone
   pub suspends : (i kind : ℕ) → placeOf s a ≡ some i
-      → let c = suspendChange (endOf s ws ks .device) (length (endOf s ws ks .marks)) a kind in
-      ((c .number ≡ 0) ↔ (kind ≤ 1)) × (c .number ≡ 0 → Flagged (endOf s ws ks .device) i (suspendedBy false (historyIn s ws ks a) || eqb kind 1) c)
+      → let c = suspendChange (l .device) (length (l .marks)) a kind in
+      ((c .number ≡ 0) ↔ (kind ≤ 1)) × (c .number ≡ 0 → Flagged (l .device) i (suspendedBy false h || eqb kind 1) c)
   -- a resume makes the flag clear; it is refused for one that is not suspended alone
   pub resumes : (i : ℕ) → placeOf s a ≡ some i
-      → let c = resumeChange (endOf s ws ks .device) (length (endOf s ws ks .marks)) a in
-      ((c .number ≡ 0) ↔ (suspendedBy false (historyIn s ws ks a) ≡ true)) × (c .number ≡ 0 → Flagged (endOf s ws ks .device) i false c)
+      → let c = resumeChange (l .device) (length (l .marks)) a in
+      ((c .number ≡ 0) ↔ (suspendedBy false h ≡ true)) × (c .number ≡ 0 → Flagged (l .device) i false c)
 
 -- ---- all of it
 
@@ -193,6 +190,9 @@ pub record Demand2 : Type 1 where
   -- answers tell
   pub settings : (s : Settings) (ws : List ℕ) (ks : List Call) → length (s .identifiers) ≡ 8 → freshChange s ws .answer .number ≡ 0
       → Kept s (endOf s ws ks .device .settings)
-  pub stands : (s : Settings) (ws : List ℕ) (ks : List Call) → length (s .identifiers) ≡ 8 → freshChange s ws .answer .number ≡ 0 → (a : ℕ) → Stands s ws ks a
+  pub stands : (s : Settings) (ws : List ℕ) (ks : List Call) → length (s .identifiers) ≡ 8 → freshChange s ws .answer .number ≡ 0
+      → (a : ℕ) → Stands s (endOf s ws ks) (historyIn s ws ks a) (countsIn (sessionEnd s (length ws) ks)) a
+  -- "A run is a longest row of consecutive pending units within one range"
+  pub runs : Runs
   -- "A written range … touches each unit with which it shares a byte"
   pub touches : (w : Write) (u : Unit) → Touches w u
