@@ -32,7 +32,7 @@ use Rattle.rules.specs.declared.Tracking.{Tracking}
 use Rattle.rules.specs.declared.Tracking.the-variants.{Off, On}
 use Rattle.rules.specs.declared.Controller.{Controller}
 use Rattle.rules.specs.declared.Device.{Device}
-use Rattle.rules.proofs.ListLaws.{All-append, not-intro, getElem?-at}
+use Rattle.rules.proofs.ListLaws.{All, All-append, not-intro, getElem?-at}
 use Rattle.rules.proofs.RefusalLaws.{Passed, passes-Passed, verdict-has, verdict-passed, verdict-done}
 use Rattle.rules.proofs.UnitLaws.{mark-length, mark-at}
 use Rattle.rules.proofs.RunLaws.{clearFirst-length}
@@ -40,18 +40,18 @@ use Rattle.rules.proofs.SlotHistory.{pendingBy-iff}
 use Rattle.rules.proofs.StateLaws.{placeOf-is, cleaned-place, after-settings}
 use Rattle.rules.proofs.SoundLaws.{fresh-opens}
 use Rattle.rules.proofs.Theorems as rules
-use Rattle.record.specs.Record.{soundWith, controllerAt, withController, seenIn}
+use Rattle.record.specs.Record.{soundWith, noController, controllerAt, withController, seenIn}
 use Rattle.ranges.proofs.RangeLaws.{HeldFacts}
 use Rattle.record.proofs.RecordLaws.{soundDevice-facts, soundDevice-held}
 use Rattle.report_data.proofs.Blocks.{reportBytes-length, report-rest}
 use Rattle.report_reader.proofs.ReadBack.{reads-back}
 use Rattle.calls.specs.Calls.{marksAt, withMarks, withClear, freshChange, Change, changed, startDone, startChange, stopDone, stopChange, flagDone, suspendChange, resumeChange, Note, noted, writeDone, writeNote, Receipt, received, reportIn, receiveDone, receiveReceipt}
 use Rattle.demands.specs.View.{marksOf, view, run}
-use Rattle.demands.specs.Sessions.{begun, outcome, endOf, historyIn}
-use Rattle.demands.specs.Demand2.{bitOf, toldOf, Elsewhere, Kept, Flagged, Replaced, Wrote, Received, Tracked, Moves, starts, stops, writes, Stands, Demand2}
+use Rattle.demands.specs.Sessions.{Left, begun, outcome, endOf, historyIn}
+use Rattle.demands.specs.Demand2.{Shaped, Steps, bitOf, toldOf, Elsewhere, Kept, Flagged, Replaced, Wrote, Received, Tracked, Moves, starts, stops, writes, Stands, Demand2}
 use Rattle.demands.proofs.MarkLaws.{clear-bit, clear-elsewhere, put-bit, put-elsewhere}
-use Rattle.demands.proofs.ViewLaws.{Fits, slot-at, seen-same, placeOf-used}
-use Rattle.demands.proofs.StepLaws.{order-numbers}
+use Rattle.demands.proofs.ViewLaws.{Listed, Fits, slot-at, seen-same, placeOf-used}
+use Rattle.demands.proofs.StepLaws.{order-numbers, call-step}
 use Rattle.demands.proofs.SessionLaws.{begins, fits-after}
 use Rattle.demands.proofs.ClosedLaws.{fresh-done, session, history-same, slot-same, equals}
 use Rattle.demands.proofs.AnswerLaws.{fresh-answers, write-zero}
@@ -410,12 +410,24 @@ module _ (s : Settings) (ws : List ℕ) (ks : List Call) (eight : length (s .ide
           resumes = λ i at. is-resume i at;
         }
 
+-- ---- a record that no session made
+
+All-from : (P : Controller → Type 0) (cs : List Controller) → ((i : ℕ) → P (getD cs i noController)) → All P cs
+All-from P [] f = tt
+All-from P (c ∷ cs) f = (f 0, All-from P cs (λ i. f (suc i)))
+
+is-step : (l : Left) → Shaped l → (k : Call) → Steps l k
+is-step l s k =
+    let w = call-step (l .device) (l .marks) (record { controllers = s .controllers; listed = All-from Listed (l .device .controllers) (s .listed); words = s .words }) k in
+    record { answer = w .answer; device = w .state; bytes = w .bytes }
+
 -- ---- all of it
 
 pub demand-2 : Demand2
 demand-2 =
     record {
       rules = λ s a ws ks eight. equals s ws ks eight a ks (record { answers = refl; bytes = refl; units = refl });
+      steps = is-step;
       fresh = fresh-is;
       bits = bit-at;
       place = is-place;

@@ -8,5 +8,6 @@ pub mod Contracts
 pub mod Demand1
 pub mod Demand2
 pub mod Structures
+pub mod Reserved
 pub mod Demand3
 pub mod Determinacy

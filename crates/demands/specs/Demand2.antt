@@ -17,7 +17,7 @@ use Rattle.rules.specs.Report.{room, reportOn, marksLeft, reportBytes}
 use Rattle.rules.specs.ReportReader.{reportSize}
 use Rattle.rules.specs.Order.{Op, start, stop, write, startListed}
 use Rattle.rules.specs.Device.{freshDevice}
-use Rattle.rules.specs.Machine.{refused, pendingIn, countsIn, slotOf, Call, lent}
+use Rattle.rules.specs.Machine.{refused, pendingIn, countsIn, slotOf, Call, step, lent, stored}
 use Rattle.rules.specs.History.{Did, PendingBy, pendingBy, tracksBy, suspendedBy, slotBy}
 use Rattle.rules.specs.Demands.{sessionEnd, sessionHistory, lentBytes, UnitsListed, Runs, Reports, Room, ReadBack, Touches, Writes}
 use Rattle.rules.specs.declared.Range.{Range}
@@ -43,6 +43,19 @@ pub record Equals (s : Settings) (a : ℕ) (ws : List ℕ) (ks ks′ : List Call
   pub answers : historyIn s ws ks a ≡ sessionHistory s (length ws) ks′ a
   pub bytes : bytesIn s ws ks a ≡ lentBytes a (sessionHistory s (length ws) ks′ a)
   pub units : pendingOf (endOf s ws ks) a ≡ pendingIn (slotOf (sessionEnd s (length ws) ks′) a)
+
+-- a record and marks that anyone may have made, of their sizes: eight controllers, of which none counts more ranges than it has places, and the marks' words.
+-- (A call on marks of another number of words, or on a record that counts more, answers 1.)
+pub record Shaped (l : Left) : Type 0 where
+  pub controllers : length (l .device .controllers) ≡ 8
+  pub listed : (i g n : ℕ) → controllerAt (l .device) (some i) .tracking ≡ On g n → n ≤ length (controllerAt (l .device) (some i) .ranges)
+  pub words : length (l .marks) ≡ markWords
+
+-- a call is a step of the rules, on the device that is seen in record and marks
+pub record Steps (l : Left) (k : Call) : Type 0 where
+  pub answer : outcome l k .answer ≡ (step (view (l .device) (l .marks)) k) .0
+  pub device : view (outcome l k .device) (outcome l k .marks) ≡ (step (view (l .device) (l .marks)) k) .1
+  pub bytes : outcome l k .bytes ≡ stored (k .id) (lent (k .op)) (outcome l k .answer)
 
 -- ---- marks in words
 
@@ -178,6 +191,8 @@ pub record Stands (s : Settings) (l : Left) (h : List Did) (counts a : ℕ) : Ty
 pub record Demand2 : Type 1 where
   -- the rules are those of document 01: any session comes for each controller to what they give for the same calls
   pub rules : (s : Settings) (a : ℕ) (ws : List ℕ) (ks : List Call) → length (s .identifiers) ≡ 8 → Equals s a ws ks ks
+  -- and so does each call on a record that no session made
+  pub steps : (l : Left) → Shaped l → (k : Call) → Steps l k
   -- a fresh device: nobody is tracked or suspended, and all marks are 0
   pub fresh : (s : Settings) (ws : List ℕ)
       → let c = freshChange s ws in
