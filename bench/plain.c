@@ -47,17 +47,24 @@ static u64 unit_size(u8 granularity) { return 4096ul << granularity; }
 
 static u64 last_byte(const struct range *r, u64 unit) { return r->start + (r->length * unit - 1); }
 
-static _Bool range_ok(const struct range *r, u64 unit)
+// The first rule of a row that a range breaks, or 0.
+static u8 row_refusal(const struct range *r, u64 unit)
 {
-    return r->length >= 1 && r->start % unit == 0 && last_byte(r, unit) >= r->start;
+    return r->length < 1 ? 19 : r->start % unit ? 20 : last_byte(r, unit) < r->start ? 21 : 0;
 }
 
-static _Bool ranges_ok(const struct range *ranges, u32 count, u64 unit)
+// The first of 18 to 21 that ranges break, with its row, or 0.
+static u8 rows_refusal(const struct range *ranges, u32 count, u64 unit, u32 *row)
 {
-    for (u32 i = 0; i < count; i++)
-        if (!range_ok(&ranges[i], unit))
-            return 0;
-    return 1;
+    u8 number = 0;
+    *row = 0;
+    if (count < 1 || count > RANGES)
+        return 18;
+    for (u32 i = 0; i < count && !number; i++) {
+        number = row_refusal(&ranges[i], unit);
+        *row = number ? i : 0;
+    }
+    return number;
 }
 
 // Goes from `at` over the units that the first `count` ranges have. Answers whether it came past `last`; else `at` is a unit that none of them has.
@@ -101,15 +108,17 @@ static u32 split(const struct range *ranges, u32 count, u64 unit, struct range *
     return n;
 }
 
-// The first of 7, 9, 10 and 11 that a granularity and its ranges break, or 0.
-static u8 list_refusal(const struct device *d, u8 granularity, const struct range *ranges, u32 count)
+// The first of 7, 18 to 21, 10 and 11 that a granularity and its ranges break, with its row, or 0.
+static u8 list_refusal(const struct device *d, u8 granularity, const struct range *ranges, u32 count, u32 *row)
 {
     struct range parts[PARTS];
     u64 units = 0;
+    u8 number;
     if (granularity < d->least || granularity > d->greatest)
         return 7;
-    if (count < 1 || count > RANGES || !ranges_ok(ranges, count, unit_size(granularity)))
-        return 9;
+    number = rows_refusal(ranges, count, unit_size(granularity), row);
+    if (number)
+        return number;
     for (u32 i = 0; i < count; i++)
         if (d->powers && (ranges[i].length & (ranges[i].length - 1)))
             return 10;
@@ -132,7 +141,8 @@ static _Bool sound(const struct device *d)
         return 0;
     for (u32 i = 0; i < d->count; i++) {
         const struct controller *c = &d->controllers[i];
-        if (c->tracked && list_refusal(d, c->granularity, c->ranges, c->count))
+        u32 row;
+        if (c->tracked && list_refusal(d, c->granularity, c->ranges, c->count, &row))
             return 0;
     }
     return counts(d) <= d->limit;
@@ -173,7 +183,7 @@ static u8 fresh(const struct device *d)
     return 0;
 }
 
-static u8 start(u16 id, u8 granularity, const struct range *ranges, u32 count)
+static u8 start(u16 id, u8 granularity, const struct range *ranges, u32 count, u32 *row)
 {
     u32 place;
     u8 number = find(id, &place);
@@ -184,7 +194,7 @@ static u8 start(u16 id, u8 granularity, const struct range *ranges, u32 count)
         return 4;
     if (c->tracked)
         return 3;
-    number = list_refusal(&device, granularity, ranges, count);
+    number = list_refusal(&device, granularity, ranges, count, row);
     if (number)
         return number;
     if (count + counts(&device) > device.limit)
@@ -490,9 +500,18 @@ static void play_dev(const u64 *n, u32 count)
 static void play_start(const u64 *n, u32 count)
 {
     struct range ranges[RANGES];
+    u32 row;
+    u8 number;
     for (u32 i = 0; i < count / 2 - 1; i++)
         ranges[i] = (struct range){n[2 + 2 * i], n[3 + 2 * i]};
-    put_answer(start(n[0], n[1], ranges, count / 2 - 1));
+    number = start(n[0], n[1], ranges, count / 2 - 1, &row);
+    if (number >= 18 && number <= 21) {
+        put_number("", number);
+        put_number(" ", row);
+        put_byte('\n');
+    } else {
+        put_answer(number);
+    }
 }
 
 static void play_write(const u64 *n)

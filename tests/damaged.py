@@ -80,6 +80,7 @@ def ends_of_input():
     yield Case("a lone line without a line feed", [DEV], said("0"), ended=False)
     yield Case("a report without a line feed", [DEV, b"start 5 0 65536 4", b"write 5 65536 1", b"recv 5 64"],
                said("0", "0", "0 1", "0 susp 0 more 0 gran 0 runs 1", "65536 1"), ended=False)
+    yield Case("a row without a line feed", [DEV, b"start 5 0 65536 4 65537 1"], said("0", "20 1"), ended=False)
     yield Case("a damaged last line without a line feed", [DEV, b"stop 5 "], said("0", "bad"), ended=False)
     yield Case("a last byte 0 without a line feed", [DEV, b"\0"], said("0", "bad"), ended=False)
     yield Case("lines that end in a carriage return", [DEV + b"\r", b"stop 5\r"], said("bad", "bad"))

@@ -22,6 +22,9 @@ def cases():
     yield from each_unit_first()
     yield from parted_runs_in_each_buffer()
     yield from overlap_and_limits()
+    yield from each_row()
+    yield from each_count()
+    yield from rows_at_each_granularity()
 
 
 def case(name, rows):
@@ -52,8 +55,8 @@ def each_granularity():
             ("recv 5 64", *report(n, [(start, 2), (start + 3 * unit, 1)])),
             (f"write 5 {start - 1} {4 * unit + 2}", "0 4"),
             ("recv 5 64", *report(n, [(start, 4)])),
-            (f"start 6 {n} {start + unit // 2} 1", "9"),
-            (f"start 6 {n} {start + 1} 1", "9"),
+            (f"start 6 {n} {start + unit // 2} 1", "20 0"),
+            (f"start 6 {n} {start + 1} 1", "20 0"),
         ])
 
 
@@ -64,7 +67,7 @@ def last_unit_of_memory():
         yield case(f"last unit of memory at granularity {n}", [
             ("dev 1 0 20 0 16 5 6", "0"),
             (f"start 5 {n} {END - unit} 1 0 1", "0"),
-            (f"start 6 {n} {END - unit} 2", "9"),
+            (f"start 6 {n} {END - unit} 2", "21 0"),
             (f"write 5 {END - unit - 1} 1", "0 0"),
             (f"write 5 {END - unit - 1} 2", "0 1"),
             (f"write 5 {END - 1} 1", "0 0"),
@@ -92,7 +95,7 @@ def lengths():
         unit = 2 ** (12 + n)
         yield case(f"lengths in units at granularity {n}", [
             ("dev 1 0 20 0 16 5", "0"),
-            (f"start 5 {n} {unit} 0", "9"),
+            (f"start 5 {n} {unit} 0", "19 0"),
             (f"start 5 {n} {unit} 4097", "11"),
             (f"start 5 {n} {unit} 4096 0 1", "11"),
             (f"start 5 {n} {unit} 1", "0"),
@@ -172,7 +175,7 @@ def limits():
         rows += [(f"start 12 0 {fewer}", "3" if answer == "0" else "0")]
         rows += [("stop 8", "0"), (f"start 8 0 {pairs}", "0")]
         yield case(f"limit {limit} and 8 controllers", rows)
-    rows = [("dev 1 0 8 0 0 5", "0"), ("start 5 0 0 1", "12"), (f"start 5 0 {pairs}", "12"), ("start 5 0", "9")]
+    rows = [("dev 1 0 8 0 0 5", "0"), ("start 5 0 0 1", "12"), (f"start 5 0 {pairs}", "12"), ("start 5 0", "18 0")]
     yield case("limit 0", rows)
 
 
@@ -223,7 +226,7 @@ def overlap_at_the_end_of_memory():
             yield case(f"overlap of the last unit and the last {k} at granularity {n}", [
                 ("dev 1 0 20 0 16 5 6", "0"),
                 (f"start 5 {n} {END - unit} 1 {END - k * unit} {k}", "0"),
-                (f"start 6 {n} {END - k * unit} {k} {END - unit} 2", "9"),
+                (f"start 6 {n} {END - k * unit} {k} {END - unit} 2", "21 1"),
                 (f"start 6 {n} {END - k * unit} {k} {END - unit} 1", "0"),
                 (f"write 5 {END - 1} 1", "0 1"),
                 (f"write 5 {END - k * unit} {k * unit}", f"0 {k - 1}"),
@@ -318,3 +321,61 @@ def overlap_and_limits():
         rows += [(f"write {identifier} 0 {END - 1}", "0 2") for identifier in range(5, 13)]
         rows += [(f"recv {identifier} 64", *report(0, [(8192, 2)])) for identifier in range(5, 13)]
         yield case(f"limit {limit} and 8 controllers with equal ranges", rows)
+
+
+# ---- Which rule and which row (document 02, W3): the earliest row that breaks a rule, and its first rule of 19, 20, 21
+
+def sixteen_good(unit):
+    return [(2 * unit * row, 1) for row in range(16)]
+
+
+def bad_ranges(unit):
+    """For each rule of a row a range that breaks this one alone."""
+    return {19: (unit, 0), 20: (unit + unit // 2, 1), 21: (END - unit, 2)}
+
+
+def start_with(granularity, good, bad):
+    """The line of a start with these ranges, some of them replaced: ranges by their row."""
+    ranges = [bad.get(row, one) for row, one in enumerate(good)]
+    return " ".join(map(str, ["start", 5, granularity, *sum(ranges, ())]))
+
+
+def each_row():
+    """Each rule broken in each of 16 rows, alone and with each rule broken in each later row."""
+    for n in (0, 8, 20):
+        unit = 2 ** (12 + n)
+        good, bad = sixteen_good(unit), bad_ranges(unit)
+        for number in bad:
+            rows = [("dev 1 0 20 0 16 5", "0")]
+            for row in range(16):
+                rows += [(start_with(n, good, {row: bad[number]}), f"{number} {row}")]
+                rows += [(start_with(n, good, {row: bad[number], later: other}), f"{number} {row}")
+                         for later in range(row + 1, 16) for other in bad.values()]
+            rows += [(start_with(n, good, {}), "0")]
+            yield case(f"{number} in each row at granularity {n}", rows)
+
+
+def each_count():
+    """Lists of 1 to 16 ranges whose last one is bad, or the last but one."""
+    for n in (0, 8, 20):
+        unit = 2 ** (12 + n)
+        good, bad = sixteen_good(unit), bad_ranges(unit)
+        rows = [("dev 1 0 20 0 16 5", "0"), (f"start 5 {n}", "18 0")]
+        rows += [(start_with(n, good[:count], {row: one}), f"{number} {row}")
+                 for count in range(1, 17) for row in (count - 1, max(0, count - 2)) for number, one in bad.items()]
+        rows += [(start_with(n, good, {}), "0")]
+        yield case(f"the last of 1 to 16 rows at granularity {n}", rows)
+
+
+def rows_at_each_granularity():
+    """Half a unit and the last two halves of memory: faults of row 1 at this granularity, and good at the one below."""
+    for n in range(1, 21):
+        unit = 2 ** (12 + n)
+        yield case(f"faults of row 1 at granularity {n}", [
+            ("dev 1 0 20 0 16 5", "0"),
+            (f"start 5 {n} 0 1 {unit // 2} 1", "20 1"),
+            (f"start 5 {n} 0 1 {END - unit} 2", "21 1"),
+            (f"start 5 {n} 0 1 {END - unit // 2} 2", "20 1"),
+            (f"start 5 {n - 1} 0 1 {END - unit // 2} 2", "21 1"),
+            (f"start 5 {n - 1} 0 1 {unit // 2} 1 {END - unit} 2", "0"),
+        ])

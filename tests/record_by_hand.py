@@ -38,6 +38,11 @@ def sixteen(first=0, length=1, unit=4096):
     return [(first + row * length * unit, length) for row in range(16)]
 
 
+def listed(count, bad):
+    """So many ranges of a page, every other one, some of them replaced: ranges by their row."""
+    return [bad.get(row, (8192 * row, 1)) for row in range(count)]
+
+
 def halves(length):
     """Sixteen ranges of this length, each beginning in the middle of the one before it: 8.5 lengths in all."""
     return [(row * length // 2 * 4096, length) for row in range(16)]
@@ -45,6 +50,10 @@ def halves(length):
 
 # Identifiers that keep the rules in all places, so that of a count too great it is the count alone that is refused.
 EIGHT = (5, 6, 7, 0, 65535, 2, 3, 4)
+
+# For each rule of a row (document 02, W3) a range that at granularity 0 breaks this one alone.
+LENGTH_0, UNALIGNED, PAST_THE_END = (65536, 0), (65537, 1), (MEMORY - 4096, 2)
+BAD = {19: LENGTH_0, 20: UNALIGNED, 21: PAST_THE_END}
 
 
 # ---- Changes to a record
@@ -145,7 +154,7 @@ SOUND, UNSOUND, BROKEN = (0, 0), (0, 1), (16, 1)
 # Name, change to the base, what fresh and the other calls answer, and those of them that answer otherwise. By hand,
 # from document 01: "A record is sound exactly if its settings would pass 16, each tracked controller's granularity and
 # ranges would pass 7, 9, 10 and 11, and the counts together are within the limit." And from document 02, W2: "Overlap is
-# now allowed", and 11 "counts different units".
+# now allowed", and 11 "counts different units"; W3: 9 is 18 to 21. Of an unsound record no row is told.
 RECORDS = [
     ("base", both(), SOUND),
     ("closed device", closed(), BROKEN),
@@ -216,7 +225,7 @@ RECORDS = [
     ("all equal, limit 127, 128 taken", both(full(127), equal(16, (0, 256))), UNSOUND),
     ("all equal, limit 128, 128 taken", both(full(128), equal(16, (0, 256))), SOUND, {"start": 3}),
     ("full, last one off", both(full(112), off(7)), SOUND, {"start": 3}),
-    # 9, "the count is 1 to 16"
+    # 18, "the count is 1 to 16"
     ("5 on, count 0", counted(0), UNSOUND),
     ("5 on, count 1", counted(1), SOUND),
     ("5 on, count 16", counted(16), SOUND),
@@ -237,14 +246,14 @@ RECORDS = [
     ("granularity 64, as 0 if shifted round", tracked(64, (65536, 4)), UNSOUND),
     ("granularity 20", tracked(20, (2**32, 4096), greatest=20), SOUND),
     ("granularity 21", tracked(21, (2**33, 4), greatest=20), UNSOUND),
-    # 9, "each length is at least 1"
+    # 19, "each length is at least 1"
     ("first length 0", tracked(0, (65536, 0), (0, 2)), UNSOUND),
     ("second length 0", tracked(0, (65536, 4), (0, 0)), UNSOUND),
     ("length 0 within another range", tracked(0, (65536, 4), (69632, 0)), UNSOUND),
     ("sixteenth length 0", both(tracked(0, *sixteen(), limit=128), in_place(0, 15, 2**20, 0)), UNSOUND),
     ("length 0 past the count", in_place(0, 2, 2**20, 0), SOUND),
     ("length 0 where off", in_place(1, 0, 65536, 0), SOUND),
-    # 9, "each start is a multiple of the unit"
+    # 20, "each start is a multiple of the unit"
     ("start 1", tracked(0, (1, 1)), UNSOUND),
     ("start 4095", tracked(0, (4095, 1)), UNSOUND),
     ("start 65536 + 2048", tracked(0, (65536 + 2048, 1)), UNSOUND),
@@ -255,7 +264,7 @@ RECORDS = [
     ("granularity 20, start 2^31", tracked(20, (2**31, 1), greatest=20), UNSOUND),
     ("second start 4097", tracked(0, (65536, 4), (4097, 1)), UNSOUND),
     ("start 4097 past the count", in_place(0, 2, 4097, 1), SOUND),
-    # 9, "start plus length in bytes is at most 2^64"
+    # 21, "start plus length in bytes is at most 2^64"
     ("ends at 2^64", tracked(0, (MEMORY - 4096, 1)), SOUND),
     ("ends a unit past 2^64", tracked(0, (MEMORY - 4096, 2)), UNSOUND),
     ("ends far past 2^64", tracked(0, (MEMORY - 4096, 2**32 - 1)), UNSOUND),
@@ -268,7 +277,12 @@ RECORDS = [
     ("granularity 20, length 2^32 - 1", tracked(20, (2**32, 2**32 - 1), greatest=20), UNSOUND),
     ("second ends at 2^64", tracked(0, (0, 1), (MEMORY - 4096, 1)), SOUND),
     ("second ends past 2^64", tracked(0, (65536, 1), (MEMORY - 4096, 2)), UNSOUND),
-    # 9 loses overlap (W2)
+    # 19 to 21 in rows of 16
+    *[(f"{number} in row {row} of 16", both(tracked(0, *sixteen(), limit=128), in_place(0, row, *one)), UNSOUND)
+      for number, one in BAD.items() for row in (0, 1, 7, 15)],
+    ("19 in row 1 and 21 in row 0", tracked(0, PAST_THE_END, LENGTH_0), UNSOUND),
+    ("19 to 21 past the count", both(*[in_place(0, row, *one) for row, one in zip((2, 7, 15), BAD.values())]), SOUND),
+    # overlap breaks no rule (W2)
     ("they touch", tracked(0, (65536, 4), (81920, 2)), SOUND),
     ("they touch, later one below", tracked(0, (81920, 2), (65536, 4)), SOUND),
     ("they share a unit", tracked(0, (65536, 4), (77824, 2)), SOUND),
@@ -338,12 +352,77 @@ RECORDS = [
     ("unused suspended", suspended(0, 0, 1, 1, 1, 1, 1, 1), SOUND),
 ]
 
-# Sound records, by their change to the base, and calls on them: the call, its fields, the first numbers of the answer;
-# of some also mark words after the call, by their number, and the report's runs. Marks are 0 unless said. Controller 5's
-# bits 0 to 3 are pages 16 to 19, its bits 4 and 5 pages 0 and 1.
+# Start structures for controller 6 of the base, and what they are answered with, by document 02, W3: "which rule and row,
+# counted from 0, the earliest row first; within a row length 0, unaligned, past the end". Lists of 14 and more break 12
+# too.
+ROWS = [
+    # "18 count 0 or over 16 (row 0)", whatever the rows hold. 17 ranges are 212 bytes.
+    (structure(0, []), [18, 0]),
+    (structure(8, []), [18, 0]),
+    *[(structure(0, [one], count=0), [18, 0]) for one in BAD.values()],
+    (structure(0, listed(17, {})), [18, 0]),
+    *[(structure(0, listed(17, {row: one})), [18, 0]) for row in (0, 15, 16) for one in BAD.values()],
+    *[(structure(0, [one] * count), [18, 0]) for count in (17, 32, 84) for one in BAD.values()],
+    # "They stand where 9 stood": after 6, 7 and 8.
+    (structure(0, [], count=17), [8]),
+    *[(structure(0, [one], count=count), [8]) for count in (2, 16, 17, 256, 2**32 - 1) for one in BAD.values()],
+    *[(structure(0, listed(count, {0: one}))[:-1], [8]) for count in (2, 16, 17) for one in BAD.values()],
+    *[(structure(0, rows, version=1), [6]) for rows in ([], [LENGTH_0], [UNALIGNED], [PAST_THE_END], listed(17, {}))],
+    *[(structure(9, rows), [7]) for rows in ([], [LENGTH_0], [UNALIGNED], [PAST_THE_END], listed(17, {}))],
+    # And before 11 and 12; "rule on" below has 10.
+    *[(structure(0, [(0, 4097), one]), [number, 1]) for number, one in BAD.items()],
+    *[(structure(0, [(0, 4097)] + [(0, 1)] * 14 + [one]), [number, 15]) for number, one in BAD.items()],
+    # Each rule in each of 16 rows, and in the last of fewer.
+    *[(structure(0, listed(16, {row: one})), [number, row]) for row in range(16) for number, one in BAD.items()],
+    *[(structure(0, listed(row + 1, {row: one})), [number, row])
+      for row in (0, 1, 2, 7, 14) for number, one in BAD.items()],
+    # A range that stands there and isn't listed.
+    *[(structure(0, listed(14, {13: one}), count=13), [0]) for one in BAD.values()],
+    *[(structure(0, listed(17, {15: one, 16: LENGTH_0}), count=16), [number, 15]) for number, one in BAD.items()],
+    # Two rules in one row. A range of length 0 ends where it starts, so never past 2^64.
+    *[(structure(0, listed(row + 1, {row: one})), [number, row]) for row in (0, 7, 15) for number, one in (
+        (19, (65537, 0)), (19, (MEMORY - 4096, 0)), (19, (ALL_ONES, 0)),
+        (20, (MEMORY - 4095, 1)), (20, (ALL_ONES, 1)), (20, (ALL_ONES, 2**32 - 1)))],
+    # Two rows: the earlier one, whichever rule it breaks.
+    *[(structure(0, listed(16, {row: one, later: other})), [number, row])
+      for row, later in ((0, 1), (0, 15), (1, 2), (6, 7), (7, 15), (14, 15))
+      for number, one in BAD.items() for other in BAD.values()],
+    # Three rows and more.
+    *[(structure(0, [(0, 1), *rows]), [number, 1]) for number, rows in (
+        (19, [LENGTH_0, UNALIGNED, PAST_THE_END]), (19, [LENGTH_0, PAST_THE_END, UNALIGNED]),
+        (20, [UNALIGNED, LENGTH_0, PAST_THE_END]), (20, [UNALIGNED, PAST_THE_END, LENGTH_0]),
+        (21, [PAST_THE_END, LENGTH_0, UNALIGNED]), (21, [PAST_THE_END, UNALIGNED, LENGTH_0]))],
+    *[(structure(0, [one] * 16), [number, 0]) for number, one in BAD.items()],
+    # The structure's own granularity says what a unit is.
+    (structure(8, [(1048576, 1), (1052672, 1)]), [20, 1]),
+    (structure(0, [(1048576, 1), (1052672, 1)]), [0]),
+    (structure(8, [(0, 1), (MEMORY - 2**20, 2)]), [21, 1]),
+    (structure(8, [(0, 1), (MEMORY - 2**20, 1)]), [0]),
+    (structure(7, [(0, 1), (MEMORY - 2**20, 2)]), [0]),
+    (structure(7, [(0, 1), (MEMORY - 2**20, 3)]), [21, 1]),
+    # 2^32 - 1 pages that end at 2^64, and a page past it.
+    (structure(0, [(0, 1), (MEMORY - 4096 * (2**32 - 1), 2**32 - 1)]), [11]),
+    (structure(0, [(0, 1), (MEMORY - 4096 * (2**32 - 2), 2**32 - 1)]), [21, 1]),
+    # Overlap is no fault, and a range within another is a row like any other.
+    *[(structure(0, [(65536, 4)] * 12 + [one]), [number, 12]) for number, one in BAD.items()],
+    (structure(0, [(65536, 4), (61440, 16), (69632, 1), (69633, 1)]), [20, 3]),
+    (structure(0, [(MEMORY - 4096, 1), (MEMORY - 4096, 1), (MEMORY - 4096, 2)]), [21, 2]),
+    # What is reserved, and what stands behind the last range, says nothing.
+    *[(structure(0, listed(3, {2: one}), reserved=65535) + b"\xff" * 100, [number, 2]) for number, one in BAD.items()],
+]
+
+# Sound records, by their change to the base, and calls on them: the call, its fields, the first numbers of the answer
+# (the row is 0 unless said); of some also mark words after the call, by their number, and the report's runs. Marks are 0
+# unless said. Controller 5's bits 0 to 3 are pages 16 to 19, its bits 4 and 5 pages 0 and 1.
 ONE = structure(0, [(65536, 1)])
 SEVENTEEN = sixteen() + [(2**30, 1)]
 ORDERS = [
+    ("rows", both(), [
+        *[("start", dict(id=6, data=data, mark=MIXED), known) for data, known in ROWS],
+        # 2, 4 and 3 come before the structure is read.
+        *[("start", dict(id=id, data=structure(0, rows)), [number]) for id, number in ((1, 2), (9, 2), (7, 4), (5, 3))
+          for rows in ([], [LENGTH_0], [(0, 1), UNALIGNED], [(0, 1), PAST_THE_END], listed(17, {}))],
+    ]),
     ("base", both(), [
         ("start", dict(id=1, data=b""), [2]),
         ("start", dict(id=0, data=ONE), [2]),
@@ -366,20 +445,20 @@ ORDERS = [
         ("start", dict(id=6, data=structure(0, [(65536, 1)], count=2**31 + 1)), [8]),
         # 12 times this count is 12 in 32 bits, so a length reckoned there would do.
         ("start", dict(id=6, data=structure(0, [(65536, 1)], count=2**30 + 1)), [8]),
-        ("start", dict(id=6, data=structure(0, [], count=84).ljust(1024, b"\1")), [9]),
-        ("start", dict(id=6, data=structure(0, SEVENTEEN)), [9]),
-        ("start", dict(id=6, data=structure(0, [])), [9]),
-        ("start", dict(id=6, data=structure(0, [(65536, 1)], count=0)), [9]),
-        ("start", dict(id=6, data=structure(0, [(65536, 0)])), [9]),
-        ("start", dict(id=6, data=structure(0, [(65537, 1)])), [9]),
-        ("start", dict(id=6, data=structure(8, [(1052672, 1)])), [9]),
-        ("start", dict(id=6, data=structure(0, [(MEMORY - 4096, 2)])), [9]),
+        ("start", dict(id=6, data=structure(0, [], count=84).ljust(1024, b"\1")), [18, 0]),
+        ("start", dict(id=6, data=structure(0, SEVENTEEN)), [18, 0]),
+        ("start", dict(id=6, data=structure(0, [])), [18, 0]),
+        ("start", dict(id=6, data=structure(0, [(65536, 1)], count=0)), [18, 0]),
+        ("start", dict(id=6, data=structure(0, [(65536, 0)])), [19, 0]),
+        ("start", dict(id=6, data=structure(0, [(65537, 1)])), [20, 0]),
+        ("start", dict(id=6, data=structure(8, [(1052672, 1)])), [20, 0]),
+        ("start", dict(id=6, data=structure(0, [(MEMORY - 4096, 2)])), [21, 0]),
         ("start", dict(id=6, data=structure(0, [(MEMORY - 4096, 1)])), [0]),
         ("start", dict(id=6, data=structure(0, [(65536, 4), (81920, 1)])), [0]),
         ("start", dict(id=6, data=structure(0, [(65536, 4), (77824, 2)])), [0]),
         ("start", dict(id=6, data=structure(0, [(65536, 4), (65536, 4)])), [0]),
-        ("start", dict(id=6, data=structure(0, [(65536, 4), (65536, 0)])), [9]),
-        ("start", dict(id=6, data=structure(0, [(65536, 4), (65537, 1)])), [9]),
+        ("start", dict(id=6, data=structure(0, [(65536, 4), (65536, 0)])), [19, 1]),
+        ("start", dict(id=6, data=structure(0, [(65536, 4), (65537, 1)])), [20, 1]),
         # 4 units and 4,093 or 4,094 that share one.
         ("start", dict(id=6, data=structure(0, [(65536, 4), (77824, 4093)])), [0]),
         ("start", dict(id=6, data=structure(0, [(65536, 4), (77824, 4094)])), [11]),
@@ -411,36 +490,36 @@ ORDERS = [
         ("write", dict(id=5, address=ALL_ONES, bytes=2), [14]),
         ("write", dict(id=5, address=ALL_ONES, bytes=ALL_ONES), [14]),
         ("write", dict(id=6, address=ALL_ONES, bytes=2), [14]),
-        ("write", dict(id=6, address=0, bytes=ALL_ONES), [0, 0]),
-        ("write", dict(id=5, address=ALL_ONES, bytes=0), [0, 0]),
-        ("write", dict(id=5, address=ALL_ONES, bytes=1), [0, 0]),
-        ("write", dict(id=5, address=65536, bytes=0), [0, 0]),
-        ("write", dict(id=5, address=69632, bytes=1), [0, 1]),
-        ("write", dict(id=5, address=73727, bytes=2), [0, 2]),
-        ("write", dict(id=5, address=65535, bytes=1), [0, 0]),
-        ("write", dict(id=5, address=65535, bytes=2), [0, 1]),
-        ("write", dict(id=5, address=81919, bytes=1), [0, 1]),
-        ("write", dict(id=5, address=81920, bytes=1), [0, 0]),
-        ("write", dict(id=5, address=1, bytes=ALL_ONES), [0, 6]),
-        ("write", dict(id=5, address=4096, bytes=ALL_ONES - 4095), [0, 5]),
-        ("write", dict(id=5, address=0, bytes=ALL_ONES, mark=ALL_ONES), [0, 0]),
-        ("write", dict(id=5, address=0, bytes=ALL_ONES, mark=0b010101), [0, 3]),
-        ("write", dict(id=5, address=0, bytes=ALL_ONES, mark=ALL_ONES - 63), [0, 6]),
+        ("write", dict(id=6, address=0, bytes=ALL_ONES), [0, 0, 0]),
+        ("write", dict(id=5, address=ALL_ONES, bytes=0), [0, 0, 0]),
+        ("write", dict(id=5, address=ALL_ONES, bytes=1), [0, 0, 0]),
+        ("write", dict(id=5, address=65536, bytes=0), [0, 0, 0]),
+        ("write", dict(id=5, address=69632, bytes=1), [0, 0, 1]),
+        ("write", dict(id=5, address=73727, bytes=2), [0, 0, 2]),
+        ("write", dict(id=5, address=65535, bytes=1), [0, 0, 0]),
+        ("write", dict(id=5, address=65535, bytes=2), [0, 0, 1]),
+        ("write", dict(id=5, address=81919, bytes=1), [0, 0, 1]),
+        ("write", dict(id=5, address=81920, bytes=1), [0, 0, 0]),
+        ("write", dict(id=5, address=1, bytes=ALL_ONES), [0, 0, 6]),
+        ("write", dict(id=5, address=4096, bytes=ALL_ONES - 4095), [0, 0, 5]),
+        ("write", dict(id=5, address=0, bytes=ALL_ONES, mark=ALL_ONES), [0, 0, 0]),
+        ("write", dict(id=5, address=0, bytes=ALL_ONES, mark=0b010101), [0, 0, 3]),
+        ("write", dict(id=5, address=0, bytes=ALL_ONES, mark=ALL_ONES - 63), [0, 0, 6]),
         ("receive", dict(id=1, data=b"\xaa" * 64), [2]),
         ("receive", dict(id=9, data=b""), [2]),
         ("receive", dict(id=6, data=b""), [5]),
         *[("receive", dict(id=5, data=b"\xaa" * size), [8]) for size in (0, 1, 15, 16, 31)],
-        ("receive", dict(id=5, data=b"\xaa" * 32), [0, 0, 0, 0, 0, 0]),
-        ("receive", dict(id=5, data=b"\xaa" * 32, mark=ALL_ONES - 63), [0, 0, 0, 0, 0, 0]),
-        ("receive", dict(id=5, data=b"\xaa" * 32, mark=ALL_ONES), [0, 0, 0, 1, 0, 1]),
-        ("receive", dict(id=5, data=b"\xaa" * 48, mark=ALL_ONES), [0, 0, 0, 0, 0, 2]),
-        ("receive", dict(id=5, data=b"\xaa" * 47, mark=0b010101), [0, 0, 0, 1, 0, 1]),
-        ("receive", dict(id=5, data=b"\xaa" * 63, mark=0b010101), [0, 0, 0, 1, 0, 2]),
-        ("receive", dict(id=5, data=b"\xaa" * 64, mark=0b010101), [0, 0, 0, 0, 0, 3]),
-        ("receive", dict(id=5, data=b"\xaa" * 1024, mark=0b010101), [0, 0, 0, 0, 0, 3]),
-        ("receive", dict(id=7, data=b"\xaa" * 32, mark=0b101), [0, 0, 1, 1, 8, 1]),
-        ("receive", dict(id=7, data=b"\xaa" * 48, mark=0b101), [0, 0, 1, 0, 8, 2]),
-        ("receive", dict(id=7, data=b"\xaa" * 48, mark=ALL_ONES - 7), [0, 0, 1, 0, 8, 0]),
+        ("receive", dict(id=5, data=b"\xaa" * 32), [0, 0, 0, 0, 0, 0, 0]),
+        ("receive", dict(id=5, data=b"\xaa" * 32, mark=ALL_ONES - 63), [0, 0, 0, 0, 0, 0, 0]),
+        ("receive", dict(id=5, data=b"\xaa" * 32, mark=ALL_ONES), [0, 0, 0, 0, 1, 0, 1]),
+        ("receive", dict(id=5, data=b"\xaa" * 48, mark=ALL_ONES), [0, 0, 0, 0, 0, 0, 2]),
+        ("receive", dict(id=5, data=b"\xaa" * 47, mark=0b010101), [0, 0, 0, 0, 1, 0, 1]),
+        ("receive", dict(id=5, data=b"\xaa" * 63, mark=0b010101), [0, 0, 0, 0, 1, 0, 2]),
+        ("receive", dict(id=5, data=b"\xaa" * 64, mark=0b010101), [0, 0, 0, 0, 0, 0, 3]),
+        ("receive", dict(id=5, data=b"\xaa" * 1024, mark=0b010101), [0, 0, 0, 0, 0, 0, 3]),
+        ("receive", dict(id=7, data=b"\xaa" * 32, mark=0b101), [0, 0, 0, 1, 1, 8, 1]),
+        ("receive", dict(id=7, data=b"\xaa" * 48, mark=0b101), [0, 0, 0, 1, 0, 8, 2]),
+        ("receive", dict(id=7, data=b"\xaa" * 48, mark=ALL_ONES - 7), [0, 0, 0, 1, 0, 8, 0]),
         ("suspend", dict(id=1, type=2), [2]),
         ("suspend", dict(id=9, type=1), [2]),
         *[("suspend", dict(id=id, type=type), [0]) for id in (5, 6, 7) for type in (0, 1)],
@@ -454,7 +533,12 @@ ORDERS = [
     ("rule on", both(settings(rule=1), in_place(2, 0, 1048576, 4)), [
         ("start", dict(id=6, data=structure(0, [(65536, 3)])), [10]),
         ("start", dict(id=6, data=structure(0, [(65536, 4)])), [0]),
-        ("start", dict(id=6, data=structure(0, [(65536, 3), (65537, 3)])), [9]),
+        ("start", dict(id=6, data=structure(0, [(65536, 3), (65537, 3)])), [20, 1]),
+        *[("start", dict(id=6, data=structure(0, [(65536, 3), one])), [number, 1]) for number, one in BAD.items()],
+        *[("start", dict(id=6, data=structure(0, [one, (65536, 3)])), [number, 0]) for number, one in BAD.items()],
+        ("start", dict(id=6, data=structure(0, sixteen(0, 3)[:15] + [(MEMORY - 4096, 3)])), [21, 15]),
+        ("start", dict(id=6, data=structure(0, [])), [18, 0]),
+        ("start", dict(id=6, data=structure(0, [(65536, 3)] * 17)), [18, 0]),
         ("start", dict(id=6, data=structure(0, [(65536, 4), (65536, 3)])), [10]),
         ("start", dict(id=6, data=structure(0, [(65536, 1), (65536, 4)])), [0]),
         ("start", dict(id=6, data=structure(0, [(0, 4097)])), [10]),
@@ -469,38 +553,38 @@ ORDERS = [
         ("resume", dict(id=6), [0]),
     ]),
     ("4,096 units", tracked(0, (0, 4096)), [
-        ("write", dict(id=5, address=0, bytes=ALL_ONES), [0, 4096]),
-        ("receive", dict(id=5, data=b"\xaa" * 32, mark=ALL_ONES), [0, 0, 0, 0, 0, 1]),
+        ("write", dict(id=5, address=0, bytes=ALL_ONES), [0, 0, 4096]),
+        ("receive", dict(id=5, data=b"\xaa" * 32, mark=ALL_ONES), [0, 0, 0, 0, 0, 0, 1]),
     ]),
     ("to 2^64", tracked(0, (MEMORY - 2**24, 4096)), [
-        ("write", dict(id=5, address=ALL_ONES, bytes=1), [0, 1]),
-        ("write", dict(id=5, address=1, bytes=ALL_ONES), [0, 4096]),
-        ("receive", dict(id=5, data=b"\xaa" * 32, mark=ALL_ONES), [0, 0, 0, 0, 0, 1]),
+        ("write", dict(id=5, address=ALL_ONES, bytes=1), [0, 0, 1]),
+        ("write", dict(id=5, address=1, bytes=ALL_ONES), [0, 0, 4096]),
+        ("receive", dict(id=5, data=b"\xaa" * 32, mark=ALL_ONES), [0, 0, 0, 0, 0, 0, 1]),
     ]),
     # Page 17, then pages 15 to 18, then page 16, then pages 14 to 19. So bit 0 is page 17, bits 1 to 3 are pages 15, 16
     # and 18, the third range has none, and bits 4 and 5 are pages 14 and 19.
     ("overlap", tracked(0, (69632, 1), (61440, 4), (65536, 1), (57344, 6)), [
-        *[("write", dict(id=5, address=4096 * page + 4095, bytes=1), [0, int(bit != 0)], {0: bit, 1: 0}) for page, bit in (
+        *[("write", dict(id=5, address=4096 * page + 4095, bytes=1), [0, 0, int(bit != 0)], {0: bit, 1: 0}) for page, bit in (
             (13, 0), (14, 1 << 4), (15, 1 << 1), (16, 1 << 2), (17, 1 << 0), (18, 1 << 3), (19, 1 << 5), (20, 0))],
-        ("write", dict(id=5, address=65535, bytes=2), [0, 2], {0: 0b000110}),
-        ("write", dict(id=5, address=69631, bytes=2), [0, 2], {0: 0b000101}),
-        ("write", dict(id=5, address=73727, bytes=2), [0, 2], {0: 0b001001}),
-        ("write", dict(id=5, address=0, bytes=ALL_ONES), [0, 6], {0: 0b111111, 1: 0}),
-        ("write", dict(id=5, address=0, bytes=ALL_ONES, mark=0b000100), [0, 5], {0: 0b111111, 1: 0b000100}),
-        ("write", dict(id=5, address=0, bytes=ALL_ONES, mark=ALL_ONES - 63), [0, 6], {0: ALL_ONES, 1: ALL_ONES - 63}),
-        ("write", dict(id=5, address=69632, bytes=1, mark=ALL_ONES - 1), [0, 1], {0: ALL_ONES, 1: ALL_ONES - 1}),
-        ("receive", dict(id=5, data=b"\xaa" * 32, mark=ALL_ONES), [0, 0, 0, 1, 0, 1],
+        ("write", dict(id=5, address=65535, bytes=2), [0, 0, 2], {0: 0b000110}),
+        ("write", dict(id=5, address=69631, bytes=2), [0, 0, 2], {0: 0b000101}),
+        ("write", dict(id=5, address=73727, bytes=2), [0, 0, 2], {0: 0b001001}),
+        ("write", dict(id=5, address=0, bytes=ALL_ONES), [0, 0, 6], {0: 0b111111, 1: 0}),
+        ("write", dict(id=5, address=0, bytes=ALL_ONES, mark=0b000100), [0, 0, 5], {0: 0b111111, 1: 0b000100}),
+        ("write", dict(id=5, address=0, bytes=ALL_ONES, mark=ALL_ONES - 63), [0, 0, 6], {0: ALL_ONES, 1: ALL_ONES - 63}),
+        ("write", dict(id=5, address=69632, bytes=1, mark=ALL_ONES - 1), [0, 0, 1], {0: ALL_ONES, 1: ALL_ONES - 1}),
+        ("receive", dict(id=5, data=b"\xaa" * 32, mark=ALL_ONES), [0, 0, 0, 0, 1, 0, 1],
          {0: ALL_ONES - 1, 1: ALL_ONES}, [(69632, 1)]),
-        ("receive", dict(id=5, data=b"\xaa" * 47, mark=0b111110), [0, 0, 0, 1, 0, 1], {0: 0b111000, 1: 0b111110}, [(61440, 2)]),
-        ("receive", dict(id=5, data=b"\xaa" * 64, mark=0b111111), [0, 0, 0, 1, 0, 3], {0: 0b110000},
+        ("receive", dict(id=5, data=b"\xaa" * 47, mark=0b111110), [0, 0, 0, 0, 1, 0, 1], {0: 0b111000, 1: 0b111110}, [(61440, 2)]),
+        ("receive", dict(id=5, data=b"\xaa" * 64, mark=0b111111), [0, 0, 0, 0, 1, 0, 3], {0: 0b110000},
          [(69632, 1), (61440, 2), (73728, 1)]),
-        ("receive", dict(id=5, data=b"\xaa" * 64, mark=0b111010), [0, 0, 0, 1, 0, 3], {0: 0b100000},
+        ("receive", dict(id=5, data=b"\xaa" * 64, mark=0b111010), [0, 0, 0, 0, 1, 0, 3], {0: 0b100000},
          [(61440, 1), (73728, 1), (57344, 1)]),
-        ("receive", dict(id=5, data=b"\xaa" * 96, mark=ALL_ONES), [0, 0, 0, 0, 0, 5], {0: ALL_ONES - 63, 1: ALL_ONES},
+        ("receive", dict(id=5, data=b"\xaa" * 96, mark=ALL_ONES), [0, 0, 0, 0, 0, 0, 5], {0: ALL_ONES - 63, 1: ALL_ONES},
          [(69632, 1), (61440, 2), (73728, 1), (57344, 1), (77824, 1)]),
-        ("receive", dict(id=5, data=b"\xaa" * 48, mark=0b110000), [0, 0, 0, 0, 0, 2],
+        ("receive", dict(id=5, data=b"\xaa" * 48, mark=0b110000), [0, 0, 0, 0, 0, 0, 2],
          {0: 0, 1: 0b110000}, [(57344, 1), (77824, 1)]),
-        ("receive", dict(id=5, data=b"\xaa" * 48, mark=ALL_ONES - 63), [0, 0, 0, 0, 0, 0], {0: ALL_ONES - 63}),
+        ("receive", dict(id=5, data=b"\xaa" * 48, mark=ALL_ONES - 63), [0, 0, 0, 0, 0, 0, 0], {0: ALL_ONES - 63}),
         ("stop", dict(id=5, mark=ALL_ONES), [0], {0: 0, 63: 0, 64: ALL_ONES}),
         # 5 of the limit's 16 are taken.
         ("start", dict(id=6, data=structure(0, [(65536, 1)] * 11), mark=ALL_ONES), [0],
@@ -508,48 +592,48 @@ ORDERS = [
         ("start", dict(id=6, data=structure(0, [(65536, 1)] * 12)), [12]),
     ]),
     ("sixteen are the same", tracked(0, *[(65536, 2)] * 16, limit=128), [
-        ("write", dict(id=5, address=0, bytes=ALL_ONES), [0, 2], {0: 0b11, 1: 0}),
-        ("receive", dict(id=5, data=b"\xaa" * 272, mark=ALL_ONES), [0, 0, 0, 0, 0, 1], {0: ALL_ONES - 3}, [(65536, 2)]),
+        ("write", dict(id=5, address=0, bytes=ALL_ONES), [0, 0, 2], {0: 0b11, 1: 0}),
+        ("receive", dict(id=5, data=b"\xaa" * 272, mark=ALL_ONES), [0, 0, 0, 0, 0, 0, 1], {0: ALL_ONES - 3}, [(65536, 2)]),
     ]),
     ("4,096 units twice", tracked(0, (0, 4096), (0, 4096)), [
-        ("write", dict(id=5, address=0, bytes=ALL_ONES), [0, 4096], {0: ALL_ONES, 63: ALL_ONES, 64: 0}),
-        ("receive", dict(id=5, data=b"\xaa" * 32, mark=ALL_ONES), [0, 0, 0, 0, 0, 1], {0: 0, 63: 0, 64: ALL_ONES}, [(0, 4096)]),
+        ("write", dict(id=5, address=0, bytes=ALL_ONES), [0, 0, 4096], {0: ALL_ONES, 63: ALL_ONES, 64: 0}),
+        ("receive", dict(id=5, data=b"\xaa" * 32, mark=ALL_ONES), [0, 0, 0, 0, 0, 0, 1], {0: 0, 63: 0, 64: ALL_ONES}, [(0, 4096)]),
     ]),
     # Page 4095 is unit 0, and each other page p is unit p + 1.
     ("page 4095 before 4,096 pages", tracked(0, (16773120, 1), (0, 4096)), [
-        ("write", dict(id=5, address=16773120, bytes=1), [0, 1], {0: 1, 63: 0}),
-        ("write", dict(id=5, address=0, bytes=1), [0, 1], {0: 2}),
-        ("write", dict(id=5, address=4096 * 62, bytes=1), [0, 1], {0: 2**63, 1: 0}),
-        ("write", dict(id=5, address=4096 * 63, bytes=1), [0, 1], {0: 0, 1: 1}),
-        ("write", dict(id=5, address=4096 * 4094, bytes=8192), [0, 2], {0: 1, 62: 0, 63: 2**63, 64: 0}),
-        ("write", dict(id=5, address=0, bytes=ALL_ONES), [0, 4096], {0: ALL_ONES, 63: ALL_ONES, 64: 0}),
-        ("receive", dict(id=5, data=b"\xaa" * 32, mark=ALL_ONES), [0, 0, 0, 1, 0, 1],
+        ("write", dict(id=5, address=16773120, bytes=1), [0, 0, 1], {0: 1, 63: 0}),
+        ("write", dict(id=5, address=0, bytes=1), [0, 0, 1], {0: 2}),
+        ("write", dict(id=5, address=4096 * 62, bytes=1), [0, 0, 1], {0: 2**63, 1: 0}),
+        ("write", dict(id=5, address=4096 * 63, bytes=1), [0, 0, 1], {0: 0, 1: 1}),
+        ("write", dict(id=5, address=4096 * 4094, bytes=8192), [0, 0, 2], {0: 1, 62: 0, 63: 2**63, 64: 0}),
+        ("write", dict(id=5, address=0, bytes=ALL_ONES), [0, 0, 4096], {0: ALL_ONES, 63: ALL_ONES, 64: 0}),
+        ("receive", dict(id=5, data=b"\xaa" * 32, mark=ALL_ONES), [0, 0, 0, 0, 1, 0, 1],
          {0: ALL_ONES - 1, 1: ALL_ONES}, [(16773120, 1)]),
-        ("receive", dict(id=5, data=b"\xaa" * 48, mark=ALL_ONES), [0, 0, 0, 0, 0, 2], {0: 0, 63: 0, 64: ALL_ONES},
+        ("receive", dict(id=5, data=b"\xaa" * 48, mark=ALL_ONES), [0, 0, 0, 0, 0, 0, 2], {0: 0, 63: 0, 64: ALL_ONES},
          [(16773120, 1), (0, 4095)]),
     ]),
     # Unit 0 is page 100; pages 0 to 99 are units 1 to 100, and pages 101 to 199 units 101 to 199.
     ("page 100 before 200 pages", tracked(0, (409600, 1), (0, 200)), [
-        ("write", dict(id=5, address=4096 * 99, bytes=3 * 4096), [0, 3], {0: 1, 1: 0b11 << 36, 2: 0}),
-        ("receive", dict(id=5, data=b"\xaa" * 48, mark=ALL_ONES), [0, 0, 0, 1, 0, 2],
+        ("write", dict(id=5, address=4096 * 99, bytes=3 * 4096), [0, 0, 3], {0: 1, 1: 0b11 << 36, 2: 0}),
+        ("receive", dict(id=5, data=b"\xaa" * 48, mark=ALL_ONES), [0, 0, 0, 0, 1, 0, 2],
          {0: 0, 1: ALL_ONES - (2**37 - 1), 2: ALL_ONES}, [(409600, 1), (0, 100)]),
-        ("receive", dict(id=5, data=b"\xaa" * 64, mark=ALL_ONES), [0, 0, 0, 0, 0, 3],
+        ("receive", dict(id=5, data=b"\xaa" * 64, mark=ALL_ONES), [0, 0, 0, 0, 0, 0, 3],
          {0: 0, 1: 0, 2: 0, 3: ALL_ONES - 255, 4: ALL_ONES}, [(409600, 1), (0, 100), (413696, 99)]),
     ]),
     ("last unit before the last two, granularity 20", tracked(20, (MEMORY - 2**32, 1), (MEMORY - 2**33, 2), greatest=20), [
-        ("write", dict(id=5, address=ALL_ONES, bytes=1), [0, 1], {0: 1}),
-        ("write", dict(id=5, address=MEMORY - 2**33, bytes=1), [0, 1], {0: 2}),
-        ("write", dict(id=5, address=1, bytes=ALL_ONES), [0, 2], {0: 3}),
-        ("receive", dict(id=5, data=b"\xaa" * 48, mark=ALL_ONES), [0, 0, 0, 0, 20, 2], {0: ALL_ONES - 3},
+        ("write", dict(id=5, address=ALL_ONES, bytes=1), [0, 0, 1], {0: 1}),
+        ("write", dict(id=5, address=MEMORY - 2**33, bytes=1), [0, 0, 1], {0: 2}),
+        ("write", dict(id=5, address=1, bytes=ALL_ONES), [0, 0, 2], {0: 3}),
+        ("receive", dict(id=5, data=b"\xaa" * 48, mark=ALL_ONES), [0, 0, 0, 0, 0, 20, 2], {0: ALL_ONES - 3},
          [(MEMORY - 2**32, 1), (MEMORY - 2**33, 1)]),
     ]),
     ("sixteen touch", tracked(0, *sixteen(), limit=128), [
-        ("receive", dict(id=5, data=b"\xaa" * 256, mark=ALL_ONES), [0, 0, 0, 1, 0, 15]),
-        ("receive", dict(id=5, data=b"\xaa" * 272, mark=ALL_ONES), [0, 0, 0, 0, 0, 16]),
+        ("receive", dict(id=5, data=b"\xaa" * 256, mark=ALL_ONES), [0, 0, 0, 0, 1, 0, 15]),
+        ("receive", dict(id=5, data=b"\xaa" * 272, mark=ALL_ONES), [0, 0, 0, 0, 0, 0, 16]),
     ]),
     ("full", full(128), [
-        ("write", dict(id=4, address=0, bytes=ALL_ONES), [0, 4096]),
-        ("receive", dict(id=4, data=b"\xaa" * 1024, mark=ALL_ONES), [0, 0, 0, 0, 20, 16]),
+        ("write", dict(id=4, address=0, bytes=ALL_ONES), [0, 0, 4096]),
+        ("receive", dict(id=4, data=b"\xaa" * 1024, mark=ALL_ONES), [0, 0, 0, 0, 0, 20, 16]),
         ("stop", dict(id=4, mark=ALL_ONES), [0]),
         ("resume", dict(id=7), [0]),
     ]),
@@ -584,11 +668,11 @@ def wrong_words(build, said):
 
 
 def orders(build, said):
-    """Each call as it is; then on a record whose last controller is unsound, and with a word too few."""
+    """Each call as it is; then on a record whose last controller is unsound in row 1, and with a word too few."""
     for name, change_it, calls in ORDERS:
         record = changed(build, change_it)
         unsound = copy.deepcopy(record)
-        unsound.controllers[2].track(8, (1048577, 1))
+        unsound.controllers[2].track(8, (1048576, 1), (1048577, 1))
         for call, fields, known, *after in calls:
             yield Case(record, call, **fields).named(f"{name}, {call}{said}", *known, **dict(zip(("marks", "runs"), after)))
             yield Case(unsound, call, **fields).named(f"{name}, {call}{said}, unsound", 1)

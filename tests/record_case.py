@@ -60,8 +60,8 @@ CLOSED = Record().packed()
 
 
 class Case:
-    """A record, lent marks and bytes, and one call. `known` are the answer's first numbers, as far as known by hand; of
-    some done calls also mark words and runs are known."""
+    """A record, lent marks and bytes, and one call. `known` are the answer's first numbers, as far as known by hand, the
+    row 0 unless said; of some done calls also mark words and runs are known."""
 
     def __init__(self, record, call, id=0, address=0, bytes=0, type=0, data=b"", words=512, mark=0):
         self.record = record
@@ -71,7 +71,8 @@ class Case:
 
     def named(self, name, *known, marks=None, runs=()):
         """The marks are by the number of their word; the runs are pairs of address and length in units."""
-        self.name, self.known, self.known_marks, self.known_runs = name, known, marks or {}, runs
+        self.name, self.known_marks, self.known_runs = name, marks or {}, runs
+        self.known = (*known, 0) if len(known) == 1 else known
         return self
 
     def packed(self):
@@ -101,8 +102,9 @@ def structure(granularity, ranges, version=0, count=None, reserved=0):
 
 # ---- An answer
 
-NUMBERS = ["refusal", "count", "suspended", "more", "granularity", "runs"]
-PACKED_NUMBERS = struct.Struct("<BQBBBQ")
+NUMBERS = ["refusal", "row", "count", "suspended", "more", "granularity", "runs"]
+PACKED_NUMBERS = struct.Struct("<BBQBBBQ")
+ROW_RULES = (19, 20, 21)  # a start that is refused with one of these answers its row; every other row is 0
 
 
 def record_fields():
@@ -119,7 +121,7 @@ def record_fields():
 
 def answer_fields():
     """Name and width of each field of an answer, in their order."""
-    yield from zip(NUMBERS, [1, 8, 1, 1, 1, 8])
+    yield from zip(NUMBERS, [1, 1, 8, 1, 1, 1, 8])
     at = 0
     for name, width in record_fields():
         yield f"record, byte {at}, {name}", width
@@ -144,18 +146,24 @@ def differences(one, other):
 
 
 def asked_for(case, answer):
-    """The answer that the documents ask for. Of a refused call all of it is known: zeros, and what was given (of a fresh
-    the closed device). Of a done one the first numbers are known, at times some mark words and runs, and the rest is
-    taken to be as answered."""
-    if not any(case.known[:1]):
-        asked = bytearray(answer)
-        PACKED_NUMBERS.pack_into(asked, 0, *case.known, *PACKED_NUMBERS.unpack_from(answer)[len(case.known):])
-        for word, mark in case.known_marks.items():
-            struct.pack_into("<Q", asked, MARKS_AT + 8 * word, mark)
-        for row, (address, length) in enumerate(case.known_runs):
-            struct.pack_into("<QII", asked, DATA_AT + 16 + 16 * row, address, length, 0)
-        return bytes(asked)
-    record = CLOSED if case.call == "fresh" else case.record.packed()
-    marks = struct.pack("<Q", case.mark) * case.words
-    return (PACKED_NUMBERS.pack(case.known[0], 0, 0, 0, 0, 0) + record
-            + marks.ljust(8 * MOST_WORDS, b"\0") + case.data.ljust(MOST_DATA, b"\0"))
+    """The answer that the documents ask for; of a random case as far as its number alone tells. Of a refused call all is
+    known: the number, the row, zeros, and what was given (of a fresh the closed device). Of a done one the first numbers
+    are known, at times some mark words and runs, and the rest is taken to be as answered."""
+    known = case.known or as_answered(case.call, *answer[:2])
+    if known[0]:
+        record = CLOSED if case.call == "fresh" else case.record.packed()
+        marks = struct.pack("<Q", case.mark) * case.words
+        return (PACKED_NUMBERS.pack(*known, 0, 0, 0, 0, 0) + record
+                + marks.ljust(8 * MOST_WORDS, b"\0") + case.data.ljust(MOST_DATA, b"\0"))
+    asked = bytearray(answer)
+    PACKED_NUMBERS.pack_into(asked, 0, *known, *PACKED_NUMBERS.unpack_from(answer)[len(known):])
+    for word, mark in case.known_marks.items():
+        struct.pack_into("<Q", asked, MARKS_AT + 8 * word, mark)
+    for row, (address, length) in enumerate(case.known_runs):
+        struct.pack_into("<QII", asked, DATA_AT + 16 + 16 * row, address, length, 0)
+    return bytes(asked)
+
+
+def as_answered(call, refusal, row):
+    """The number, and the row where there may be one."""
+    return refusal, row if call == "start" and refusal in ROW_RULES else 0

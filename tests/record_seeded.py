@@ -2,6 +2,7 @@
 
 import random
 
+from bad_rows import with_bad_rows
 from overlap import beside_another, different_units
 from record_by_hand import WRONG_WORDS
 from record_case import ALL_ONES, CALLS, MEMORY, Case, Record, structure
@@ -25,7 +26,7 @@ class Maker:
 
     def case(self):
         # A start has the most ways to be refused.
-        call = self.random.choice(CALLS + ["start"])
+        call = self.random.choice(CALLS + ["start"] * 2)
         self.record = self.sound_record()
         if self.chance(0.5):
             # A fresh looks at the settings alone.
@@ -66,7 +67,7 @@ class Maker:
         return sum(one.tracking[1] for one in used if one.tracking)
 
     def ranges(self, granularity):
-        """Ranges that keep the rules 9, 10 and 11, in any order; half of the lists overlap, some end at 2^64."""
+        """Ranges that keep the rules 18 to 21, 10 and 11, in any order; half of the lists overlap, some end at 2^64."""
         pick, unit = self.random, 4096 << granularity
         lengths = self.lengths(pick.choice([1, 2, 2, 3, 3, 4, 8, 15, 16]))
         rows = self.pushed_together(lengths) if self.chance(0.5) else self.apart(lengths)
@@ -214,8 +215,8 @@ class Maker:
         if self.chance(0.25):
             # Just enough of the limit is left, or one too few.
             record.limit = min(128, self.taken() + len(parts["ranges"]) - pick.choice([0, 1]))
-        if self.chance(0.4):
-            pick.choice([self.damage_header] + [self.damage_listed] * 3)(parts)
+        if self.chance(0.6):
+            pick.choice([self.damage_header] * 2 + [self.damage_listed] * 4 + [self.damage_rows] * 4)(parts)
         data = structure(reserved=pick.choice([0, 0, pick.getrandbits(16)]), **parts)
         if self.chance(0.1):
             data = data[:pick.choice([pick.randrange(8), pick.randrange(len(data)), len(data) - 1])]
@@ -228,8 +229,8 @@ class Maker:
         name, value = pick.choice([
             ("version", pick.choice([1, 128, 255])),
             ("granularity", pick.choice([record.least - 1, record.greatest + 1, 255]) % 256),
-            ("count", pick.choice([0, number - 1, number + 1, 17, 256, 2**32 - 1])),
-            ("ranges", (parts["ranges"] * 17)[:17]),
+            ("count", pick.choice([0, 0, number - 1, number + 1, 17, 256, 2**32 - 1])),
+            ("ranges", (parts["ranges"] * 32)[:pick.choice([17, 17, 18, 32])]),
         ])
         parts[name] = value
 
@@ -246,6 +247,11 @@ class Maker:
             (pick.choice(listed)[0], length),
             (MEMORY - unit, pick.choice([1, 2])),
         ])
+
+    def damage_rows(self, parts):
+        """Bad rows, at times in a list that is too long, so that none of them is heard."""
+        rows = with_bad_rows(self.random, 4096 << parts["granularity"], parts["ranges"])
+        parts["ranges"] = (rows * 17)[:17] if self.chance(0.15) else rows
 
     def write_fields(self):
         """At and around the edges of a listed range; at times anywhere."""

@@ -6,6 +6,7 @@ the two programs alone. Session K of seed N is always the same.
 
 import random
 
+from bad_rows import with_bad_rows
 from case import Case
 from damaged import damage
 from overlap import beside_another, different_units
@@ -131,7 +132,7 @@ class Maker:
         identifier = self.identifier([one for one in self.identifiers if one not in self.tracked])
         granularity = self.granularity()
         ranges = self.ranges(2 ** (12 + min(granularity, 20)))
-        spoiled = self.dice.random() < 0.15
+        spoiled = self.dice.random() < 0.25
         if spoiled:
             granularity, ranges = self.spoil(granularity, ranges)
         if not spoiled and self.likely(identifier, granularity, ranges):
@@ -201,7 +202,7 @@ class Maker:
         at = dice.randrange(len(ranges))
         address, length = ranges[at]
         unit = 2 ** (12 + min(granularity, 20))
-        kind = dice.randrange(8)
+        kind = dice.randrange(13)
         if kind == 0:
             ranges = []
         if kind == 1:
@@ -219,6 +220,8 @@ class Maker:
             granularity = dice.choice([0, self.greatest + 1, 255])
         if kind == 7:  # the descriptor limit counts listed ranges, and 17 are bad
             ranges = (ranges * 17)[:dice.choice([2, 15, 16, 16, 17])]
+        if kind > 7:
+            ranges = with_bad_rows(dice, unit, ranges)
         return granularity, ranges
 
     # ---- write

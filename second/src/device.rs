@@ -51,42 +51,42 @@ impl Device {
         Ok(device)
     }
 
-    /// Start: 1, 2, 4, 3, 8 (header), 6, 7, 8 (listed ranges), 9, 10, 11, 12.
+    /// Start: 1, 2, 4, 3, 8 (header), 6, 7, 8 (listed ranges), 18, then row by row 19, 20 and 21, then 10, 11, 12.
     /// "An accepted start clears the controller's 64 words and records granularity and ranges."
-    pub fn start(&mut self, id: u64, buffer: &[u8]) -> Result<(), Refusal> {
+    pub fn start(&mut self, id: u64, buffer: &[u8]) -> Result<(), Reason> {
         let controller = self.controller(id)?;
         if controller.suspended {
-            return Err(SUSPENDED);
+            return Err(SUSPENDED.into());
         }
         if controller.tracking != Tracking::Off {
-            return Err(ALREADY_TRACKED);
+            return Err(ALREADY_TRACKED.into());
         }
         let header = match read_header(buffer) {
             Some(header) => header,
-            None => return Err(BUFFER_TOO_SHORT),
+            None => return Err(BUFFER_TOO_SHORT.into()),
         };
         if header.version != 0 {
-            return Err(VERSION);
+            return Err(VERSION.into());
         }
         if granularity_broken(&self.record.settings, header.granularity) {
-            return Err(GRANULARITY);
+            return Err(GRANULARITY.into());
         }
-        // "there, a count over 16 is met as 8 if the buffer doesn't hold them all, else as 9".
+        // "there, a count over 16 is met as 8 if the buffer doesn't hold them all", else as 18 (W3).
         let ranges = match read_ranges(buffer, header.count) {
             Some(ranges) => ranges,
-            None => return Err(BUFFER_TOO_SHORT),
+            None => return Err(BUFFER_TOO_SHORT.into()),
         };
-        if range_rule_broken(header.granularity, &ranges) {
-            return Err(RANGE_RULE);
+        if let Some(fault) = first_fault(header.granularity, header.count, &ranges) {
+            return Err(fault.into());
         }
         if power_of_two_broken(&self.record.settings, &ranges) {
-            return Err(POWER_OF_TWO);
+            return Err(POWER_OF_TWO.into());
         }
         if too_many_units(header.granularity, &ranges) {
-            return Err(TOO_MANY_UNITS);
+            return Err(TOO_MANY_UNITS.into());
         }
         if limit_passed(&self.record, ranges.len()) {
-            return Err(LIMIT_PASSED);
+            return Err(LIMIT_PASSED.into());
         }
         let mut places = [Range::default(); MOST_RANGES];
         for (place, range) in places.iter_mut().zip(&ranges) {
@@ -286,18 +286,19 @@ mod tests {
         structure_bytes(0, &[Range { start: 65536, length: 4 }])
     }
 
-    /// A refused start, which changes nothing.
-    fn refused_start(device: &Device, buffer: &[u8]) -> Refusal {
+    /// A refused start's number and row, if it has one. It changes nothing.
+    fn refused_start(device: &Device, buffer: &[u8]) -> (Refusal, Option<usize>) {
         let mut after = device.clone();
         let answer = after.start(5, buffer);
         assert_eq!(&after, device);
-        answer.unwrap_err()
+        let reason = answer.unwrap_err();
+        (reason.number, reason.row)
     }
 
     #[test]
     fn closed_device_answers_1_to_every_call() {
         let mut device = Device::default();
-        assert_eq!(device.start(0, &one_range()), Err(1));
+        assert_eq!(device.start(0, &one_range()), Err(Reason { number: 1, row: None }));
         assert_eq!(device.stop(0), Err(1));
         assert_eq!(device.write(0, 0, 0), Err(1));
         assert_eq!(device.receive(0, &mut [0; 64]), Err(1));
@@ -313,7 +314,7 @@ mod tests {
         device.record.controllers[0].ranges[0].length = 0;
         let before = device.clone();
         for id in [1, 5, 6, 7].iter() {
-            assert_eq!(device.start(*id, &[]), Err(1));
+            assert_eq!(device.start(*id, &[]), Err(Reason { number: 1, row: None }));
             assert_eq!(device.stop(*id), Err(1));
             assert_eq!(device.write(*id, u64::MAX, u64::MAX), Err(1));
             assert_eq!(device.receive(*id, &mut []), Err(1));
@@ -366,26 +367,26 @@ mod tests {
     fn start_with_a_short_buffer() {
         let device = device();
         for bytes in 0..8 {
-            assert_eq!(refused_start(&device, &one_range()[..bytes]), 8);
+            assert_eq!(refused_start(&device, &one_range()[..bytes]), (8, None));
         }
         for bytes in 8..20 {
-            assert_eq!(refused_start(&device, &one_range()[..bytes]), 8);
+            assert_eq!(refused_start(&device, &one_range()[..bytes]), (8, None));
         }
         // Version 1: behind 8 for the header, before 7 and before 8 for the ranges.
         let mut buffer = one_range();
         buffer[0] = 1;
         buffer[3] = 9;
-        assert_eq!(refused_start(&device, &buffer), 6);
-        assert_eq!(refused_start(&device, &buffer[..8]), 6);
-        assert_eq!(refused_start(&device, &buffer[..7]), 8);
+        assert_eq!(refused_start(&device, &buffer), (6, None));
+        assert_eq!(refused_start(&device, &buffer[..8]), (6, None));
+        assert_eq!(refused_start(&device, &buffer[..7]), (8, None));
         // Granularity 9: before 8 for the ranges.
         buffer[0] = 0;
-        assert_eq!(refused_start(&device, &buffer), 7);
-        assert_eq!(refused_start(&device, &buffer[..8]), 7);
-        // 8 for the ranges stands before 9.
-        let mut buffer = structure_bytes(0, &[Range { start: 65537, length: 0 }]);
-        assert_eq!(refused_start(&device, &buffer[..19]), 8);
-        assert_eq!(refused_start(&device, &buffer), 9);
+        assert_eq!(refused_start(&device, &buffer), (7, None));
+        assert_eq!(refused_start(&device, &buffer[..8]), (7, None));
+        // 8 for the ranges stands before 19, 20 and 21, also of rows that are wholly there.
+        let mut buffer = structure_bytes(0, &[Range { start: 65537, length: 0 }, Range { start: u64::MAX, length: 1 }]);
+        assert_eq!(refused_start(&device, &buffer[..31]), (8, None));
+        assert_eq!(refused_start(&device, &buffer), (19, Some(0)));
         // Bytes after the last listed range and reserved bytes are ignored.
         buffer = one_range();
         buffer[1] = 255;
@@ -402,19 +403,45 @@ mod tests {
             ranges.push(Range { start: row * 4096, length: 1 });
         }
         let buffer = structure_bytes(0, &ranges);
-        assert_eq!(buffer.len(), 8 + 17 * 12);
-        assert_eq!(refused_start(&device, &buffer), 9);
-        assert_eq!(refused_start(&device, &buffer[..buffer.len() - 1]), 8);
+        assert_eq!(buffer.len(), 212);
+        assert_eq!(refused_start(&device, &buffer), (18, Some(0)));
+        assert_eq!(refused_start(&device, &buffer[..211]), (8, None));
+        assert_eq!(refused_start(&device, &buffer[..8]), (8, None));
         let mut huge = buffer.clone();
         huge[7] = 255;
-        assert_eq!(refused_start(&device, &huge), 8);
+        assert_eq!(refused_start(&device, &huge), (8, None));
         let mut sixteen = buffer.clone();
         sixteen[4] = 16;
         assert_eq!(device.clone().start(5, &sixteen), Ok(()));
         let mut none = buffer;
         none[4] = 0;
-        assert_eq!(refused_start(&device, &none), 9);
-        assert_eq!(refused_start(&device, &none[..8]), 9);
+        assert_eq!(refused_start(&device, &none), (18, Some(0)));
+        assert_eq!(refused_start(&device, &none[..8]), (18, Some(0)));
+    }
+
+    #[test]
+    fn a_count_over_16_before_all_behind_it() {
+        // Seventeen rows, and in each of them, or in the first, or in the last alone: 19, 20, 21.
+        let device = device();
+        for bad in [(65536, 0), (65537, 1), (u64::MAX, 1), (18446744073709547520, 2)].iter() {
+            let bad = Range { start: bad.0, length: bad.1 };
+            let mut ranges = vec![bad; 17];
+            assert_eq!(refused_start(&device, &structure_bytes(0, &ranges)), (18, Some(0)));
+            ranges[1..].copy_from_slice(&[Range { start: 0, length: 1 }; 16]);
+            assert_eq!(refused_start(&device, &structure_bytes(0, &ranges)), (18, Some(0)));
+            ranges.rotate_left(1);
+            assert_eq!(refused_start(&device, &structure_bytes(0, &ranges)), (18, Some(0)));
+        }
+        // 10, 11 and 12: lengths of 4097 with the rule on, and a limit of 16.
+        let mut device = device;
+        device.record.settings.rule = 1;
+        let long = Range { start: 0, length: 4097 };
+        assert_eq!(refused_start(&device, &structure_bytes(0, &[long; 17])), (18, Some(0)));
+        assert_eq!(refused_start(&device, &structure_bytes(0, &[long; 16])), (10, None));
+        // 7 stands before it.
+        assert_eq!(refused_start(&device, &structure_bytes(9, &[long; 17])), (7, None));
+        assert_eq!(refused_start(&device, &structure_bytes(9, &[])), (7, None));
+        assert_eq!(refused_start(&device, &structure_bytes(0, &[])), (18, Some(0)));
     }
 
     #[test]

@@ -1,5 +1,6 @@
 //! The rules of document 01 that speak of plain numbers: settings, granularities, ranges and whose a unit is (with
-//! change request W2 of document 02), touching, and when a device record is sound. Nothing here knows of a session.
+//! change requests W2 and W3 of document 02), touching, and when a device record is sound. Nothing here knows of a
+//! session.
 //!
 //! Arithmetic on addresses is done in 128 bits and stops at the greatest number there (saturates) instead of
 //! wrapping. No number that passes the rules comes near it; one that stops there is far past 2^64 and so is
@@ -16,7 +17,6 @@ pub const NOT_TRACKED: Refusal = 5;
 pub const VERSION: Refusal = 6;
 pub const GRANULARITY: Refusal = 7;
 pub const BUFFER_TOO_SHORT: Refusal = 8;
-pub const RANGE_RULE: Refusal = 9;
 pub const POWER_OF_TWO: Refusal = 10;
 pub const TOO_MANY_UNITS: Refusal = 11;
 pub const LIMIT_PASSED: Refusal = 12;
@@ -24,6 +24,10 @@ pub const NOT_SUSPENDED: Refusal = 13;
 pub const PAST_THE_END: Refusal = 14;
 pub const SUSPEND_TYPE: Refusal = 15;
 pub const SETTINGS: Refusal = 16;
+pub const RANGE_COUNT: Refusal = 18;
+pub const LENGTH_0: Refusal = 19;
+pub const UNALIGNED: Refusal = 20;
+pub const RANGE_PAST_THE_END: Refusal = 21;
 
 /// "tracks, for up to 8 migratable controllers".
 pub const MOST_CONTROLLERS: usize = 8;
@@ -169,29 +173,65 @@ pub fn granularity_broken(settings: &Settings, granularity: u64) -> bool {
     granularity < settings.least || granularity > settings.greatest
 }
 
-/// Refusal 9: "Range rules (refusal 9): the count is 1 to 16; each length is at least 1; each start is a multiple of
-/// the unit; start plus length in bytes is at most 2^64". W2: "Overlap is now allowed."
-pub fn range_rule_broken(granularity: u64, ranges: &[Range]) -> bool {
-    // "the count is 1 to 16"
-    if ranges.is_empty() || ranges.len() > MOST_RANGES {
-        return true;
+/// A broken range rule and the row that breaks it, counted from 0 (W3). The row is compared first, then the number.
+#[derive(Clone, Copy, Debug, PartialEq, Eq, PartialOrd, Ord)]
+pub struct Fault {
+    pub row: usize,
+    pub number: Refusal,
+}
+
+/// Why a call is refused. W3: "Say which rule and row"; a refusal that is no range rule's has no row.
+#[derive(Clone, Copy, Debug, PartialEq, Eq)]
+pub struct Reason {
+    pub number: Refusal,
+    pub row: Option<usize>,
+}
+
+impl From<Refusal> for Reason {
+    fn from(number: Refusal) -> Reason {
+        Reason { number, row: None }
     }
+}
+
+impl From<Fault> for Reason {
+    fn from(fault: Fault) -> Reason {
+        Reason { number: fault.number, row: Some(fault.row) }
+    }
+}
+
+/// Refusals 18 to 21: "the earliest row first; within a row length 0, unaligned, past the end". That is the least fault
+/// of all, as the numbers have this order too; 18, of row 0 and the least number, is before every other.
+pub fn first_fault(granularity: u64, count: u64, ranges: &[Range]) -> Option<Fault> {
+    range_faults(granularity, count, ranges).into_iter().min()
+}
+
+/// Every broken range rule of every row, rule by rule. W2: "Overlap is now allowed." The count is what header or record
+/// says; a record may say more than its 16 places.
+fn range_faults(granularity: u64, count: u64, ranges: &[Range]) -> Vec<Fault> {
     let unit = unit_bytes(granularity);
-    for range in ranges {
-        // "each length is at least 1"
-        if range.length == 0 {
-            return true;
-        }
-        // "each start is a multiple of the unit"
-        if u128::from(range.start) % unit != 0 {
-            return true;
-        }
-        // "start plus length in bytes is at most 2^64"
-        if range_end(unit, *range) > END_OF_MEMORY {
-            return true;
+    let mut faults = Vec::new();
+    // "18 count 0 or over 16 (row 0)"
+    if count < 1 || count > MOST_RANGES as u64 {
+        faults.push(Fault { row: 0, number: RANGE_COUNT });
+    }
+    // "each length is at least 1"
+    faults.extend(faults_of(LENGTH_0, ranges, &|range| range.length == 0));
+    // "each start is a multiple of the unit"
+    faults.extend(faults_of(UNALIGNED, ranges, &|range| u128::from(range.start) % unit != 0));
+    // "start plus length in bytes is at most 2^64"
+    faults.extend(faults_of(RANGE_PAST_THE_END, ranges, &|range| range_end(unit, *range) > END_OF_MEMORY));
+    faults
+}
+
+/// The faults of one rule, one for each row that breaks it.
+fn faults_of(number: Refusal, ranges: &[Range], broken: &dyn Fn(&Range) -> bool) -> Vec<Fault> {
+    let mut faults = Vec::new();
+    for (row, range) in ranges.iter().enumerate() {
+        if broken(range) {
+            faults.push(Fault { row, number });
         }
     }
-    false
+    faults
 }
 
 /// Refusal 10: "power-of-two rule is on and some length isn't a power of two". The lengths are those listed, also where
@@ -219,7 +259,7 @@ pub struct Stretch {
 }
 
 /// W2: "A unit covered by several ranges counts once and belongs to the earliest listed." So of each range there is what
-/// none before it has taken, in stretches: in the order of the list, then by address. For ranges that keep rule 9.
+/// none before it has taken, in stretches: in the order of the list, then by address. For ranges without a fault.
 ///
 /// No unit is walked here; a range that is refused with 11 may have 2^32 - 1 of them.
 pub fn stretches(granularity: u64, ranges: &[Range]) -> Vec<Stretch> {
@@ -272,7 +312,7 @@ pub fn limit_passed(record: &Record, requested: usize) -> bool {
 
 /// Refusal 1, its first half: "A record is sound exactly if its settings would pass 16, each tracked controller's
 /// granularity and ranges would pass 7, 9, 10 and 11, and the counts together are within the limit. Unused places
-/// aren't looked at".
+/// aren't looked at". W3: "9 becomes 18 ..., 19 ..., 20 ..., 21"; here it is all one which of them, and which row.
 pub fn sound(record: &Record) -> bool {
     let settings = &record.settings;
     if settings_broken(settings) {
@@ -280,13 +320,9 @@ pub fn sound(record: &Record) -> bool {
     }
     for (controller, _) in record.controllers.iter().zip(0..settings.number) {
         if let Tracking::On { granularity, count } = controller.tracking {
-            // Of rule 9 the part on the count: a count past the 16 places has no ranges to look at.
-            if count > MOST_RANGES as u64 {
-                return false;
-            }
             let ranges = controller.used_ranges();
             if granularity_broken(settings, granularity)
-                || range_rule_broken(granularity, &ranges)
+                || first_fault(granularity, count, &ranges).is_some()
                 || power_of_two_broken(settings, &ranges)
                 || too_many_units(granularity, &ranges)
             {
@@ -576,6 +612,96 @@ mod tests {
         assert!(!sound(&record));
     }
 
+    fn fault(row: usize, number: Refusal) -> Fault {
+        Fault { row, number }
+    }
+
+    /// The least fault of these ranges, of which as many are said as are there.
+    fn first(granularity: u64, ranges: &[Range]) -> Option<Fault> {
+        first_fault(granularity, ranges.len() as u64, ranges)
+    }
+
+    #[test]
+    fn faults_of_one_row() {
+        let page = 18446744073709547520; // 2^64 - 4096
+        let of = |start, length| first(0, &[range(start, length)]);
+        assert_eq!(of(65536, 4), None);
+        assert_eq!(of(page, 1), None);
+        assert_eq!(of(65536, 0), Some(fault(0, 19)));
+        assert_eq!(of(65537, 1), Some(fault(0, 20)));
+        assert_eq!(of(page, 2), Some(fault(0, 21)));
+        // Two at once: of no length and unaligned, then unaligned and past the end.
+        assert_eq!(of(65537, 0), Some(fault(0, 19)));
+        assert_eq!(of(u64::MAX, 0), Some(fault(0, 19)));
+        assert_eq!(of(u64::MAX, 1), Some(fault(0, 20)));
+        assert_eq!(of(page + 1, 1), Some(fault(0, 20)));
+        // A range of length 0 ends where it begins, and so never past the end.
+        assert_eq!(of(page, 0), Some(fault(0, 19)));
+        assert_eq!(range_faults(0, 1, &[range(page, 0)]), [fault(0, 19)]);
+    }
+
+    #[test]
+    fn faults_at_other_granularities() {
+        // 2^20, 2^20 + 4096 and 2^64 - 2^20 in units of 2^20 bytes; the same in pages.
+        let last = 18446744073708503040;
+        assert_eq!(first(8, &[range(1048576, 1), range(1052672, 1)]), Some(fault(1, 20)));
+        assert_eq!(first(0, &[range(1048576, 1), range(1052672, 1)]), None);
+        assert_eq!(first(8, &[range(last, 1), range(last, 2)]), Some(fault(1, 21)));
+        assert_eq!(first(0, &[range(last, 256), range(last, 257)]), Some(fault(1, 21)));
+        assert_eq!(first(0, &[range(last, 1), range(last, 2)]), None);
+        // 2^32 - 1 units of 2^32 bytes end at 2^64 from the second unit on, and one past it from the third.
+        assert_eq!(first(20, &[range(4294967296, 4294967295)]), None);
+        assert_eq!(first(20, &[range(8589934592, 4294967295)]), Some(fault(0, 21)));
+        assert_eq!(first(20, &[range(2147483648, 4294967295)]), Some(fault(0, 20)), "half a unit");
+    }
+
+    #[test]
+    fn faults_of_all_rows() {
+        // Row 0 is of no length and unaligned, row 1 is good, row 2 unaligned and past the end, row 3 of no length.
+        let ranges = [range(4097, 0), range(65536, 4), range(u64::MAX, 1), range(0, 0)];
+        let mut faults = range_faults(0, 4, &ranges);
+        faults.sort();
+        assert_eq!(faults, [fault(0, 19), fault(0, 20), fault(2, 20), fault(2, 21), fault(3, 19)]);
+        assert_eq!(first(0, &ranges), Some(fault(0, 19)));
+        assert_eq!(first(0, &ranges[1..]), Some(fault(1, 20)), "rows are counted anew");
+        assert_eq!(first(0, &ranges[3..]), Some(fault(0, 19)));
+        assert_eq!(first(0, &ranges[1..2]), None);
+    }
+
+    #[test]
+    fn the_count_before_every_row() {
+        assert_eq!(first(0, &[]), Some(fault(0, 18)));
+        assert_eq!(first(0, &[range(65536, 4); 1]), None);
+        assert_eq!(first(0, &[range(65536, 4); 16]), None);
+        assert_eq!(first(0, &[range(65536, 4); 17]), Some(fault(0, 18)));
+        assert_eq!(first(0, &[range(4097, 0); 16]), Some(fault(0, 19)));
+        assert_eq!(first(0, &[range(4097, 0); 17]), Some(fault(0, 18)));
+        assert_eq!(first(0, &[range(4097, 0); 84]), Some(fault(0, 18)));
+        // A record that says more than the 16 there are, or none.
+        assert_eq!(first_fault(0, 17, &[range(4097, 0); 16]), Some(fault(0, 18)));
+        assert_eq!(first_fault(0, u64::MAX, &[range(65536, 4); 16]), Some(fault(0, 18)));
+        assert_eq!(first_fault(0, 0, &[]), Some(fault(0, 18)));
+    }
+
+    #[test]
+    fn earlier_faults_are_less() {
+        // W3's own order: the count, then the rows, and within a row its three rules.
+        let mut order = vec![fault(0, 18)];
+        for row in 0..16 {
+            order.extend_from_slice(&[fault(row, 19), fault(row, 20), fault(row, 21)]);
+        }
+        for pair in order.windows(2) {
+            assert!(pair[0] < pair[1], "{:?}", pair);
+        }
+    }
+
+    #[test]
+    fn reasons_with_a_row_and_without() {
+        assert_eq!(Reason::from(POWER_OF_TWO), Reason { number: 10, row: None });
+        assert_eq!(Reason::from(fault(0, 18)), Reason { number: 18, row: Some(0) });
+        assert_eq!(Reason::from(fault(15, 21)), Reason { number: 21, row: Some(15) });
+    }
+
     fn row(row: usize, first: u128, after: u128) -> Stretch {
         Stretch { row, first, after }
     }
@@ -782,8 +908,9 @@ mod tests {
         }
         assert!(!sound(&record));
         // The rules one by one have an answer for any numbers too.
-        assert!(range_rule_broken(u64::MAX, &[range(0, 1)]));
-        assert!(range_rule_broken(u64::MAX, &[range(u64::MAX, u64::MAX)]));
+        assert_eq!(first_fault(u64::MAX, 1, &[range(0, 1)]), Some(fault(0, 21)));
+        assert_eq!(first_fault(u64::MAX, 1, &[range(u64::MAX, u64::MAX)]), Some(fault(0, 20)));
+        assert_eq!(first_fault(u64::MAX, u64::MAX, &[range(u64::MAX, u64::MAX)]), Some(fault(0, 18)));
         assert!(too_many_units(u64::MAX, &[range(0, u64::MAX); 16]));
         assert!(too_many_units(0, &[range(u64::MAX, u64::MAX), range(0, 1), range(4095, 3)]));
         assert!(limit_passed(&record, usize::MAX));

@@ -4,7 +4,7 @@ use crate::device::Device;
 use crate::lines::Cut;
 use crate::listing::{parse, Line};
 use crate::report::read_report;
-use crate::rules::Refusal;
+use crate::rules::Reason;
 use crate::structure::structure_bytes;
 
 /// What lies in a `recv` line's buffer before the call; no answer may depend on it.
@@ -27,14 +27,16 @@ impl Session {
             None => "bad\n".to_string(),
             Some(line) => match self.play(&line) {
                 Ok(answer) => answer,
-                Err(refusal) => format!("{}\n", refusal),
+                Err(Reason { number, row: None }) => format!("{}\n", number),
+                // W3: "the session prints it after the number".
+                Err(Reason { number, row: Some(row) }) => format!("{} {}\n", number, row),
             },
         }
     }
 
     /// "Each answers one line: the number, and after a done write its count. A report adds four named numbers and a
     /// line a descriptor."
-    fn play(&mut self, line: &Line) -> Result<String, Refusal> {
+    fn play(&mut self, line: &Line) -> Result<String, Reason> {
         match line {
             // "a refused `dev` keeps the device there was"
             Line::Dev(settings) => {

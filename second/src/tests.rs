@@ -107,12 +107,12 @@ fn worked_write_at_the_end_of_memory() {
 
 #[test]
 fn worked_granularity_8() {
-    session(&[(DEV, "0"), ("start 5 8 1052672 4", "9"), ("start 5 8 1048576 4", "0")]);
+    session(&[(DEV, "0"), ("start 5 8 1052672 4", "20 0"), ("start 5 8 1048576 4", "0")]);
 }
 
 #[test]
 fn worked_last_page() {
-    session(&[(DEV, "0"), ("start 5 0 18446744073709547520 2", "9"), ("start 5 0 18446744073709547520 1", "0")]);
+    session(&[(DEV, "0"), ("start 5 0 18446744073709547520 2", "21 0"), ("start 5 0 18446744073709547520 1", "0")]);
 }
 
 #[test]
@@ -396,30 +396,30 @@ fn start_7() {
 }
 
 #[test]
-fn start_9() {
+fn start_18_to_21() {
     session(&[
         (DEV, "0"),
         // The count.
-        ("start 5 0", "9"),
+        ("start 5 0", "18 0"),
         // Lengths.
-        ("start 5 0 65536 0", "9"),
-        ("start 5 0 65536 1 0 0", "9"),
-        ("start 5 0 65536 4 69632 0", "9"),
+        ("start 5 0 65536 0", "19 0"),
+        ("start 5 0 65536 1 0 0", "19 1"),
+        ("start 5 0 65536 4 69632 0", "19 1"),
         // Multiples of the unit.
-        ("start 5 0 65537 4", "9"),
-        ("start 5 0 61441 1", "9"),
-        ("start 5 0 18446744073709551615 1", "9"),
-        ("start 5 1 4096 1", "9"),
-        ("start 5 8 1048575 1", "9"),
-        ("start 5 0 0 1 1 1", "9"),
+        ("start 5 0 65537 4", "20 0"),
+        ("start 5 0 61441 1", "20 0"),
+        ("start 5 0 18446744073709551615 1", "20 0"),
+        ("start 5 1 4096 1", "20 0"),
+        ("start 5 8 1048575 1", "20 0"),
+        ("start 5 0 0 1 1 1", "20 1"),
         // The end of memory.
-        ("start 5 0 18446744073709547520 4294967295", "9"),
-        ("start 5 8 18446744073708503040 2", "9"),
-        ("start 5 0 0 1 18446744073709547520 2", "9"),
+        ("start 5 0 18446744073709547520 4294967295", "21 0"),
+        ("start 5 8 18446744073708503040 2", "21 0"),
+        ("start 5 0 0 1 18446744073709547520 2", "21 1"),
         // Also of a range whose units all belong to an earlier one, or would.
-        ("start 5 0 65536 4 65536 0", "9"),
-        ("start 5 0 65536 4 65537 1", "9"),
-        ("start 5 0 18446744073709547520 1 18446744073709547520 2", "9"),
+        ("start 5 0 65536 4 65536 0", "19 1"),
+        ("start 5 0 65536 4 65537 1", "20 1"),
+        ("start 5 0 18446744073709547520 1 18446744073709547520 2", "21 1"),
         // Touching.
         ("start 5 0 65536 4 81920 1 61440 1", "0"),
     ]);
@@ -448,7 +448,7 @@ fn start_11() {
         ("start 5 20 0 4294967295", "11"),
         // Ends at 2^64 exactly.
         ("start 5 20 4294967296 4294967295", "11"),
-        ("start 5 20 8589934592 4294967295", "9"),
+        ("start 5 20 8589934592 4294967295", "21 0"),
         ("start 5 0 0 2048 16777216 2048 33554432 1", "11"),
         ("start 5 0 0 2048 16777216 2047 33554432 1", "0"),
         // The other controller's units are its own.
@@ -579,34 +579,41 @@ fn resume_refusals() {
 #[test]
 fn start_order() {
     session(&[
-        // 1 before 2, 7, 9.
+        // 1 before 2, 7, 19.
         ("start 1 9 1 0", "1"),
         // Granularities 2 to 8, rule on, limit 2.
         ("dev 1 2 8 1 2 5 6 7", "0"),
-        // 2 before 7, 9, 10, 11, 12.
+        // 2 before 7, 18, 10, 11, 12.
         ("start 1 9 65536 4", "2"),
         ("start 8 2", "2"),
         ("start 8 2 0 3", "2"),
         ("start 8 2 0 8192", "2"),
         ("start 8 2 0 1 16384 1 32768 1", "2"),
-        // 4 before 7, 9, 10, 11, 12.
+        // 4 before 7, 18, 10, 11, 12.
         ("susp 6 1", "0"),
         ("start 6 9 0 1", "4"),
         ("start 6 2", "4"),
         ("start 6 2 0 3", "4"),
         ("start 6 2 0 8192", "4"),
         ("start 6 2 0 1 16384 1 32768 1", "4"),
-        // 7 before 9, 10, 11, 12.
+        // 7 before 18, 19, 10, 11, 12.
         ("start 5 1", "7"),
         ("start 5 9 1 0", "7"),
         ("start 5 9 0 3", "7"),
         ("start 5 9 0 8192", "7"),
         ("start 5 9 0 1 16777216 1 33554432 1", "7"),
-        // 9 before 10, 11, 12.
-        ("start 5 2 1 3", "9"),
-        ("start 5 2 1 8192", "9"),
-        ("start 5 2 0 3 1 1", "9"),
-        ("start 5 2 0 1 16384 1 32768 0", "9"),
+        // 19, 20 and 21 before 10, 11, 12, in whatever row.
+        ("start 5 2 1 3", "20 0"),
+        ("start 5 2 1 8192", "20 0"),
+        ("start 5 2 0 3 1 1", "20 1"),
+        ("start 5 2 0 8192 1 1", "20 1"),
+        ("start 5 2 0 3 0 0", "19 1"),
+        ("start 5 2 0 8192 0 0", "19 1"),
+        ("start 5 2 18446744073709535232 3", "21 0"),
+        ("start 5 2 0 8192 18446744073709535232 2", "21 1"),
+        ("start 5 2 0 1 16384 1 32768 0", "19 2"),
+        ("start 5 2 0 1 16384 1 32769 1", "20 2"),
+        ("start 5 2 0 1 16384 1 18446744073709535232 2", "21 2"),
         // 10 before 11, 12.
         ("start 5 2 0 4097", "10"),
         ("start 5 2 0 3 65536 1 131072 1", "10"),
@@ -619,7 +626,7 @@ fn start_order() {
         ("start 5 2 0 1 16384 1 16384 1", "12"),
         ("start 5 2 0 4096 0 4096 0 4096", "12"),
         ("start 5 2 0 1 16384 1", "0"),
-        // 3 before 7, 9, 10, 11, 12.
+        // 3 before 7, 18, 10, 11, 12.
         ("start 5 9 0 1", "3"),
         ("start 5 2", "3"),
         ("start 5 2 0 3", "3"),
@@ -631,7 +638,10 @@ fn start_order() {
         ("start 5 9 0 1", "4"),
         // 12 behind each of the others where another controller holds the limit.
         ("start 7 9 0 1", "7"),
-        ("start 7 2", "9"),
+        ("start 7 2", "18 0"),
+        ("start 7 2 0 0", "19 0"),
+        ("start 7 2 1 1", "20 0"),
+        ("start 7 2 18446744073709535232 2", "21 0"),
         ("start 7 2 0 3", "10"),
         ("start 7 2 0 8192", "11"),
         ("start 7 2 0 1", "12"),
@@ -663,6 +673,170 @@ fn other_orders() {
         // A suspended controller that isn't tracked: 5, and 5 before 8.
         ("recv 5 64", "5"),
         ("recv 5 0", "5"),
+    ]);
+}
+
+// ---------------------------------------------------------------------------------------------------------------
+// Which rule and which row (document 02, W3)
+// ---------------------------------------------------------------------------------------------------------------
+
+#[test]
+fn worked_rows() {
+    session(&[
+        (DEV, "0"),
+        ("start 5 0", "18 0"),
+        ("start 5 0 65536 4 4097 1 0 0", "20 1"),
+        ("start 5 0 4097 0", "19 0"),
+        ("start 5 0 18446744073709551615 1", "20 0"),
+        ("start 5 0 65536 1 18446744073709547520 2", "21 1"),
+        ("start 5 8 1052672 1", "20 0"),
+        // 7 and 2 stand before them.
+        ("start 5 9 0 0", "7"),
+        ("start 7 0 1 0", "2"),
+        // Row 1 before 10 in row 0; and 10 has no row.
+        ("dev 1 0 8 1 16 5", "0"),
+        ("start 5 0 65536 3 4096 0", "19 1"),
+        ("start 5 0 65536 3", "10"),
+        // A done start has no row either.
+        ("start 5 0 65536 4", "0"),
+    ]);
+}
+
+/// Rows that break one rule each.
+const BAD_ROWS: [(&str, &str); 3] = [("65536 0", "19"), ("65537 4", "20"), ("18446744073709547520 2", "21")];
+
+/// Rows that break two rules, and the earlier one of these: of no length and unaligned, or unaligned and past the end.
+const WORSE_ROWS: [(&str, &str); 4] = [
+    ("4097 0", "19"),
+    ("18446744073709551615 0", "19"),
+    ("18446744073709551615 1", "20"),
+    ("18446744073709547521 2", "20"),
+];
+
+/// A start with `count` rows, good ones but for these.
+fn start_of_rows(count: usize, bad: &[(usize, &str)]) -> String {
+    let mut rows = vec!["65536 4"; count];
+    for (row, pair) in bad {
+        rows[*row] = *pair;
+    }
+    format!("start 5 0 {}", rows.join(" "))
+}
+
+#[test]
+fn each_rule_in_each_row() {
+    for count in 1..17 {
+        for row in 0..count {
+            for (pair, number) in BAD_ROWS.iter().chain(&WORSE_ROWS) {
+                let answer = format!("{} {}", number, row);
+                session(&[(DEV, "0"), (&start_of_rows(count, &[(row, *pair)]), &answer)]);
+            }
+        }
+        session(&[(DEV, "0"), (&start_of_rows(count, &[]), "0")]);
+    }
+}
+
+#[test]
+fn the_last_row_of_sixteen() {
+    session(&[
+        (DEV, "0"),
+        (&start_of_rows(16, &[(15, "65536 0")]), "19 15"),
+        (&start_of_rows(16, &[(15, "65537 4")]), "20 15"),
+        (&start_of_rows(16, &[(15, "18446744073709547520 2")]), "21 15"),
+        (&start_of_rows(16, &[(9, "65537 4"), (10, "65536 0")]), "20 9"),
+        (&start_of_rows(16, &[(10, "65536 0")]), "19 10"),
+        (&start_of_rows(16, &[]), "0"),
+    ]);
+}
+
+#[test]
+fn the_earliest_row_answers() {
+    // Two bad rows, of any two rules: the later one is never told, also where its rule stands before the other's.
+    for later in 1..16 {
+        for earlier in 0..later {
+            for (pair, number) in &BAD_ROWS {
+                for (other, _) in BAD_ROWS.iter().chain(&WORSE_ROWS) {
+                    let answer = format!("{} {}", number, earlier);
+                    session(&[(DEV, "0"), (&start_of_rows(16, &[(earlier, *pair), (later, *other)]), &answer)]);
+                }
+            }
+        }
+    }
+    session(&[
+        (DEV, "0"),
+        ("start 5 0 18446744073709547520 2 65537 4 65536 0", "21 0"),
+        ("start 5 0 65536 4 18446744073709547520 2 65537 4 65536 0", "21 1"),
+        ("start 5 0 65537 4 65536 0 18446744073709547520 2", "20 0"),
+        ("start 5 0 65536 0 18446744073709547520 2 65537 4", "19 0"),
+        ("start 5 0 65536 4 0 1 65537 4 4097 0", "20 2"),
+    ]);
+}
+
+#[test]
+fn rows_at_other_granularities() {
+    session(&[
+        ("dev 1 0 20 0 16 5 6", "0"),
+        // Page 1 begins no unit of 2^13 bytes, the last page none of 2^20, and the last 2^20 bytes none of 2^32.
+        ("start 5 1 0 1 4096 1", "20 1"),
+        ("start 5 8 0 1 1048576 1 18446744073709547520 1", "20 2"),
+        ("start 5 8 0 1 18446744073708503040 2", "21 1"),
+        ("start 5 20 0 1 4294967296 1 18446744073708503040 1", "20 2"),
+        ("start 5 20 0 1 18446744069414584320 2", "21 1"),
+        ("start 5 20 0 1 8589934592 4294967295", "21 1"),
+        ("start 5 20 0 1 4294967296 4294967295", "11"),
+        // Of no length and unaligned for this unit alone.
+        ("start 5 20 0 1 4096 0", "19 1"),
+        ("start 5 0 0 1 4096 1 18446744073709547520 1", "0"),
+        ("start 6 8 0 1 18446744073708503040 1", "0"),
+    ]);
+}
+
+#[test]
+fn rows_before_10_11_12() {
+    session(&[
+        // Rule on, limit 2, of which controller 6 takes one.
+        ("dev 1 0 8 1 2 5 6", "0"),
+        ("start 6 0 0 1", "0"),
+        // 10, 11 and 12; and the same with one row more, which breaks a rule of rows.
+        ("start 5 0 0 3", "10"),
+        ("start 5 0 0 3 0 0", "19 1"),
+        ("start 5 0 0 3 1 1", "20 1"),
+        ("start 5 0 0 3 18446744073709547520 2", "21 1"),
+        ("start 5 0 0 8192", "11"),
+        ("start 5 0 0 8192 0 0", "19 1"),
+        ("start 5 0 0 8192 1 1", "20 1"),
+        ("start 5 0 0 8192 18446744073709547520 2", "21 1"),
+        ("start 5 0 0 1 4096 1", "12"),
+        ("start 5 0 0 1 4096 1 0 0", "19 2"),
+        ("start 5 0 0 1 4096 1 1 1", "20 2"),
+        ("start 5 0 0 1 4096 1 18446744073709547520 2", "21 2"),
+        // In one row with them.
+        ("start 5 0 1 3", "20 0"),
+        ("start 5 0 18446744073709547520 8192", "21 0"),
+        // 10 has no row, whichever it is; 0 is no power of two either.
+        ("start 5 0 0 1 4096 1 8192 3", "10"),
+        ("start 5 0 0 0", "19 0"),
+        ("start 5 0", "18 0"),
+        ("start 5 0 0 1", "0"),
+    ]);
+}
+
+#[test]
+fn refusals_before_a_row_have_none() {
+    session(&[
+        ("start 5 0 4097 0", "1"),
+        ("start 5 0", "1"),
+        (DEV, "0"),
+        ("start 1 0 4097 0", "2"),
+        ("start 7 0", "2"),
+        ("susp 5 1", "0"),
+        ("start 5 0 4097 0", "4"),
+        ("start 5 0", "4"),
+        ("resume 5", "0"),
+        ("start 5 9 4097 0", "7"),
+        ("start 5 9", "7"),
+        ("start 5 0 65536 4", "0"),
+        ("start 5 0 4097 0", "3"),
+        ("start 5 0", "3"),
     ]);
 }
 
@@ -913,8 +1087,8 @@ fn granularity_8_to_the_end() {
 fn granularity_20() {
     session(&[
         ("dev 1 0 20 0 16 5 6", "0"),
-        ("start 5 20 4294963200 1", "9"),
-        ("start 5 20 18446744069414584320 2", "9"),
+        ("start 5 20 4294963200 1", "20 0"),
+        ("start 5 20 18446744069414584320 2", "21 0"),
         ("start 5 21 0 1", "7"),
         ("start 5 20 18446744069414584320 1 4294967296 2", "0"),
         ("write 5 4294967295 1", "0 0"),
@@ -990,7 +1164,7 @@ fn limit_0() {
     session(&[
         ("dev 1 0 8 0 0 5", "0"),
         ("start 5 0 65536 4", "12"),
-        ("start 5 0", "9"),
+        ("start 5 0", "18 0"),
         ("write 5 65536 1", "0 0"),
         ("recv 5 64", "5"),
     ]);
@@ -1485,6 +1659,10 @@ fn random_calls() {
         } else {
             assert_eq!(answer.lines().count(), 1);
             assert_eq!(session, before, "{}", line);
+            // A row behind 18 to 21, and behind no other number.
+            let words: Vec<&str> = answer.split_whitespace().collect();
+            let has_row = ["18", "19", "20", "21"].contains(&words[0]);
+            assert_eq!(words.len(), if has_row { 2 } else { 1 }, "{}", line);
         }
     }
     assert!(done > 100, "{}", done);

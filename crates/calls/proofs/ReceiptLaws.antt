@@ -47,7 +47,7 @@ module _ (d : Device) (ws : List ℕ) (id : ℕ) (x : List ℕ) where
   receipt-fits =
       verdict-both (λ (r : Receipt) (n : ℕ). r .answer .number ≡ 0 → Fits x r) (receiveOrder (seenIn d (length ws) (placeOf (d .settings) id)) x)
       (receiveDone d ws id x (placeOf (d .settings) id)) 0 (λ n i. received n noReport ws x) (λ n i. 0)
-      (omega arith, (omega arith, (omega arith, (omega arith, tt)))) (λ n i h e. absurd (omega arith))
+      ((λ e. absurd (omega arith)), ((λ e. absurd (omega arith)), ((λ e. absurd (omega arith)), ((λ e. absurd (omega arith)), tt))))
       (λ passed e. done-fits ws id x (leb-true 32 (length x) (passed .1 .1 .1 .0)) d (placeOf (d .settings) id))
 
   -- the same of its answer

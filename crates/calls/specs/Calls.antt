@@ -27,6 +27,7 @@ use Rattle.rules.specs.declared.Settings.{Settings}
 use Rattle.rules.specs.declared.Device.{Device}
 use Rattle.record.specs.Record.{controllerAt, withController, seenIn}
 use Rattle.calls.specs.declared.Changed.{Changed}
+use Rattle.calls.specs.declared.Started.{Started}
 use Rattle.calls.specs.declared.Written.{Written}
 use Rattle.calls.specs.declared.Received.{Received}
 
@@ -44,18 +45,24 @@ withMarks ws base p = pack (length ws) (putShare (flat ws) base p)
 unfoldable pub withClear : List ℕ → ℕ → List ℕ
 withClear ws base = pack (length ws) (fill false (flat ws) base shareSize)
 
--- ---- calls that may change the record
+-- ---- what a call answers, and the marks that it leaves
 
--- what such a call answers, and the marks that it leaves
-pub record Change : Type 0 where
-  pub answer : Changed
+pub record Change (A : Type 0) : Type 0 where
+  pub answer : A
   pub marks : List ℕ
 
-abbrev pub changed : ℕ → Device → List ℕ → Change
+-- of a call that may change the record
+abbrev pub changed : ℕ → Device → List ℕ → Change Changed
 changed n d ws = record { answer = record { number = n; device = d }; marks = ws }
 
+-- a start's answer has a row too
+abbrev pub startedWith : ℕ → ℕ → Device → List ℕ → Change Started
+startedWith n row d ws = record { answer = record { number = n; row = row; device = d }; marks = ws }
+
+-- ---- calls that may change the record
+
 -- fresh: done, all marks are 0; refused, the device is closed
-unfoldable pub freshChange : Settings → List ℕ → Change
+unfoldable pub freshChange : Settings → List ℕ → Change Changed
 freshChange s ws =
     verdict (freshOrder s (length ws))
     (changed 0 (freshOf s (length ws)) (replicate (length ws) 0))
@@ -65,28 +72,28 @@ freshChange s ws =
 abbrev pub started : Controller → List ℕ → Controller
 started c x = record { tracking = On (granularityOf x) (countOf x); suspended = c .suspended; ranges = placed (rangesOf x) }
 
-abbrev pub startDone : Device → List ℕ → List ℕ → Option ℕ → Change
-startDone d ws x none = changed 0 d ws
-startDone d ws x (some i) = changed 0 (withController d i (started (controllerAt d (some i)) x)) (withClear ws (shareAt i))
+abbrev pub startDone : Device → List ℕ → List ℕ → Option ℕ → Change Started
+startDone d ws x none = startedWith 0 0 d ws
+startDone d ws x (some i) = startedWith 0 0 (withController d i (started (controllerAt d (some i)) x)) (withClear ws (shareAt i))
 
-abbrev pub startAt : Device → List ℕ → List ℕ → Option ℕ → Change
-startAt d ws x p = verdict (startOrder (d .settings) (seenIn d (length ws) p) x) (startDone d ws x p) (λ n i. changed n d ws)
+abbrev pub startAt : Device → List ℕ → List ℕ → Option ℕ → Change Started
+startAt d ws x p = verdict (startOrder (d .settings) (seenIn d (length ws) p) x) (startDone d ws x p) (λ n i. startedWith n i d ws)
 
-unfoldable pub startChange : Device → List ℕ → ℕ → List ℕ → Change
+unfoldable pub startChange : Device → List ℕ → ℕ → List ℕ → Change Started
 startChange d ws id x = startAt d ws x (placeOf (d .settings) id)
 
 -- a stop forgets the ranges and clears the share
 abbrev pub stopped : Controller → Controller
 stopped c = record { tracking = Off; suspended = c .suspended; ranges = placed [] }
 
-abbrev pub stopDone : Device → List ℕ → Option ℕ → Change
+abbrev pub stopDone : Device → List ℕ → Option ℕ → Change Changed
 stopDone d ws none = changed 0 d ws
 stopDone d ws (some i) = changed 0 (withController d i (stopped (controllerAt d (some i)))) (withClear ws (shareAt i))
 
-abbrev pub stopAt : Device → List ℕ → Option ℕ → Change
+abbrev pub stopAt : Device → List ℕ → Option ℕ → Change Changed
 stopAt d ws p = verdict (stopOrder (seenIn d (length ws) p)) (stopDone d ws p) (λ n i. changed n d ws)
 
-unfoldable pub stopChange : Device → List ℕ → ℕ → Change
+unfoldable pub stopChange : Device → List ℕ → ℕ → Change Changed
 stopChange d ws id = stopAt d ws (placeOf (d .settings) id)
 
 -- suspend and resume change the flag alone
@@ -113,9 +120,8 @@ resumeChange d words id = resumeAt d words (placeOf (d .settings) id)
 -- ---- write
 
 -- what a noted write answers, and the marks that it leaves
-pub record Note : Type 0 where
-  pub answer : Written
-  pub marks : List ℕ
+abbrev pub Note : Type 0
+Note = Change Written
 
 abbrev pub noted : ℕ → ℕ → List ℕ → Note
 noted n count ws = record { answer = record { number = n; count = count }; marks = ws }

@@ -15,6 +15,13 @@ pub struct Changed {
     pub device: Device,
 }
 
+// The answer of a start: its number, the row of the range that it was refused for (W3), and the record as it is afterwards.
+pub struct Started {
+    pub number: u8,
+    pub row: u8,
+    pub device: Device,
+}
+
 // The answer to a noted write: its number, and how many units were not pending before.
 pub struct Written {
     pub number: u8,

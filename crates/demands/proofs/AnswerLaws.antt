@@ -1,5 +1,5 @@
 -- What a call answers, by its table: the number of the first test that is not passed, and refused all is as it was. Assumes nothing.
-use mathlib.Core.Path.{_≡_, refl, ap₂, _∙_}
+use mathlib.Core.Path.{_≡_, refl, ap, ap₂, _∙_}
 use mathlib.Core.Logic.{_≢_}
 use mathlib.Core.Bool.{Bool, true, false, cond}
 use mathlib.Core.List.{List, [], _∷_}
@@ -7,10 +7,10 @@ use mathlib.Core.Option.{Option, none, some}
 use Prim.Native.Nat.{ℕ}
 use lib.Dec.{eqb}
 use lib.ListN.{length}
-use Rattle.rules.specs.Refusals.{Test, verdict, refusal}
-use Rattle.rules.specs.Settings.{shareAt, markWords, settingsOk}
+use Rattle.rules.specs.Refusals.{Test, verdict, refusal, placeIn}
+use Rattle.rules.specs.Settings.{shareAt, markWords, settingsOk, placeOf}
 use Rattle.rules.specs.Units.{Write}
-use Rattle.rules.specs.Order.{freshOrder}
+use Rattle.rules.specs.Order.{freshOrder, startOrder}
 use Rattle.rules.specs.Device.{closedDevice, freshOf}
 use Rattle.rules.specs.declared.Settings.{Settings}
 use Rattle.rules.specs.declared.Device.{Device}
@@ -18,27 +18,43 @@ use Rattle.rules.specs.declared.Range.{Range}
 use Rattle.rules.specs.declared.Tracking.{Tracking}
 use Rattle.rules.specs.declared.Tracking.the-variants.{Off, On}
 use Rattle.rules.proofs.RefusalLaws.{verdict-has, verdict-map}
-use Rattle.record.specs.Record.{controllerAt}
-use Rattle.calls.specs.Calls.{freshChange, startDone, stopDone, flagDone, noteIn, writeDone, receiveIn, receiveDone}
+use Rattle.record.specs.Record.{controllerAt, seenIn}
+use Rattle.calls.specs.declared.Started.{Started}
+use Rattle.calls.specs.Calls.{freshChange, Change, startedWith, startDone, startChange, stopDone, flagDone, noteIn, writeDone, receiveIn, receiveDone}
 use Rattle.demands.specs.Demand1.{Answers}
 
 -- what a table's call answers: the first test's number, and refused what is had of every refusal
-pub answers : (A : Type 0) (number : A → ℕ) (was : A → Type 0) (ts : List Test) (end : A) (refuse : ℕ → A)
-    → number end ≡ 0 → ((n : ℕ) → number (refuse n) ≡ n) → ((n : ℕ) → was (refuse n))
-    → Answers (number (verdict ts end (λ n i. refuse n))) ts (was (verdict ts end (λ n i. refuse n)))
+pub answers : (A : Type 0) (number : A → ℕ) (was : A → Type 0) (ts : List Test) (end : A) (refuse : ℕ → ℕ → A)
+    → number end ≡ 0 → ((n i : ℕ) → number (refuse n i) ≡ n) → ((n i : ℕ) → was (refuse n i))
+    → Answers (number (verdict ts end refuse)) ts (was (verdict ts end refuse))
 answers A number was ts end refuse z e w =
     record {
-      first = verdict-map number ts end (λ n i. refuse n) ∙ same ts;
-      refused = verdict-has (λ (r : A). number r ≢ 0 → was r) (λ n i. refuse n) (λ n i h. w n) ts end (λ p h. absurd (h z));
+      first = verdict-map number ts end refuse ∙ same ts;
+      refused = verdict-has (λ (r : A). number r ≢ 0 → was r) refuse (λ n i h. w n i) ts end (λ p h. absurd (h z));
     }
   where
-    same : (us : List Test) → verdict us (number end) (λ n i. number (refuse n)) ≡ refusal us
+    same : (us : List Test) → verdict us (number end) (λ n i. number (refuse n i)) ≡ refusal us
     same [] = z
-    same (t ∷ us) = ap₂ (λ (a b : ℕ). cond (t .ok) a b) (same us) (e (t .number))
+    same (t ∷ us) = ap₂ (λ (a b : ℕ). cond (t .ok) a b) (same us) (e (t .number) (t .place))
 
+-- a done start has zeros in number and row
 pub start-zero : (d : Device) (ws x : List ℕ) (p : Option ℕ) → startDone d ws x p .answer .number ≡ 0
 start-zero d ws x none = refl
 start-zero d ws x (some i) = refl
+
+start-row : (d : Device) (ws x : List ℕ) (p : Option ℕ) → startDone d ws x p .answer .row ≡ 0
+start-row d ws x none = refl
+start-row d ws x (some i) = refl
+
+-- a start's row is its table's
+pub row-is : (d : Device) (ws : List ℕ) (id : ℕ) (x : List ℕ)
+    → startChange d ws id x .answer .row ≡ placeIn (startOrder (d .settings) (seenIn d (length ws) (placeOf (d .settings) id)) x)
+unfolding startChange
+row-is d ws id x =
+    let p = placeOf (d .settings) id in
+    let ts = startOrder (d .settings) (seenIn d (length ws) p) x in
+    verdict-map (λ (c : Change Started). c .answer .row) ts (startDone d ws x p) (λ n i. startedWith n i d ws)
+    ∙ ap (λ k. verdict ts k (λ n i. i)) (start-row d ws x p)
 
 pub stop-zero : (d : Device) (ws : List ℕ) (p : Option ℕ) → stopDone d ws p .answer .number ≡ 0
 stop-zero d ws none = refl

@@ -39,7 +39,7 @@ closed-unsound : (words : ℕ) → soundWith closedDevice words ≡ false
 unfolding soundWith sound settingsOk
 closed-unsound words = refl
 
-closed-run : (ws : List ℕ) (id : ℕ) (o : Op) → runAs closedDevice ws id o ≡ record { answer = refused 1; device = closedDevice; marks = ws; bytes = lent o }
+closed-run : (ws : List ℕ) (id : ℕ) (o : Op) → runAs closedDevice ws id o ≡ record { answer = refused 1 0; device = closedDevice; marks = ws; bytes = lent o }
 unfolding startChange stopChange writeNote receiveReceipt suspendChange resumeChange
 closed-run ws id (start x) = rw (closed-unsound (length ws))
 closed-run ws id stop = rw (closed-unsound (length ws))
@@ -51,11 +51,11 @@ closed-run ws id resume = rw (closed-unsound (length ws))
 abbrev shut : List ℕ → Left
 shut ws = record { device = closedDevice; marks = ws }
 
-closed-outcome : (ws : List ℕ) (k : Call) → outcome (shut ws) k ≡ record { answer = refused 1; device = closedDevice; marks = ws; bytes = lent (k .op) }
+closed-outcome : (ws : List ℕ) (k : Call) → outcome (shut ws) k ≡ record { answer = refused 1 0; device = closedDevice; marks = ws; bytes = lent (k .op) }
 unfolding run
 closed-outcome ws k = closed-run ws (k .id) (k .op)
 
-pub closed-answer : (ws : List ℕ) (k : Call) → (outcome (shut ws) k .answer ≡ refused 1) × (outcome (shut ws) k .bytes ≡ lent (k .op))
+pub closed-answer : (ws : List ℕ) (k : Call) → (outcome (shut ws) k .answer ≡ refused 1 0) × (outcome (shut ws) k .bytes ≡ lent (k .op))
 closed-answer ws k = (ap (λ (o : Outcome). o .answer) (closed-outcome ws k), ap (λ (o : Outcome). o .bytes) (closed-outcome ws k))
 
 closed-stays : (ks : List Call) (ws : List ℕ) → leftAfter (shut ws) ks ≡ shut ws

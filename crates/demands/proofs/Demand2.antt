@@ -45,7 +45,9 @@ use Rattle.ranges.proofs.RangeLaws.{HeldFacts}
 use Rattle.record.proofs.RecordLaws.{soundDevice-facts, soundDevice-held}
 use Rattle.report_data.proofs.Blocks.{reportBytes-length, report-rest}
 use Rattle.report_reader.proofs.ReadBack.{reads-back}
-use Rattle.calls.specs.Calls.{marksAt, withMarks, withClear, freshChange, Change, changed, startDone, startChange, stopDone, stopChange, flagDone, suspendChange, resumeChange, Note, noted, writeDone, writeNote, Receipt, received, reportIn, receiveDone, receiveReceipt}
+use Rattle.calls.specs.declared.Changed.{Changed}
+use Rattle.calls.specs.declared.Started.{Started}
+use Rattle.calls.specs.Calls.{marksAt, withMarks, withClear, freshChange, Change, changed, startedWith, startDone, startChange, stopDone, stopChange, flagDone, suspendChange, resumeChange, Note, noted, writeDone, writeNote, Receipt, received, reportIn, receiveDone, receiveReceipt}
 use Rattle.demands.specs.View.{marksOf, view, run}
 use Rattle.demands.specs.Sessions.{Left, begun, outcome, endOf, historyIn}
 use Rattle.demands.specs.Demand2.{Shaped, Steps, bitOf, toldOf, Elsewhere, Kept, Flagged, Replaced, Wrote, Received, Tracked, Moves, starts, stops, writes, Stands, Demand2}
@@ -158,27 +160,29 @@ module _ (s : Settings) (ws : List ℕ) (ks : List Call) (eight : length (s .ide
 
       -- ---- an accepted start, and an accepted stop
 
-      replaced : (t : Tracking) (rs : List Range) (r : Change) → r ≡ changed 0 (withController d i (record { tracking = t; suspended = false; ranges = placed rs })) (withClear l (shareAt i))
-          → Replaced d l i t false rs r
-      replaced t rs r e =
-          subst (Replaced d l i t false rs) (sym e)
-          (record { record-is = refl; clear = clear-bit l (fits .words) i inside; elsewhere = clear-elsewhere l (fits .words) i inside })
+      replaced : (t : Tracking) (rs : List Range) (d′ : Device) (l′ : List ℕ) → d′ ≡ withController d i (record { tracking = t; suspended = false; ranges = placed rs })
+          → l′ ≡ withClear l (shareAt i) → Replaced d l i t false rs d′ l′
+      replaced t rs d′ l′ e f =
+          subst (Replaced d l i t false rs d′) (sym f)
+          (record { record-is = e; clear = clear-bit l (fits .words) i inside; elsewhere = clear-elsewhere l (fits .words) i inside })
 
-      is-started : (x : List ℕ) → startChange d l a x .answer .number ≡ 0 → Replaced d l i (On (granularityOf x) (countOf x)) false (rangesOf x) (startChange d l a x)
+      is-started : (x : List ℕ)
+          → let r = startChange d l a x in
+          r .answer .number ≡ 0 → Replaced d l i (On (granularityOf x) (countOf x)) false (rangesOf x) (r .answer .device) (r .marks)
       unfolding startChange order
       is-started x e =
-          let r = verdict-done (λ (k : Change). k .answer .number) (startOrder (d .settings) (seenIn d (length l) (some i)) x) (startDone d l x (some i)) (λ n. changed n d l)
-          (λ n. refl) (order-numbers (d .settings) (seenIn d (length l) (some i)) (start x)) (rw place at e) in
+          let r = verdict-done (λ (k : Change Started). k .answer .number) (startOrder (d .settings) (seenIn d (length l) (some i)) x) (startDone d l x (some i)) (λ n j. startedWith n j d l)
+          (λ n j. refl) (order-numbers (d .settings) (seenIn d (length l) (some i)) (start x)) (rw place at e) in
           let running : c .suspended ≡ false = not-true (c .suspended) (r .1 .1 .1 .0) in
-          rw place (replaced _ _ _ (r .0 ∙ rw running))
+          rw place (replaced _ _ _ _ (ap (λ (k : Change Started). k .answer .device) (r .0) ∙ rw running) (ap (λ (k : Change Started). k .marks) (r .0)))
 
-      is-stopped : stopChange d l a .answer .number ≡ 0 → Replaced d l i Off false [] (stopChange d l a)
+      is-stopped : let r = stopChange d l a in r .answer .number ≡ 0 → Replaced d l i Off false [] (r .answer .device) (r .marks)
       unfolding stopChange order
       is-stopped e =
-          let r = verdict-done (λ (k : Change). k .answer .number) (stopOrder (seenIn d (length l) (some i))) (stopDone d l (some i)) (λ n. changed n d l)
-          (λ n. refl) (order-numbers (d .settings) (seenIn d (length l) (some i)) stop) (rw place at e) in
+          let r = verdict-done (λ (k : Change Changed). k .answer .number) (stopOrder (seenIn d (length l) (some i))) (stopDone d l (some i)) (λ n j. changed n d l)
+          (λ n j. refl) (order-numbers (d .settings) (seenIn d (length l) (some i)) stop) (rw place at e) in
           let running : c .suspended ≡ false = not-true (c .suspended) (r .1 .1 .1 .0) in
-          rw place (replaced _ _ _ (r .0 ∙ rw running))
+          rw place (replaced _ _ _ _ (ap (λ (k : Change Changed). k .answer .device) (r .0) ∙ rw running) (ap (λ (k : Change Changed). k .marks) (r .0)))
 
       -- ---- not tracked, as its calls and answers tell
 
@@ -235,14 +239,14 @@ module _ (s : Settings) (ws : List ℕ) (ks : List Call) (eight : length (s .ide
           let limit : d .settings .limit ≡ s .limit = ap (λ (t : Settings). t .limit) settings-are in
           let shared : Passed (startShared (d .settings) (v .counts) x) = (le-leb (countOf x + v .counts) (d .settings .limit) (omega (arith, few, counts, limit)), tt) in
           rw place
-          (ap (λ (k : Change). k .answer .number)
-          (verdict-passed (startOrder (d .settings) v x) (startDone d l x (some i)) (λ n j. changed n d l)
+          (ap (λ (k : Change Started). k .answer .number)
+          (verdict-passed (startOrder (d .settings) v x) (startDone d l x (some i)) (λ n j. startedWith n j d l)
           (All-append (λ (t : Test). t .ok ≡ true) (startOwn (d .settings) v x) (startShared (d .settings) (v .counts) x)
           (All-append (λ (t : Test). t .ok ≡ true) (startWho v) (headerTests x ++ startListed (d .settings) x) who structure) shared)))
 
       -- ---- suspended, as its calls and answers tell
 
-      is-refused : suspendedBy false h ≡ true → (o : Op) → Moves o → outcome (endOf s ws ks) (record { id = a; op = o }) ≡ record { answer = refused 4; device = d; marks = l; bytes = lent o }
+      is-refused : suspendedBy false h ≡ true → (o : Op) → Moves o → outcome (endOf s ws ks) (record { id = a; op = o }) ≡ record { answer = refused 4 0; device = d; marks = l; bytes = lent o }
       unfolding run startChange stopChange writeNote
       is-refused e o (starts x) = rw (place, sure, flag-is, e)
       is-refused e o stops = rw (place, sure, flag-is, e)
@@ -315,8 +319,8 @@ module _ (s : Settings) (ws : List ℕ) (ks : List Call) (eight : length (s .ide
         is-written : (w : Write) → writeNote d l a w .answer .number ≡ 0 → Wrote h i us w l (writeNote d l a w .answer .count) (writeNote d l a w .marks)
         unfolding writeNote order
         is-written w e =
-            let r = verdict-done (λ (k : Note). k .answer .number) (writeOrder (seenIn d (length l) (some i)) w) (writeDone d l w (some i)) (λ n. noted n 0 l)
-            (λ n. refl) (order-numbers (d .settings) (seenIn d (length l) (some i)) (write w)) (rw place at e) in
+            let r = verdict-done (λ (k : Note). k .answer .number) (writeOrder (seenIn d (length l) (some i)) w) (writeDone d l w (some i)) (λ n j. noted n 0 l)
+            (λ n j. refl) (order-numbers (d .settings) (seenIn d (length l) (some i)) (write w)) (rw place at e) in
             let is : writeDone d l w (some i) ≡ noted 0 (newly w us p) (withMarks l (shareAt i) (mark w us p)) = rw (held .tracking, held .ranges, held .marks) in
             rw place (subst (λ (k : Note). Wrote h i us w l (k .answer .count) (k .marks)) (sym (r .0 ∙ is)) (written w))
 
@@ -349,8 +353,8 @@ module _ (s : Settings) (ws : List ℕ) (ks : List Call) (eight : length (s .ide
         is-received : (x : List ℕ) → receiveReceipt d l a x .answer .number ≡ 0 → Received h a i g us x l (receiveReceipt d l a x)
         unfolding receiveReceipt order
         is-received x e =
-            let r = verdict-done (λ (k : Receipt). k .answer .number) (receiveOrder (seenIn d (length l) (some i)) x) (receiveDone d l a x (some i)) (λ n. received n noReport l x)
-            (λ n. refl) (order-numbers (d .settings) (seenIn d (length l) (some i)) (receive x)) (rw place at e) in
+            let r = verdict-done (λ (k : Receipt). k .answer .number) (receiveOrder (seenIn d (length l) (some i)) x) (receiveDone d l a x (some i)) (λ n j. received n noReport l x)
+            (λ n j. refl) (order-numbers (d .settings) (seenIn d (length l) (some i)) (receive x)) (rw place at e) in
             rw place (subst (Received h a i g us x l) (sym (r .0 ∙ rw (held .tracking, held .ranges, held .marks, flag-is))) (stored x (leb-true 32 (length x) (r .1 .1 .1 .1 .0))))
 
         -- ---- what is not refused
@@ -388,10 +392,10 @@ module _ (s : Settings) (ws : List ℕ) (ks : List Call) (eight : length (s .ide
         go (some i) k =
             rw (place i k) (verdict-has Idle (λ n i. noted n 0 l) (λ n i. (refl, refl)) (writeOrder (seenIn d (length l) (some i)) w) (writeDone d l w (some i)) (λ t. rw (is-off i k e) (refl, refl)))
 
-    is-suspended : suspendedBy false h ≡ true → (o : Op) → Moves o → outcome (endOf s ws ks) (record { id = a; op = o }) ≡ record { answer = refused 4; device = d; marks = l; bytes = lent o }
+    is-suspended : suspendedBy false h ≡ true → (o : Op) → Moves o → outcome (endOf s ws ks) (record { id = a; op = o }) ≡ record { answer = refused 4 0; device = d; marks = l; bytes = lent o }
     is-suspended e = go (placeOf s a) refl
       where
-        go : (q : Option ℕ) → placeOf s a ≡ q → (o : Op) → Moves o → outcome (endOf s ws ks) (record { id = a; op = o }) ≡ record { answer = refused 4; device = d; marks = l; bytes = lent o }
+        go : (q : Option ℕ) → placeOf s a ≡ q → (o : Op) → Moves o → outcome (endOf s ws ks) (record { id = a; op = o }) ≡ record { answer = refused 4 0; device = d; marks = l; bytes = lent o }
         go none k = absurd (true≢false (sym e ∙ ap isSuspended (sym is-told ∙ ap (slotAt (view d l)) (place-of ∙ k))))
         go (some i) k = is-refused i k e
 

@@ -4,7 +4,7 @@ use mathlib.Core.Logic.{_≢_}
 use mathlib.Core.Bool.{Bool, true, false, _||_, true≢false}
 use mathlib.Core.List.{List, [], _∷_}
 use mathlib.Core.Option.{Option, none, some}
-use Prim.Native.Nat.{ℕ, zero, suc, _+_, _≤_, _<_}
+use Prim.Native.Nat.{ℕ, zero, suc, _≤_, _<_}
 use native.Mathlib.Omega.{arith}
 use lib.Dec.{eqb}
 use lib.ListN.{length, getD, set, take, replicate, length-replicate, length-set}
@@ -22,13 +22,13 @@ use Rattle.rules.specs.Report.{room, marksLeft, reportedRuns}
 use Rattle.rules.specs.Order.{Op, start, stop, write, receive, suspend, resume, Seen, startShared, order}
 use Rattle.rules.specs.Device.{soundDevice}
 use Rattle.rules.specs.Ranges.{listTests}
-use Rattle.rules.specs.Machine.{Answer, refused, done, wrote, reported, on, Slot, slot, accepted, slotStep, State, slotAt, withSlot, seenAt, stepAt, Call, step, lent, stored, noReport}
+use Rattle.rules.specs.Machine.{Answer, refused, done, on, Slot, slot, accepted, slotStep, State, slotAt, withSlot, seenAt, stepAt, Call, step, lent, stored, noReport}
 use Rattle.rules.specs.declared.Settings.{Settings}
 use Rattle.rules.specs.declared.Tracking.{Tracking}
 use Rattle.rules.specs.declared.Tracking.the-variants.{Off, On}
 use Rattle.rules.specs.declared.Controller.{Controller}
 use Rattle.rules.specs.declared.Device.{Device}
-use Rattle.rules.proofs.ListLaws.{All, All-append, and-left}
+use Rattle.rules.proofs.ListLaws.{All, All-append, All-map, and-left}
 use Rattle.rules.proofs.RefusalLaws.{Passed, verdict-both}
 use Rattle.rules.proofs.UnitLaws.{mark-length}
 use Rattle.rules.proofs.RunLaws.{clearFirst-length}
@@ -38,9 +38,10 @@ use Rattle.rules.proofs.Isolation.{withSlot-slotAt}
 use Rattle.record.specs.Record.{soundWith, noController, controllerAt, withController, isOn, seenIn}
 use Rattle.ranges.proofs.RangeLaws.{listTests-numbers, listTests-facts}
 use Rattle.record.proofs.RecordLaws.{soundDevice-facts, soundDevice-held}
-use Rattle.calls.specs.Calls.{marksAt, withMarks, withClear, Change, changed, started, startDone, startChange, stopped, stopDone, stopChange, flagged, flagDone, suspendChange, resumeChange, Note, noted, noteIn, writeDone, writeNote, Receipt, received, receiveIn, receiveDone, receiveReceipt}
+use Rattle.calls.specs.Calls.{marksAt, withMarks, withClear, Change, changed, started, startedWith, startDone, startChange, stopped, stopDone, stopChange, flagged, flagDone, suspendChange, resumeChange, Note, noted, noteIn, writeDone, writeNote, Receipt, received, receiveIn, receiveDone, receiveReceipt}
 use Rattle.calls.specs.declared.Changed.{Changed}
-use Rattle.demands.specs.View.{marksOf, slotOf, view, Outcome, answered, changes, flags, notes, receipts, runAs, run}
+use Rattle.calls.specs.declared.Started.{Started}
+use Rattle.demands.specs.View.{marksOf, slotOf, view, Outcome, answered, starts, stops, flags, notes, receipts, runAs, run}
 use Rattle.demands.proofs.MarkLaws.{clear-length, clear-own, clear-other, put-length as marks-length, put-own, put-other}
 use Rattle.demands.proofs.ViewLaws.{Listed, Fits, slot-at, seen-same, placeOf-used, view-with}
 
@@ -91,8 +92,8 @@ order-known s v (receive x) q = (q .0, q .1 .0)
 order-known s v (suspend kind) q = (q .0, q .1 .0)
 order-known s v resume q = (q .0, q .1 .0)
 
-answered-refused : (n : ℕ) (a : Answer) → 1 ≤ n → answered n a ≡ refused n
-answered-refused n a h = rw (ne-eqb n 0 (λ (z : _). omega (arith, z)))
+answered-refused : (n i : ℕ) (a : Answer) → 1 ≤ n → answered n i a ≡ refused n i
+answered-refused n i a h = rw (ne-eqb n 0 (λ (z : _). omega (arith, z)))
 
 -- ---- lists
 
@@ -130,23 +131,27 @@ module _ (d : Device) (ws : List ℕ) (fits : Fits d ws) (id : ℕ) where
   abbrev Does : List ℕ → Outcome → Option ℕ → Op → Type 0
   Does x r p o = Like id x r ((accepted (slotAt st p) o) .0) (withSlot st p ((accepted (slotAt st p) o) .1))
 
+  -- each refusal of a table leaves all as it was
+  abbrev Refuses : (A : Type 0) → List ℕ → (A → Outcome) → (ℕ → ℕ → A) → List Test → Type 0
+  Refuses A x f refuse ts = All (λ (t : Test). f (refuse (t .number) (t .place)) ≡ unchanged (refused (t .number) (t .place)) x) ts
+
   -- a call whose table the rules have: refused it changes nothing, and done it does as they say
-  like : (A : Type 0) (p : Option ℕ) → seenIn d (length ws) p ≡ seenAt st p → (o : Op) (x : List ℕ) (f : A → Outcome) (end : A) (refuse : ℕ → A)
-      → ((n : ℕ) → 1 ≤ n → f (refuse n) ≡ unchanged (refused n) x)
+  like : (A : Type 0) (p : Option ℕ) → seenIn d (length ws) p ≡ seenAt st p → (o : Op) (x : List ℕ) (f : A → Outcome) (end : A) (refuse : ℕ → ℕ → A)
+      → Refuses A x f refuse (order (d .settings) (seenIn d (length ws) p) o)
       → (Passed (order (d .settings) (seenIn d (length ws) p) o) → Does x (f end) p o)
-      → Like id x (f (verdict (order (d .settings) (seenIn d (length ws) p) o) end (λ n i. refuse n))) ((stepAt st p o) .0) ((stepAt st p o) .1)
+      → Like id x (f (verdict (order (d .settings) (seenIn d (length ws) p) o) end refuse)) ((stepAt st p o) .0) ((stepAt st p o) .1)
   like A p seen o x f end refuse r e =
-      subst (λ (v : Seen). R (verdict (order (d .settings) (seenIn d (length ws) p) o) end (λ n i. refuse n)) (slotStep (d .settings) v (slotAt st p) o)) seen
-      (verdict-both R (order (d .settings) (seenIn d (length ws) p) o) end (accepted (slotAt st p) o) (λ n i. refuse n) (λ n i. (refused n, slotAt st p))
-      (order-numbers (d .settings) (seenIn d (length ws) p) o)
-      (λ n i h.
-      let q = r n h in
+      subst (λ (v : Seen). R (verdict (order (d .settings) (seenIn d (length ws) p) o) end refuse) (slotStep (d .settings) v (slotAt st p) o)) seen
+      (verdict-both R (order (d .settings) (seenIn d (length ws) p) o) end (accepted (slotAt st p) o) refuse (λ n i. (refused n i, slotAt st p))
+      (All-map
+      (λ t q.
       record {
         answer = ap (λ (y : Outcome). y .answer) q;
         state = ap (λ (y : Outcome). view (y .device) (y .marks)) q ∙ sym (withSlot-slotAt st p);
         bytes = ap (λ (y : Outcome). y .bytes) q ∙ sym (ap (λ (y : Outcome). stored id x (y .answer)) q);
         fits = subst (λ (y : Outcome). Fits (y .device) (y .marks)) (sym q) fits;
       })
+      (order (d .settings) (seenIn d (length ws) p) o) r)
       e)
     where
       R : A → Answer × Slot → Type 0
@@ -205,7 +210,7 @@ module _ (d : Device) (ws : List ℕ) (fits : Fits d ws) (id : ℕ) where
     -- ---- start
 
     start-done : (x : List ℕ) → StartPassed (d .settings) (seenIn d (length ws) (some i)) x
-        → Does x (changes x (startDone d ws x (some i))) (some i) (start x)
+        → Does x (starts x (startDone d ws x (some i))) (some i) (start x)
     start-done x q =
         let f = listTests-facts (d .settings) (granularityOf x) (countOf x) (rangesOf x) (soundDevice-facts d sure .greatest) (q .granularity) (q .list) in
         let front : take (countOf x) (placed (rangesOf x)) ≡ rangesOf x = put-take-front (replicate 16 noRange) (countOf x) (rangesOf x) (rangesOf-length x) (f .few) in
@@ -224,7 +229,7 @@ module _ (d : Device) (ws : List ℕ) (fits : Fits d ws) (id : ℕ) where
 
     -- ---- stop
 
-    stop-done : Does [] (changes [] (stopDone d ws (some i))) (some i) stop
+    stop-done : Does [] (stops (stopDone d ws (some i))) (some i) stop
     stop-done =
         rw own (record {
           answer = refl;
@@ -323,36 +328,42 @@ module _ (d : Device) (ws : List ℕ) (fits : Fits d ws) (id : ℕ) where
   -- ---- every call
 
   -- a call that is not refused found its controller in a sound record
-  at-place : (o : Op) (A : Type 0) (x : List ℕ) (f : A → Outcome) (end : Option ℕ → A) (refuse : ℕ → A)
-      → ((n : ℕ) → 1 ≤ n → f (refuse n) ≡ unchanged (refused n) x)
+  at-place : (o : Op) (A : Type 0) (x : List ℕ) (f : A → Outcome) (end : Option ℕ → A) (refuse : ℕ → ℕ → A)
+      → ((v : Seen) → Refuses A x f refuse (order (d .settings) v o))
       → ((i : ℕ) → i < d .settings .count → soundWith d (length ws) ≡ true → Passed (order (d .settings) (seenIn d (length ws) (some i)) o) → Does x (f (end (some i))) (some i) o)
-      → Like id x (f (verdict (order (d .settings) (seenIn d (length ws) (placeOf (d .settings) id)) o) (end (placeOf (d .settings) id)) (λ n i. refuse n)))
+      → Like id x (f (verdict (order (d .settings) (seenIn d (length ws) (placeOf (d .settings) id)) o) (end (placeOf (d .settings) id)) refuse))
       ((stepAt st (placeOf (d .settings) id) o) .0) ((stepAt st (placeOf (d .settings) id) o) .1)
   at-place o A x f end refuse r e =
-      like A (placeOf (d .settings) id) (seen-same d ws fits id) o x f (end (placeOf (d .settings) id)) refuse r (go (placeOf (d .settings) id) refl)
+      like A (placeOf (d .settings) id) (seen-same d ws fits id) o x f (end (placeOf (d .settings) id)) refuse (r (seenIn d (length ws) (placeOf (d .settings) id)))
+      (go (placeOf (d .settings) id) refl)
     where
       go : (p : Option ℕ) → placeOf (d .settings) id ≡ p → Passed (order (d .settings) (seenIn d (length ws) p) o) → Does x (f (end p)) p o
       go none k q = absurd (true≢false (sym (order-known (d .settings) (seenIn d (length ws) none) o q .1)))
       go (some i) k q = e i (placeOf-used d id i k) (order-known (d .settings) (seenIn d (length ws) (some i)) o q .0) q
 
-  answers : (n : ℕ) (a : Answer) (x : List ℕ) → 1 ≤ n → unchanged (answered n a) x ≡ unchanged (refused n) x
-  answers n a x h = ap (λ b. unchanged b x) (answered-refused n a h)
+  -- a start's refusals, with their rows
+  start-refuses : (x : List ℕ) (v : Seen) → Refuses (Change Started) x (starts x) (λ n i. startedWith n i d ws) (order (d .settings) v (start x))
+  start-refuses x v =
+      All-map (λ (t : Test) h. ap (λ a. unchanged a x) (answered-refused (t .number) (t .place) done h)) (order (d .settings) v (start x))
+      (order-numbers (d .settings) v (start x))
 
   every-call : (o : Op) → Like id (lent o) (runAs d ws id o) ((stepAt st (placeOf (d .settings) id) o) .0) ((stepAt st (placeOf (d .settings) id) o) .1)
   unfolding order startChange stopChange writeNote receiveReceipt suspendChange resumeChange
   every-call (start x) =
-      at-place (start x) Change x (changes x) (startDone d ws x) (λ n. changed n d ws) (λ n h. answers n done x h)
+      at-place (start x) (Change Started) x (starts x) (startDone d ws x) (λ n i. startedWith n i d ws) (start-refuses x)
       (λ i u s q. start-done i u s x (startOrder-passed (d .settings) (seenIn d (length ws) (some i)) x q))
-  every-call stop = at-place stop Change [] (changes []) (stopDone d ws) (λ n. changed n d ws) (λ n h. answers n done [] h) (λ i u s q. stop-done i u s)
-  every-call (write w) = at-place (write w) Note [] (notes d) (writeDone d ws w) (λ n. noted n 0 ws) (λ n h. answers n (wrote 0) [] h) (λ i u s q. write-done i u s w)
+  every-call stop = at-place stop (Change Changed) [] stops (stopDone d ws) (λ n i. changed n d ws) (λ v. (refl, (refl, (refl, (refl, tt))))) (λ i u s q. stop-done i u s)
+  every-call (write w) =
+      at-place (write w) Note [] (notes d) (writeDone d ws w) (λ n i. noted n 0 ws) (λ v. (refl, (refl, (refl, (refl, tt))))) (λ i u s q. write-done i u s w)
   every-call (receive x) =
-      at-place (receive x) Receipt x (receipts d) (receiveDone d ws id x) (λ n. received n noReport ws x) (λ n h. answers n (reported noReport) x h)
+      at-place (receive x) Receipt x (receipts d) (receiveDone d ws id x) (λ n i. received n noReport ws x) (λ v. (refl, (refl, (refl, (refl, tt)))))
       (λ i u s q. receive-done i u s x (q .1 .1 .0))
   every-call (suspend kind) =
-      at-place (suspend kind) Changed [] (flags ws) (λ p. flagDone d p (controllerAt d p .suspended || eqb kind 1)) (λ n. record { number = n; device = d })
-      (λ n h. answers n done [] h) (λ i u s q. suspend-done i u s kind)
+      at-place (suspend kind) Changed [] (flags ws) (λ p. flagDone d p (controllerAt d p .suspended || eqb kind 1)) (λ n i. record { number = n; device = d })
+      (λ v. (refl, (refl, (refl, tt)))) (λ i u s q. suspend-done i u s kind)
   every-call resume =
-      at-place resume Changed [] (flags ws) (λ p. flagDone d p false) (λ n. record { number = n; device = d }) (λ n h. answers n done [] h) (λ i u s q. resume-done i u s)
+      at-place resume Changed [] (flags ws) (λ p. flagDone d p false) (λ n i. record { number = n; device = d }) (λ v. (refl, (refl, (refl, tt))))
+      (λ i u s q. resume-done i u s)
 
 -- each call is a step of the rules
 pub call-step : (d : Device) (ws : List ℕ) → Fits d ws → (k : Call) → Like (k .id) (lent (k .op)) (run d ws k) ((step (view d ws) k) .0) ((step (view d ws) k) .1)

@@ -1,7 +1,6 @@
 -- The start structure is read and written without loss: the promises of its writer and of its reader, put together, by the rules' own round trips.
 -- Assumes nothing.
 use mathlib.Core.Path.{_≡_, refl, sym, ap, _∙_}
-use mathlib.Core.Logic.{_≢_}
 use mathlib.Core.Bool.{Bool, true, false, cond}
 use mathlib.Core.List.{List, []}
 use Prim.Native.Nat.{ℕ, _≤_, _<_}
@@ -11,7 +10,6 @@ use lib.Dec.{leb}
 use lib.ListN.{length, take, drop, getD}
 use lib.Seq.{length-take-le, getD-take}
 use borrow.Author.Tests.{le-leb, leb-true, leb-false}
-use Rattle.little.specs.Little.{put}
 use Rattle.little.proofs.Put.{put-take-front}
 use Rattle.rules.specs.Refusals.{refusal}
 use Rattle.rules.specs.StartData.{granularityOf, countOf, rangesOf, noRange, placed, startSize, readTests, startData, startBytes, writeTests, startWritten}
@@ -28,7 +26,7 @@ use Rattle.demands.specs.Structures.{WithoutLoss}
 write-passed : (size n : ℕ) → refusal (writeTests size n) ≡ 0 → (n ≤ 16) × (startSize n ≤ size)
 write-passed size n = go (leb n 16) (leb (startSize n) size) refl refl
   where
-    go : (a b : Bool) → leb n 16 ≡ a → leb (startSize n) size ≡ b → _≡_ {A = ℕ} (cond a (cond b 0 8) 9) 0 → (n ≤ 16) × (startSize n ≤ size)
+    go : (a b : Bool) → leb n 16 ≡ a → leb (startSize n) size ≡ b → _≡_ {A = ℕ} (cond a (cond b 0 8) 18) 0 → (n ≤ 16) × (startSize n ≤ size)
     go true true p q e = (leb-true n 16 p, leb-true (startSize n) size q)
     go true false p q e = absurd (omega (arith, e))
     go false b p q e = absurd (omega (arith, e))

@@ -27,7 +27,7 @@ use Rattle.rules.specs.declared.Settings.{Settings}
 use Rattle.rules.specs.declared.Device.{Device}
 use Rattle.record.specs.Record.{controllerAt, withController}
 use Rattle.calls.specs.declared.Changed.{Changed}
-use Rattle.calls.specs.Calls.{Change, Receipt, freshChange, startChange, stopChange, suspendChange, resumeChange, writeNote, receiveReceipt}
+use Rattle.calls.specs.Calls.{Receipt, freshChange, startChange, stopChange, suspendChange, resumeChange, writeNote, receiveReceipt}
 use Rattle.demands.specs.View.{view}
 use Rattle.demands.specs.Sessions.{Left, outcome, endOf, historyIn, bytesIn}
 
@@ -91,12 +91,12 @@ Flagged d i b c =
     let was = controllerAt d (some i) in
     c .device ≡ withController d i (record { tracking = was .tracking; suspended = b; ranges = was .ranges })
 
--- a start or a stop of the controller at place i: its record is replaced, its share is clear, and all else is as it was
-pub record Replaced (d : Device) (ws : List ℕ) (i : ℕ) (tracking : Tracking) (suspended : Bool) (ranges : List Range) (c : Change) : Type 0 where
+-- a start or a stop of the controller at place i, on d and ws, leaves d′ and ws′: its record is replaced, its share is clear, and all else is as it was
+pub record Replaced (d : Device) (ws : List ℕ) (i : ℕ) (tracking : Tracking) (suspended : Bool) (ranges : List Range) (d′ : Device) (ws′ : List ℕ) : Type 0 where
   -- zeros stand in the places that are not in use
-  pub record-is : c .answer .device ≡ withController d i (record { tracking = tracking; suspended = suspended; ranges = placed ranges })
-  pub clear : (m : ℕ) → m < shareSize → bitOf (c .marks) i m ≡ false
-  pub elsewhere : Elsewhere i shareSize ws (c .marks)
+  pub record-is : d′ ≡ withController d i (record { tracking = tracking; suspended = suspended; ranges = placed ranges })
+  pub clear : (m : ℕ) → m < shareSize → bitOf ws′ i m ≡ false
+  pub elsewhere : Elsewhere i shareSize ws ws′
 
 -- a write w by a controller at place i that is tracked with units us, of which a history h tells, on words ws: it answers a count and leaves ws′
 pub record Wrote (h : List Did) (i : ℕ) (us : List Unit) (w : Write) (ws : List ℕ) (count : ℕ) (ws′ : List ℕ) : Type 0 where
@@ -162,7 +162,7 @@ pub record Stands (s : Settings) (l : Left) (h : List Did) (counts a : ℕ) : Ty
       (n .answer .count ≡ 0) × (n .marks ≡ l .marks)
   -- a suspended controller's start, stop and write are refused, and change nothing
   pub suspended : suspendedBy false h ≡ true → (o : Op) → Moves o
-      → outcome l (record { id = a; op = o }) ≡ record { answer = refused 4; device = l .device; marks = l .marks; bytes = lent o }
+      → outcome l (record { id = a; op = o }) ≡ record { answer = refused 4 0; device = l .device; marks = l .marks; bytes = lent o }
   -- a write and a start are refused for nothing but what document 01 says
   pub may-write : (i : ℕ) (w : Write) → placeOf s a ≡ some i → suspendedBy false h ≡ false → w .address + w .bytes ≤ 2 ^ 64
       → writeNote (l .device) (l .marks) a w .answer .number ≡ 0
@@ -172,11 +172,11 @@ pub record Stands (s : Settings) (l : Left) (h : List Did) (counts a : ℕ) : Ty
   -- "An accepted start clears the controller's 64 words and records granularity and ranges"
   pub started : (i : ℕ) (x : List ℕ) → placeOf s a ≡ some i
       → let c = startChange (l .device) (l .marks) a x in
-      c .answer .number ≡ 0 → Replaced (l .device) (l .marks) i (On (granularityOf x) (countOf x)) false (rangesOf x) c
+      c .answer .number ≡ 0 → Replaced (l .device) (l .marks) i (On (granularityOf x) (countOf x)) false (rangesOf x) (c .answer .device) (c .marks)
   -- "An accepted stop clears them again and forgets the ranges"
   pub stopped : (i : ℕ) → placeOf s a ≡ some i
       → let c = stopChange (l .device) (l .marks) a in
-      c .answer .number ≡ 0 → Replaced (l .device) (l .marks) i Off false [] c
+      c .answer .number ≡ 0 → Replaced (l .device) (l .marks) i Off false [] (c .answer .device) (c .marks)
   -- "Suspend type 1 suspends, also where already suspended. Type 0 is a notice and changes nothing"; it is refused for another type alone
   pub suspends : (i kind : ℕ) → placeOf s a ≡ some i
       → let c = suspendChange (l .device) (length (l .marks)) a kind in

@@ -14,6 +14,7 @@ use Rattle.rules.specs.declared.Tracking.the-variants.{Off, On}
 use Rattle.rules.specs.declared.Controller.{Controller}
 use Rattle.rules.specs.declared.Device.{Device}
 use Rattle.calls.specs.declared.Changed.{Changed}
+use Rattle.calls.specs.declared.Started.{Started}
 use Rattle.rules.specs.Settings.{shareAt}
 use Rattle.calls.specs.Calls.{marksAt, Change, startChange, stopChange, suspendChange, resumeChange, Note, writeNote, Receipt, receiveReceipt}
 
@@ -43,29 +44,32 @@ pub record Outcome : Type 0 where
   pub marks : List ℕ
   pub bytes : List ℕ
 
--- a number as an answer: 0 is done
-abbrev pub answered : ℕ → Answer → Answer
-answered n a = cond (eqb n 0) a (refused n)
+-- a number and its row as an answer: 0 is done. Of the calls, a start alone has a row (W3)
+abbrev pub answered : ℕ → ℕ → Answer → Answer
+answered n row a = cond (eqb n 0) a (refused n row)
 
--- what a call that may change the record comes to, with what was lent with it
-abbrev pub changes : List ℕ → Change → Outcome
-changes x c = record { answer = answered (c .answer .number) done; device = c .answer .device; marks = c .marks; bytes = x }
+-- what a start comes to, with what was lent with it, and a stop
+abbrev pub starts : List ℕ → Change Started → Outcome
+starts x c = record { answer = answered (c .answer .number) (c .answer .row) done; device = c .answer .device; marks = c .marks; bytes = x }
+
+abbrev pub stops : Change Changed → Outcome
+stops c = record { answer = answered (c .answer .number) 0 done; device = c .answer .device; marks = c .marks; bytes = [] }
 
 -- suspend and resume leave the marks as they were
 abbrev pub flags : List ℕ → Changed → Outcome
-flags ws c = record { answer = answered (c .number) done; device = c .device; marks = ws; bytes = [] }
+flags ws c = record { answer = answered (c .number) 0 done; device = c .device; marks = ws; bytes = [] }
 
 -- a write and a receive leave the record as it was
 abbrev pub notes : Device → Note → Outcome
-notes d n = record { answer = answered (n .answer .number) (wrote (n .answer .count)); device = d; marks = n .marks; bytes = [] }
+notes d n = record { answer = answered (n .answer .number) 0 (wrote (n .answer .count)); device = d; marks = n .marks; bytes = [] }
 
 abbrev pub receipts : Device → Receipt → Outcome
-receipts d r = record { answer = answered (r .answer .number) (reported (r .report)); device = d; marks = r .marks; bytes = r .buffer }
+receipts d r = record { answer = answered (r .answer .number) 0 (reported (r .report)); device = d; marks = r .marks; bytes = r .buffer }
 
 -- the calls of `tracker`, on a record and marks
 abbrev pub runAs : Device → List ℕ → ℕ → Op → Outcome
-runAs d ws id (start x) = changes x (startChange d ws id x)
-runAs d ws id stop = changes [] (stopChange d ws id)
+runAs d ws id (start x) = starts x (startChange d ws id x)
+runAs d ws id stop = stops (stopChange d ws id)
 runAs d ws id (write w) = notes d (writeNote d ws id w)
 runAs d ws id (receive x) = receipts d (receiveReceipt d ws id x)
 runAs d ws id (suspend kind) = flags ws (suspendChange d (length ws) id kind)

@@ -31,6 +31,19 @@ fn put_answer(out: &mut Buffer, waiting: Waiting, number: u8) -> Waiting {
     output::put_byte(out, a, b'\n')
 }
 
+// Puts a start's answer: where a rule of ranges is broken, 18 to 21, the row stands after the number.
+fn put_started(out: &mut Buffer, waiting: Waiting, number: u8, row: u8) -> Waiting {
+    if number < 18 {
+        return put_answer(out, waiting, number);
+    }
+    if number > 21 {
+        return put_answer(out, waiting, number);
+    }
+    let a = output::put_number(out, waiting, number as u64);
+    let b = output::put_byte(out, a, b' ');
+    put_answer(out, b, row)
+}
+
 // A bool as a number.
 fn bit(b: bool) -> u64 {
     if b { 1 } else { 0 }
@@ -80,9 +93,9 @@ fn start(
 {
     let mut data = [0u8; 200];
     start_data::write_start(&mut data, granularity, count as u32, ranges);
-    let changed = tracker::start(d, marks, id, &data);
-    let waiting = put_answer(out, waiting, changed.number);
-    let device = changed.device;
+    let started = tracker::start(d, marks, id, &data);
+    let waiting = put_started(out, waiting, started.number, started.row);
+    let device = started.device;
     Played { device, waiting }
 }
 

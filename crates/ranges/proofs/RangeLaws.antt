@@ -1,47 +1,53 @@
--- Laws of the range rules (9, 10 and 11) as the code asks them: one range, each rule of the table, the answer; and what ranges that
+-- Laws of the range rules (18 to 21, 10 and 11) as the code asks them: one range, the rows, the whole table; and what ranges that
 -- pass are known by (`HeldFacts`). All of it is the library's interface. Assumes nothing.
-use Prim.Native.Nat.{ℕ, suc, _-_, _%_, _^_, _<_, _≤_}
-use mathlib.Core.Path.{_≡_, refl, sym, _∙_}
-use mathlib.Core.Bool.{true, false, cond, and-true, and-false}
-use mathlib.Core.List.{List, [], _∷_, map}
+use Prim.Native.Nat.{ℕ, suc, _+_, _-_, _%_, _^_, _<_, _≤_, min}
+use mathlib.Core.Path.{_≡_, refl, sym, ap, _∙_}
+use mathlib.Core.Logic.{_≢_}
+use mathlib.Core.Bool.{true, false}
+use mathlib.Core.List.{List, [], _∷_, _++_, map}
+use native.Mathlib.Numerals.{add-one}
 use native.Mathlib.Omega.{arith}
 use lib.Dec.{leb, eqb}
-use lib.ListN.{length, getD}
-use borrow.Author.Tests.{leb-true, le-leb, lt-leb}
-use Rattle.rules.specs.Lists.{all, every, sum}
-use Rattle.rules.specs.Refusals.{Test, _else_, passes, refusal}
+use lib.ListN.{length, getD, take, drop}
+use borrow.Author.Tests.{leb-true, le-leb, lt-leb, eq-eqb, ne-eqb}
+use Rattle.rules.specs.Lists.{all, sum}
+use Rattle.rules.specs.Refusals.{Test, _else_, passes, refusal, refusalAt}
 use Rattle.rules.specs.Settings.{mostUnits, granularityOk, unitSize, bytesOf}
 use Rattle.rules.specs.Units.{endOf, units}
 use Rattle.rules.specs.Ranges.{rowTests, rowOk, rowsOk, rowsTests, rangeTests, isPower, powersOk, unitsOk, listTests}
+use Rattle.rules.specs.StartData.{noRange}
 use Rattle.rules.specs.declared.Range.{Range}
+use Rattle.rules.specs.declared.Refusal.{Refusal}
 use Rattle.rules.specs.declared.Settings.{Settings}
-use Rattle.rules.proofs.ListLaws.{All, All-map, All-append, bool-ext, every-not}
-use Rattle.rules.proofs.RefusalLaws.{Passed, Passed-left, Passed-right, refusal-alike, refusal-none, passes-all, passes-append}
+use Rattle.rules.proofs.ListLaws.{All, All-append, front-at, front-end}
+use Rattle.rules.proofs.RefusalLaws.{Passed, Passed-left, Passed-right, refusal-none, refusalAt-is, verdict-first, verdict-rest, passes-all, passes-append}
+use Rattle.rules.proofs.RowLaws.{row-answers}
 use Rattle.rules.proofs.UnitLaws.{unitsFrom-length}
 use Rattle.measures.proofs.MeasureLaws.{bytesOf-pos}
 use Rattle.settings.proofs.SettingsLaws.{granularityOk-greatest}
 
 -- ---- one range
 
--- two orders that say each other are one test
-pub leb-ext : (a b c d : ℕ) → (a ≤ b → c ≤ d) → (c ≤ d → a ≤ b) → leb a b ≡ leb c d
-leb-ext a b c d f g = bool-ext (leb a b) (leb c d) (λ e. le-leb c d (f (leb-true a b e))) (λ e. le-leb a b (g (leb-true c d e)))
-
 module _ (g : ℕ) (r : Range) where
-  -- its length is below 1, or its start is no multiple of the unit
-  pub rowOk-short : r .length < 1 → rowOk g r ≡ false
-  rowOk-short h = rw (lt-leb 1 (r .length) h)
+  -- the first of its rules that it breaks
+  pub row-empty : r .length < 1 → refusal (rowTests g 0 r) ≡ 19
+  row-empty h = rw (lt-leb 1 (r .length) h)
 
-  pub rowOk-askew : eqb (r .start % unitSize g) 0 ≡ false → rowOk g r ≡ false
-  rowOk-askew e = rw (e, and-false (leb 1 (r .length)))
+  module _ (some : 1 ≤ r .length) where
+    pub row-askew : eqb (r .start % unitSize g) 0 ≡ false → refusal (rowTests g 0 r) ≡ 20
+    row-askew e = rw (le-leb 1 (r .length) some, e)
 
-  -- else it is left where it ends, which is asked without a sum: its last byte stands at most at the last address
-  pub rowOk-end : (b : ℕ) → 1 ≤ r .length → eqb (r .start % unitSize g) 0 ≡ true → b ≡ bytesOf g (r .length) → r .start < 2 ^ 64
-      → leb (b - 1) (18446744073709551615 - r .start) ≡ rowOk g r
-  rowOk-end b h e k l =
-      let p = bytesOf-pos g (r .length) h in
-      rw (le-leb 1 (r .length) h, e, and-true (leb (endOf (unitSize g) r) (2 ^ 64)))
-      (leb-ext (b - 1) (18446744073709551615 - r .start) (endOf (unitSize g) r) (2 ^ 64) (λ n. omega arith) (λ n. omega arith))
+    -- where it ends is asked without a sum: its last byte stands at most at the last address
+    module _ (e : eqb (r .start % unitSize g) 0 ≡ true) (b : ℕ) (k : b ≡ bytesOf g (r .length)) (l : r .start < 2 ^ 64) where
+      pub row-past : 18446744073709551615 - r .start < b - 1 → refusal (rowTests g 0 r) ≡ 21
+      row-past h = rw (le-leb 1 (r .length) some, e, lt-leb (endOf (unitSize g) r) (2 ^ 64) (omega (arith, bytesOf-pos g (r .length) some)))
+
+      pub row-within : b - 1 ≤ 18446744073709551615 - r .start → refusal (rowTests g 0 r) ≡ 0
+      row-within h = rw (le-leb 1 (r .length) some, e, le-leb (endOf (unitSize g) r) (2 ^ 64) (omega (arith, bytesOf-pos g (r .length) some)))
+
+  -- it breaks none exactly if it passes
+  pub row-none : (k : ℕ) → k ≡ refusal (rowTests g 0 r) → eqb k 0 ≡ rowOk g r
+  row-none k e = rw e (refusal-none (rowTests g 0 r) (omega arith, (omega arith, (omega arith, tt))))
 
 -- ---- 10
 
@@ -54,31 +60,48 @@ pub powersOk-on : (s : Settings) (rs : List Range) → s .powers ≡ true → po
 unfolding powersOk
 powersOk-on s rs e = rw e
 
--- ---- 9: the rows, and the whole table, as the code tests them
+-- ---- 18 to 21: the rows, and the whole table, as the code tests them
 
-pub rowsTests-number : (g row : ℕ) (rs : List Range) → All (λ (t : Test). t .number ≡ 9) (rowsTests g row rs)
-rowsTests-number g row [] = tt
-rowsTests-number g row (r ∷ rs) = (refl, (refl, (refl, rowsTests-number g (suc row) rs)))
+-- the first n rows, from the one at i on: it breaks a rule, or those behind it answer
+module _ (g : ℕ) (rs : List Range) (n i : ℕ) (inside : i < n) (there : i < length rs) (k : ℕ) (e : k ≡ refusal (rowTests g 0 (getD rs i noRange))) where
+  abbrev none : Refusal
+  none = record { number = 0; row = 0 }
 
-pub rangeTests-number : (g n : ℕ) (rs : List Range) → All (λ (t : Test). t .number ≡ 9) (rangeTests g n rs)
-unfolding rangeTests
-rangeTests-number g n rs = (refl, (refl, rowsTests-number g 0 rs))
+  abbrev at : ℕ → ℕ → Refusal
+  at number row = record { number = number; row = row }
+
+  pub rows-hit : k ≢ 0 → refusalAt (rowsTests g i (drop i (take n rs))) ≡ record { number = k; row = i }
+  rows-hit h =
+      rw (front-at rs n i noRange inside there)
+      (row-answers g i (getD rs i noRange) (rowsTests g (suc i) (drop (i + 1) (take n rs))) none at
+      ∙ rw (sym (row-none g (getD rs i noRange) k e), ne-eqb k 0 h) (ap (λ m. at m i) (sym e)))
+
+  pub rows-next : k ≡ 0 → refusalAt (rowsTests g i (drop i (take n rs))) ≡ refusalAt (rowsTests g (i + 1) (drop (i + 1) (take n rs)))
+  rows-next h =
+      rw (front-at rs n i noRange inside there)
+      (row-answers g i (getD rs i noRange) (rowsTests g (suc i) (drop (i + 1) (take n rs))) none at
+      ∙ rw (sym (row-none g (getD rs i noRange) k e), eq-eqb k 0 h, add-one))
+
+pub rows-end : (g : ℕ) (rs : List Range) (n i : ℕ) → min n (length rs) ≤ i → refusalAt (rowsTests g i (drop i (take n rs))) ≡ record { number = 0; row = 0 }
+rows-end g rs n i h = rw (front-end rs n i h)
 
 -- a row's tests are passed or not wherever it is listed
 pub rowsTests-passes : (g row : ℕ) (rs : List Range) → passes (rowsTests g row rs) ≡ rowsOk g rs
 rowsTests-passes g row [] = refl
 rowsTests-passes g row (r ∷ rs) = passes-append (rowTests g row r) (rowsTests g (suc row) rs) ∙ rw (rowsTests-passes g (suc row) rs)
 
--- what 9 asks, rule by rule
-pub rangeTests-passes : (g n : ℕ) (rs : List Range)
-    → passes (rangeTests g n rs) ≡ every (leb 1 n ∷ leb n 16 ∷ rowsOk g rs ∷ [])
-unfolding rangeTests
-rangeTests-passes g n rs = rw (rowsTests-passes g 0 rs, and-true (rowsOk g rs))
+-- no test has the number 0
+rowsTests-numbers : (g row : ℕ) (rs : List Range) → All (λ (t : Test). 1 ≤ t .number) (rowsTests g row rs)
+rowsTests-numbers g row [] = tt
+rowsTests-numbers g row (r ∷ rs) = (omega arith, (omega arith, (omega arith, rowsTests-numbers g (suc row) rs)))
 
-pub rangeTests-passed : (g n : ℕ) (rs : List Range) → 1 ≤ n → n ≤ 16 → rowsOk g rs ≡ true → passes (rangeTests g n rs) ≡ true
-rangeTests-passed g n rs h k e = rangeTests-passes g n rs ∙ rw (le-leb 1 n h, le-leb n 16 k, e)
+-- so the number 0 says that each row passes
+pub rows-none : (g : ℕ) (rs : List Range) (r : Refusal) → r ≡ refusalAt (rowsTests g 0 rs) → r .number ≡ 0 → rowsOk g rs ≡ true
+rows-none g rs r e h =
+    sym (rowsTests-passes g 0 rs) ∙ sym (refusal-none (rowsTests g 0 rs) (rowsTests-numbers g 0 rs))
+    ∙ eq-eqb (refusal (rowsTests g 0 rs)) 0 (sym (ap (λ (q : Refusal). q .number) (e ∙ refusalAt-is (rowsTests g 0 rs))) ∙ h)
 
--- ---- 9, 10 and 11
+-- ---- 10, 11 and the whole table
 
 -- 11 is passed where the lengths together are few enough, and else by the count of different units
 pub unitsOk-few : (g : ℕ) (rs : List Range) → sum (map (λ (r : Range). r .length) rs) ≤ mostUnits → true ≡ unitsOk g rs
@@ -90,36 +113,54 @@ unfolding unitsOk
 unitsOk-count g rs n e = rw e
 
 module _ (s : Settings) (g n : ℕ) (rs : List Range) where
-  -- past 9 the answer is that of the other two
-  pub listTests-refusal : refusal (listTests s g n rs) ≡ cond (passes (rangeTests g n rs)) (cond (powersOk s rs) (cond (unitsOk g rs) 0 11) 10) 9
-  listTests-refusal = refusal-alike 9 (rangeTests g n rs) ((powersOk s rs else 10) ∷ (unitsOk g rs else 11) ∷ []) (rangeTests-number g n rs)
+  -- 10 and 11
+  abbrev others : List Test
+  others = (powersOk s rs else 10) ∷ (unitsOk g rs else 11) ∷ []
 
-  -- 9 where one of its rules is broken, whichever
-  pub listTests-nine : (k : ℕ) → getD (leb 1 n ∷ leb n 16 ∷ rowsOk g rs ∷ []) k true ≡ false → refusal (listTests s g n rs) ≡ 9
-  listTests-nine k e = listTests-refusal ∙ rw (rangeTests-passes g n rs, every-not _ k e)
+  pub list-empty : n < 1 → refusalAt (listTests s g n rs) ≡ record { number = 18; row = 0 }
+  unfolding rangeTests
+  list-empty h = rw (lt-leb 1 n h)
 
-  pub listTests-ten : passes (rangeTests g n rs) ≡ true → powersOk s rs ≡ false → refusal (listTests s g n rs) ≡ 10
-  listTests-ten e f = listTests-refusal ∙ rw (e, f)
+  pub list-many : 16 < n → refusalAt (listTests s g n rs) ≡ record { number = 18; row = 0 }
+  unfolding rangeTests
+  list-many h = rw (le-leb 1 n (omega arith), lt-leb n 16 h)
 
-  pub listTests-eleven : passes (rangeTests g n rs) ≡ true → powersOk s rs ≡ true → unitsOk g rs ≡ false → refusal (listTests s g n rs) ≡ 11
-  listTests-eleven e f h = listTests-refusal ∙ rw (e, f, h)
+  module _ (some : 1 ≤ n) (few : n ≤ 16) where
+    -- past the count the rows answer, and then the others
+    past-count : refusalAt (listTests s g n rs) ≡ refusalAt (rowsTests g 0 rs ++ others)
+    unfolding rangeTests
+    past-count = rw (le-leb 1 n some, le-leb n 16 few)
 
-  pub listTests-done : passes (rangeTests g n rs) ≡ true → powersOk s rs ≡ true → unitsOk g rs ≡ true → refusal (listTests s g n rs) ≡ 0
-  listTests-done e f h = listTests-refusal ∙ rw (e, f, h)
+    pub list-rows : (r : Refusal) → r ≡ refusalAt (rowsTests g 0 rs) → r .number ≢ 0 → r ≡ refusalAt (listTests s g n rs)
+    list-rows r e h =
+        e ∙ sym (past-count ∙ verdict-first (rowsTests g 0 rs) others _ _ _ (λ z. h (ap (λ (q : Refusal). q .number) (e ∙ refusalAt-is (rowsTests g 0 rs)) ∙ z)))
+
+    module _ (rows : rowsOk g rs ≡ true) where
+      past-rows : refusalAt (listTests s g n rs) ≡ refusalAt others
+      past-rows = past-count ∙ verdict-rest (rowsTests g 0 rs) others _ _ (rowsTests-passes g 0 rs ∙ rows)
+
+      pub list-ten : powersOk s rs ≡ false → refusalAt (listTests s g n rs) ≡ record { number = 10; row = 0 }
+      list-ten e = past-rows ∙ rw e
+
+      pub list-eleven : powersOk s rs ≡ true → unitsOk g rs ≡ false → refusalAt (listTests s g n rs) ≡ record { number = 11; row = 0 }
+      list-eleven e f = past-rows ∙ rw (e, f)
+
+      pub list-done : powersOk s rs ≡ true → unitsOk g rs ≡ true → refusalAt (listTests s g n rs) ≡ record { number = 0; row = 0 }
+      list-done e f = past-rows ∙ rw (e, f)
 
   -- no test has the number 0
   pub listTests-numbers : All (λ (t : Test). 1 ≤ t .number) (listTests s g n rs)
+  unfolding rangeTests
   listTests-numbers =
-      All-append (λ (t : Test). 1 ≤ t .number) (rangeTests g n rs) ((powersOk s rs else 10) ∷ (unitsOk g rs else 11) ∷ [])
-      (All-map (λ t e. omega arith) (rangeTests g n rs) (rangeTests-number g n rs)) (omega arith, (omega arith, tt))
+      All-append (λ (t : Test). 1 ≤ t .number) (rangeTests g n rs) others (omega arith, (omega arith, rowsTests-numbers g 0 rs)) (omega arith, (omega arith, tt))
 
   -- the answer 0 says that all are passed
-  pub listTests-none : (k : ℕ) → k ≡ refusal (listTests s g n rs) → eqb k 0 ≡ passes (listTests s g n rs)
-  listTests-none k e = rw e (refusal-none (listTests s g n rs) listTests-numbers)
+  pub listTests-none : (r : Refusal) → r ≡ refusalAt (listTests s g n rs) → eqb (r .number) 0 ≡ passes (listTests s g n rs)
+  listTests-none r e = rw (e, refusalAt-is (listTests s g n rs)) (refusal-none (listTests s g n rs) listTests-numbers)
 
--- ---- what ranges that pass 9, 10 and 11 at a granularity that passes 7 are known by
+-- ---- what ranges that pass all of it at a granularity that passes 7 are known by
 
--- the granularity passes 7 and is small; there are some ranges, and few; each passes 9 by itself; 10; 11
+-- the granularity passes 7 and is small; there are some ranges, and few; each breaks no rule of a row; 10; 11
 pub record HeldFacts (s : Settings) (g n : ℕ) (rs : List Range) : Type 0 where
   pub granularity : granularityOk s g ≡ true
   pub small : g ≤ 20
@@ -133,14 +174,14 @@ module _ (s : Settings) (g n : ℕ) (rs : List Range) where
   pub listTests-facts : s .greatest ≤ 20 → granularityOk s g ≡ true → Passed (listTests s g n rs) → HeldFacts s g n rs
   unfolding rangeTests unitsOk
   listTests-facts h e p =
-      let nine = Passed-left (rangeTests g n rs) ((powersOk s rs else 10) ∷ (unitsOk g rs else 11) ∷ []) p in
+      let rules = Passed-left (rangeTests g n rs) ((powersOk s rs else 10) ∷ (unitsOk g rs else 11) ∷ []) p in
       let rest = Passed-right (rangeTests g n rs) ((powersOk s rs else 10) ∷ (unitsOk g rs else 11) ∷ []) p in
       record {
         granularity = e;
         small = omega (arith, granularityOk-greatest s g e);
-        some = leb-true 1 n (nine .0);
-        few = leb-true n 16 (nine .1 .0);
-        rows = sym (rowsTests-passes g 0 rs) ∙ passes-all (rowsTests g 0 rs) (nine .1 .1);
+        some = leb-true 1 n (rules .0);
+        few = leb-true n 16 (rules .1 .0);
+        rows = sym (rowsTests-passes g 0 rs) ∙ passes-all (rowsTests g 0 rs) (rules .1 .1);
         powers = rest .0;
         total = leb-true (length (units g rs)) mostUnits (rest .1 .0);
       }

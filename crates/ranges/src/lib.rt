@@ -1,8 +1,9 @@
-// Checks of listed ranges: refusals 9, 10 and 11.
+// Checks of listed ranges: refusals 18 to 21, which name a row, 10 and 11.
 
 use pieces::NextPiece;
 use rules::MOST_UNITS;
 use rules::Range;
+use rules::Refusal;
 use rules::Settings;
 use rules::Units;
 ghost use mathlib.Core.Path.{_≡_};
@@ -11,37 +12,52 @@ ghost use Prim.Native.Nat.{_^_, _<_, _≤_};
 ghost use lib.ListN.{length, take};
 ghost use mathlib.Core.List.{map};
 ghost use Rattle.rules.specs.Lists.{sum};
-ghost use Rattle.rules.specs.Refusals.{refusal};
+ghost use Rattle.rules.specs.Refusals.{refusal, refusalAt};
 ghost use Rattle.rules.specs.Units.{units};
-ghost use Rattle.rules.specs.Ranges.{rowOk, rowsOk, isPower, powersOk, unitsOk, listTests};
+ghost use Rattle.rules.specs.Ranges.{rowTests, rowOk, rowsOk, rowsTests, isPower, powersOk, unitsOk, listTests};
 
-// Whether a range by itself passes 9: some units, from a multiple of the unit on, that end at most at 2^64. Its last byte is held to the last
-// address, so that no sum can wrap.
+// The first rule of a row that a range breaks: 19 it has no units, 20 its start is no multiple of the unit, 21 it ends past 2^64; else 0. Its last byte is
+// held to the last address, so that no sum can wrap.
+fn row_number(g: u8, r: Range) -> u8
+    requires { ⌜ g ≤ 20 ⌝ }
+    ensures { λ x. ⌜ x ≡ refusal (rowTests g 0 r) ⌝ }
+{
+    let empty = r.length < 1;
+    let aligned = measures::aligned(g, r.start);
+    if empty {
+        return 19;
+    }
+    if !aligned {
+        return 20;
+    }
+    let b = measures::bytes_of(g, measures::length_of(r));
+    if b.0 - 1 > u64::MAX - r.start {
+        return 21;
+    }
+    0
+}
+
+// Whether a range breaks no rule of a row.
 pub fn range_ok(g: u8, r: Range) -> bool
     requires { ⌜ g ≤ 20 ⌝ }
     ensures { λ x. ⌜ x ≡ rowOk g r ⌝ }
 {
-    if r.length < 1 {
-        return false;
-    }
-    if !measures::aligned(g, r.start) {
-        return false;
-    }
-    let b = measures::bytes_of(g, measures::length_of(r));
-    b.0 - 1 <= u64::MAX - r.start
+    row_number(g, r) == 0
 }
 
-// Whether each of the first n ranges by itself passes 9.
-fn ranges_ok(g: u8, n: usize, ranges: [Range; 16]) -> bool
+// The earliest of the first n ranges that breaks a rule of a row: the rule's number, and the row.
+fn rows_refusal(g: u8, n: usize, ranges: [Range; 16]) -> Refusal
     requires { ⌜ (g ≤ 20) × (n ≤ 16) ⌝ }
-    ensures { λ x. ⌜ x ≡ rowsOk g (take n ranges) ⌝ }
+    ensures { λ x. ⌜ x ≡ refusalAt (rowsTests g 0 (take n ranges)) ⌝ }
 {
     for i in 0..n {
-        if !range_ok(g, ranges[i]) {
-            return false;
+        let number = row_number(g, ranges[i]);
+        if number != 0 {
+            let row = i as u8;
+            return Refusal { number, row };
         }
     }
-    true
+    Refusal { number: 0, row: 0 }
 }
 
 // Whether a range's length is a power of two: its lowest set bit is all of it.
@@ -116,26 +132,27 @@ fn units_ok(g: u8, n: usize, ranges: [Range; 16]) -> bool
     total.0 <= MOST_UNITS
 }
 
-// The refusal of n listed ranges: the first of 9, 10 and 11 that they break, or 0. Ranges past the first n are not looked at.
-pub fn list_refusal(s: Settings, g: u8, n: u8, ranges: [Range; 16]) -> u8
+// The refusal of n listed ranges, with its row: the first of 18 to 21, 10 and 11 that they break. Ranges past the first n are not looked at.
+pub fn list_refusal(s: Settings, g: u8, n: u8, ranges: [Range; 16]) -> Refusal
     requires { ⌜ g ≤ 20 ⌝ }
-    ensures { λ r. ⌜ r ≡ refusal (listTests s g n (take n ranges)) ⌝ }
+    ensures { λ r. ⌜ r ≡ refusalAt (listTests s g n (take n ranges)) ⌝ }
 {
     if n < 1 {
-        return 9;
+        return Refusal { number: 18, row: 0 };
     }
     if n > 16 {
-        return 9;
+        return Refusal { number: 18, row: 0 };
     }
     let m = n as usize;
-    if !ranges_ok(g, m, ranges) {
-        return 9;
+    let rows = rows_refusal(g, m, ranges);
+    if rows.number != 0 {
+        return rows;
     }
     if !powers_ok(s, m, ranges) {
-        return 10;
+        return Refusal { number: 10, row: 0 };
     }
     if !units_ok(g, m, ranges) {
-        return 11;
+        return Refusal { number: 11, row: 0 };
     }
-    0
+    Refusal { number: 0, row: 0 }
 }

@@ -43,7 +43,7 @@ pub fn counts(d: Device) -> usize
     total
 }
 
-// Whether a controller is off, or its granularity and ranges pass 7, 9, 10 and 11.
+// Whether a controller is off, or its granularity and ranges pass 7, 18 to 21, 10 and 11.
 fn controller_ok(s: Settings, c: Controller) -> bool
     requires { ⌜ s .greatest ≤ 20 ⌝ }
     ensures { λ r. ⌜ r ≡ heldOk s (heldOf c) ⌝ }
@@ -56,7 +56,8 @@ fn controller_ok(s: Settings, c: Controller) -> bool
         return false;
     }
     let ranges = c.ranges;
-    ranges::list_refusal(s, g, n, ranges) == 0
+    let refusal = ranges::list_refusal(s, g, n, ranges);
+    refusal.number == 0
 }
 
 // Whether each controller in use is off or holds what it may.

@@ -3,7 +3,7 @@
 //
 // A case has 2944 bytes: the record (1599 bytes: settings, and from 31 on 8 controllers of 196 bytes), how many mark words are lent (2) and the value of
 // each (8), the call (1, at 1609), its identifier (2), address (8), length in bytes (8) and type (1), how many bytes are lent (2), these (1024), zeros.
-// An answer has 7443: the number (1), a write's count (8), a receive's suspended, more and granularity (1 each) and runs (8), then the record (1599),
+// An answer has 7444: the number (1), a start's row (1), a write's count (8), a receive's suspended, more and granularity (1 each) and runs (8), then the record (1599),
 // 600 mark words and 1024 lent bytes as they are after the call, with zeros past the lent ones.
 
 use libc::STDIN_FILENO;
@@ -26,9 +26,11 @@ struct State {
     waiting: Waiting,
 }
 
-// What a call answers, and the record after it. The count is a write's, and what was received is a receive's: zeros, beside the number, where it is none.
+// What a call answers, and the record after it. The row is a start's, the count a write's, and what was received is a receive's: zeros, beside the number,
+// where it is none.
 struct Answer {
     received: Received,
+    row: u8,
     count: usize,
     device: Device,
 }
@@ -308,9 +310,10 @@ fn put_answer(out: &mut Buffer, waiting: Waiting, a: Answer) -> Waiting {
     let received = a.received;
     let device = a.device;
     let b = output::put_byte(out, waiting, received.number);
-    let c = put_number(out, b, 8, a.count as u64);
-    let e = put_received(out, c, received);
-    put_device(out, e, device)
+    let c = output::put_byte(out, b, a.row);
+    let e = put_number(out, c, 8, a.count as u64);
+    let f = put_received(out, e, received);
+    put_device(out, f, device)
 }
 
 // ---- the calls
@@ -332,6 +335,7 @@ fn changed(c: Changed) -> Answer {
     let device = c.device;
     Answer {
         received,
+        row: 0,
         count: 0,
         device,
     }
@@ -347,7 +351,15 @@ fn fresh(case: &[u8], marks: &mut [u64]) -> Answer {
 fn start(case: &[u8], marks: &mut [u64], lent: &[u8]) -> Answer {
     let d = read_device(case);
     let id = short_at(case, 1610);
-    changed(tracker::start(d, marks, id, lent))
+    let started = tracker::start(d, marks, id, lent);
+    let received = not_received(started.number);
+    let device = started.device;
+    Answer {
+        received,
+        row: started.row,
+        count: 0,
+        device,
+    }
 }
 
 // Plays a stop.
@@ -367,6 +379,7 @@ fn write(case: &[u8], marks: &mut [u64]) -> Answer {
     let received = not_received(written.number);
     Answer {
         received,
+        row: 0,
         count: written.count,
         device,
     }
@@ -379,6 +392,7 @@ fn receive(case: &[u8], marks: &mut [u64], lent: &mut [u8]) -> Answer {
     let received = tracker::receive(device, marks, id, lent);
     Answer {
         received,
+        row: 0,
         count: 0,
         device,
     }

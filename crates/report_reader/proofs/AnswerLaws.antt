@@ -13,7 +13,7 @@ use Rattle.rules.specs.Refusals.{Test, _else_, refusal, orZero, passes}
 use Rattle.rules.specs.Report.{Descriptor}
 use Rattle.rules.specs.ReportReader.{reportSize, countIn, granularityIn, descriptorsIn, descriptorTests, reportTests, indexTests, bit}
 use Rattle.rules.proofs.ListLaws.{All, All-append}
-use Rattle.rules.proofs.RefusalLaws.{Passed, verdict-passed, verdict-number, passes-Passed, Passed-left, Passed-right, refusal-none, refusal-first, refusal-rest}
+use Rattle.rules.proofs.RefusalLaws.{Passed, verdict-passed, verdict-refused, passes-Passed, Passed-left, Passed-right, refusal-none, verdict-first, verdict-rest}
 
 -- ---- every refusal has a number
 
@@ -57,13 +57,13 @@ module _ (x : List ℕ) (e : refusal (reportTests x) ≡ 0) where
 
   -- an index past the last descriptor, and one that is not
   pub index-past : (i : ℕ) → countIn x ≤ i → 33 ≡ refusal (indexTests x i)
-  index-past i h = sym (refusal-rest (reportTests x) (last x i) passes-all ∙ rw (le-ltb i (countIn x) h))
+  index-past i h = sym (verdict-rest (reportTests x) (last x i) 0 (λ n j. n) passes-all ∙ rw (le-ltb i (countIn x) h))
     where
       passes-all : passes (reportTests x) ≡ true
       passes-all = sym (refusal-none (reportTests x) (reportTests-numbers x)) ∙ eq-eqb (refusal (reportTests x)) 0 e
 
   pub index-within : (i : ℕ) → i < countIn x → 0 ≡ refusal (indexTests x i)
-  index-within i h = sym (refusal-rest (reportTests x) (last x i) passes-all ∙ rw (lt-ltb i (countIn x) h))
+  index-within i h = sym (verdict-rest (reportTests x) (last x i) 0 (λ n j. n) passes-all ∙ rw (lt-ltb i (countIn x) h))
     where
       passes-all : passes (reportTests x) ≡ true
       passes-all = sym (refusal-none (reportTests x) (reportTests-numbers x)) ∙ eq-eqb (refusal (reportTests x)) 0 e
@@ -71,13 +71,13 @@ module _ (x : List ℕ) (e : refusal (reportTests x) ≡ 0) where
 -- ---- a refused report or index
 
 pub refused-answer : (x : List ℕ) (v : ℕ) → refusal (reportTests x) ≢ 0 → 0 ≡ orZero (reportTests x) v
-refused-answer x v h = sym (verdict-number (reportTests x) v (λ k. 0) h)
+refused-answer x v h = sym (verdict-refused (reportTests x) v (λ k j. 0) h)
 
 pub index-zero : (x : List ℕ) (i v : ℕ) → refusal (indexTests x i) ≢ 0 → 0 ≡ orZero (indexTests x i) v
-index-zero x i v h = sym (verdict-number (indexTests x i) v (λ k. 0) h)
+index-zero x i v h = sym (verdict-refused (indexTests x i) v (λ k j. 0) h)
 
 pub index-refused : (x : List ℕ) (i : ℕ) → refusal (reportTests x) ≢ 0 → refusal (reportTests x) ≡ refusal (indexTests x i)
-index-refused x i h = sym (refusal-first (reportTests x) (last x i) h)
+index-refused x i h = sym (verdict-first (reportTests x) (last x i) 0 0 (λ n j. n) h)
 
 -- ---- a descriptor that is there
 

@@ -68,7 +68,7 @@ slotStep-same b s a c n (start x) f =
     y = accepted c (start x)
 
     refuse : ℕ → ℕ → Answer × Slot
-    refuse k i = (refused k, c)
+    refuse k i = (refused k i, c)
 slotStep-same b s a c n stop f = refl
 slotStep-same b s a c n (write w) f = refl
 slotStep-same b s a c n (receive x) f = refl
@@ -77,7 +77,7 @@ slotStep-same b s a c n resume f = refl
 
 -- ---- an unsound device stays as it is, so a device is as sound after a call as it was before
 
-slotStep-unsound : (s : Settings) (v : Seen) (c : Slot) (o : Op) → v .sound ≡ false → slotStep s v c o ≡ (refused 1, c)
+slotStep-unsound : (s : Settings) (v : Seen) (c : Slot) (o : Op) → v .sound ≡ false → slotStep s v c o ≡ (refused 1 0, c)
 unfolding order
 slotStep-unsound s v c (start x) e = rw e
 slotStep-unsound s v c stop e = rw e
@@ -90,12 +90,12 @@ pub withSlot-slotAt : (st : State) (p : Option ℕ) → withSlot st p (slotAt st
 withSlot-slotAt st none = refl
 withSlot-slotAt st (some i) = ap (λ l. record { settings = st .settings; slots = l }) (set-getD (st .slots) i freshSlot)
 
-pub step-unsound : (st : State) (k : Call) → soundState st ≡ false → step st k ≡ (refused 1, st)
+pub step-unsound : (st : State) (k : Call) → soundState st ≡ false → step st k ≡ (refused 1 0, st)
 unfolding step
 step-unsound st k e = go (placeOf (st .settings) (k .id))
   where
-    go : (p : Option ℕ) → stepAt st p (k .op) ≡ (refused 1, st)
-    go p = rw (slotStep-unsound (st .settings) (seenAt st p) (slotAt st p) (k .op) e) (ap (λ (t : State). (refused 1, t)) (withSlot-slotAt st p))
+    go : (p : Option ℕ) → stepAt st p (k .op) ≡ (refused 1 0, st)
+    go p = rw (slotStep-unsound (st .settings) (seenAt st p) (slotAt st p) (k .op) e) (ap (λ (t : State). (refused 1 0, t)) (withSlot-slotAt st p))
 
 step-sound-same : (st : State) (k : Call) → soundState ((step st k) .1) ≡ soundState st
 step-sound-same st k = go (soundState st) refl

@@ -11,6 +11,7 @@ pub mod SoundLaws
 pub mod Sessions
 pub mod Isolation
 pub mod StartLaws
+pub mod NameLaws
 pub mod ReportLaws
 pub mod ListedLaws
 pub mod Theorems

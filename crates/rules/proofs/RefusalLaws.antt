@@ -1,13 +1,13 @@
 -- Laws of tables: what every refusal has, and what is done where all tests are passed. Assumes nothing.
-use mathlib.Core.Path.{_≡_, refl, ap}
+use mathlib.Core.Path.{_≡_, refl, sym, ap, _∙_}
 use mathlib.Core.Logic.{_≢_}
-use mathlib.Core.Bool.{Bool, true, false, _&&_, cond}
+use mathlib.Core.Bool.{Bool, true, false, _&&_, cond, true≢false}
 use mathlib.Core.List.{List, [], _∷_, _++_}
 use Prim.Native.Nat.{ℕ, _≤_}
 use native.Mathlib.Omega.{arith}
 use lib.Dec.{eqb}
 use borrow.Author.Tests.{ne-eqb}
-use Rattle.rules.specs.Refusals.{Test, verdict, refusal, passes}
+use Rattle.rules.specs.Refusals.{Test, verdict, refusal, placeIn, refusalAt, passes}
 use Rattle.rules.proofs.ListLaws.{All, All-left, All-right, All-all, and-left, and-right}
 
 -- all tests of a table are passed
@@ -24,16 +24,31 @@ module _ {A : Type 0} (P : A → Type 0) (refuse : ℕ → ℕ → A) where
       go true e ih = ih (λ h. f (e, h))
       go false e ih = bad (t .number) (t .place)
 
--- two verdicts over one table are related where their ends are, and what they make of a refusal
+-- what two verdicts make of each test's refusal is related
+abbrev pub Both : {A B : Type 0} → (A → B → Type 0) → (ℕ → ℕ → A) → (ℕ → ℕ → B) → List Test → Type 0
+Both R f g ts = All (λ (t : Test). R (f (t .number) (t .place)) (g (t .number) (t .place))) ts
+
+-- so are the verdicts, where their ends are
 pub verdict-both : {A B : Type 0} (R : A → B → Type 0) (ts : List Test) (a : A) (b : B) (f : ℕ → ℕ → A) (g : ℕ → ℕ → B)
-    → All (λ (t : Test). 1 ≤ t .number) ts → ((n i : ℕ) → 1 ≤ n → R (f n i) (g n i)) → (Passed ts → R a b) → R (verdict ts a f) (verdict ts b g)
-verdict-both R [] a b f g h r p = p tt
-verdict-both R (t ∷ ts) a b f g h r p = go (t .ok) refl (verdict-both R ts a b f g (h .1) r)
+    → Both R f g ts → (Passed ts → R a b) → R (verdict ts a f) (verdict ts b g)
+verdict-both R [] a b f g h p = p tt
+verdict-both R (t ∷ ts) a b f g h p = go (t .ok) refl (verdict-both R ts a b f g (h .1))
   where
     go : (c : Bool) → t .ok ≡ c → ((Passed ts → R a b) → R (verdict ts a f) (verdict ts b g))
         → R (cond c (verdict ts a f) (f (t .number) (t .place))) (cond c (verdict ts b g) (g (t .number) (t .place)))
     go true e ih = ih (λ q. p (e, q))
-    go false e ih = r (t .number) (t .place) (h .0)
+    go false e ih = h .0
+
+-- and where a test of a first part is not passed, whatever follows
+pub verdict-front : {A B : Type 0} (R : A → B → Type 0) (ts us : List Test) (a : A) (b : B) (f : ℕ → ℕ → A) (g : ℕ → ℕ → B)
+    → Both R f g ts → passes ts ≡ false → R (verdict (ts ++ us) a f) (verdict (ts ++ us) b g)
+verdict-front R [] us a b f g h e = absurd (true≢false e)
+verdict-front R (t ∷ ts) us a b f g h e = go (t .ok) (verdict-front R ts us a b f g (h .1)) e
+  where
+    go : (c : Bool) → (passes ts ≡ false → R (verdict (ts ++ us) a f) (verdict (ts ++ us) b g)) → (c && passes ts) ≡ false
+        → R (cond c (verdict (ts ++ us) a f) (f (t .number) (t .place))) (cond c (verdict (ts ++ us) b g) (g (t .number) (t .place)))
+    go true ih e = ih e
+    go false ih e = h .0
 
 -- one table after another
 pub verdict-append : {A : Type 0} (ts us : List Test) (done : A) (refuse : ℕ → ℕ → A) → verdict (ts ++ us) done refuse ≡ verdict ts (verdict us done refuse) refuse
@@ -56,16 +71,16 @@ verdict-passed [] done refuse h = refl
 verdict-passed (t ∷ ts) done refuse h = rw (h .0) (verdict-passed ts done refuse (h .1))
 
 -- a verdict whose number is 0, where no test has that number, is what is done, and all tests are passed
-pub verdict-done : {A : Type 0} (number : A → ℕ) (ts : List Test) (done : A) (refuse : ℕ → A) → ((n : ℕ) → number (refuse n) ≡ n) → All (λ (t : Test). 1 ≤ t .number) ts
-    → number (verdict ts done (λ n i. refuse n)) ≡ 0 → (verdict ts done (λ n i. refuse n) ≡ done) × Passed ts
+pub verdict-done : {A : Type 0} (number : A → ℕ) (ts : List Test) (done : A) (refuse : ℕ → ℕ → A) → ((n i : ℕ) → number (refuse n i) ≡ n) → All (λ (t : Test). 1 ≤ t .number) ts
+    → number (verdict ts done refuse) ≡ 0 → (verdict ts done refuse ≡ done) × Passed ts
 verdict-done number [] done refuse f h e = (refl, tt)
 verdict-done number (t ∷ ts) done refuse f h e = go (t .ok) refl (verdict-done number ts done refuse f (h .1)) e
   where
-    go : (b : Bool) → t .ok ≡ b → (number (verdict ts done (λ n i. refuse n)) ≡ 0 → (verdict ts done (λ n i. refuse n) ≡ done) × Passed ts)
-        → number (cond b (verdict ts done (λ n i. refuse n)) (refuse (t .number))) ≡ 0
-        → (cond b (verdict ts done (λ n i. refuse n)) (refuse (t .number)) ≡ done) × ((t .ok ≡ true) × Passed ts)
+    go : (b : Bool) → t .ok ≡ b → (number (verdict ts done refuse) ≡ 0 → (verdict ts done refuse ≡ done) × Passed ts)
+        → number (cond b (verdict ts done refuse) (refuse (t .number) (t .place))) ≡ 0
+        → (cond b (verdict ts done refuse) (refuse (t .number) (t .place)) ≡ done) × ((t .ok ≡ true) × Passed ts)
     go true q ih e = let r = ih e in (r .0, (q, r .1))
-    go false q ih e = absurd (omega (arith, h .0, f (t .number), e))
+    go false q ih e = absurd (omega (arith, h .0, f (t .number) (t .place), e))
 
 -- two ends of which the second is the first unless that is a certain one: so are the verdicts
 pub verdict-same : {A : Type 0} (x : A) (ts : List Test) (k l : A) (refuse : ℕ → ℕ → A) → (k ≢ x → l ≡ k) → verdict ts k refuse ≢ x → verdict ts l refuse ≡ verdict ts k refuse
@@ -101,15 +116,6 @@ Passed-right ts us h = All-right (λ (t : Test). t .ok ≡ true) ts us h
 
 -- ---- refusal
 
--- tests that all have one number, before others: that number is answered, or all of them are passed
-pub refusal-alike : (k : ℕ) (ts us : List Test) → All (λ (t : Test). t .number ≡ k) ts → refusal (ts ++ us) ≡ cond (passes ts) (refusal us) k
-refusal-alike k [] us h = refl
-refusal-alike k (t ∷ ts) us h = go (t .ok) (refusal-alike k ts us (h .1))
-  where
-    go : (b : Bool) → refusal (ts ++ us) ≡ cond (passes ts) (refusal us) k → cond b (refusal (ts ++ us)) (t .number) ≡ cond (b && passes ts) (refusal us) k
-    go true e = e
-    go false e = h .0
-
 -- where no test has the number 0, that answer says that all are passed
 pub refusal-none : (ts : List Test) → All (λ (t : Test). 1 ≤ t .number) ts → eqb (refusal ts) 0 ≡ passes ts
 refusal-none [] h = refl
@@ -119,31 +125,31 @@ refusal-none (t ∷ ts) h = go (t .ok) (refusal-none ts (h .1))
     go true e = e
     go false e = ne-eqb (t .number) 0 (λ z. absurd (omega (arith, h .0)))
 
+-- a table that answers a number refuses with it, at its place
+pub verdict-refused : {A : Type 0} (ts : List Test) (done : A) (refuse : ℕ → ℕ → A) → refusal ts ≢ 0 → verdict ts done refuse ≡ refuse (refusal ts) (placeIn ts)
+verdict-refused [] done refuse h = absurd (h refl)
+verdict-refused (t ∷ ts) done refuse h = go (t .ok) (verdict-refused ts done refuse) h
+  where
+    go : (b : Bool) → (refusal ts ≢ 0 → verdict ts done refuse ≡ refuse (refusal ts) (placeIn ts)) → cond b (refusal ts) (t .number) ≢ 0
+        → cond b (verdict ts done refuse) (refuse (t .number) (t .place)) ≡ refuse (cond b (refusal ts) (t .number)) (cond b (placeIn ts) (t .place))
+    go true ih h = ih h
+    go false ih h = refl
+
+pub refusalAt-is : (ts : List Test) → refusalAt ts ≡ record { number = refusal ts; row = placeIn ts }
+refusalAt-is [] = refl
+refusalAt-is (t ∷ ts) = go (t .ok) (refusalAt-is ts)
+  where
+    go : (b : Bool) → refusalAt ts ≡ record { number = refusal ts; row = placeIn ts }
+        → cond b (refusalAt ts) (record { number = t .number; row = t .place }) ≡ record { number = cond b (refusal ts) (t .number); row = cond b (placeIn ts) (t .place) }
+    go true e = e
+    go false e = refl
+
 -- ---- tables one after another
 
--- where the first part refuses, the whole does so with the same number
-pub refusal-first : (ts us : List Test) → refusal ts ≢ 0 → refusal (ts ++ us) ≡ refusal ts
-refusal-first [] us h = absurd (h refl)
-refusal-first (t ∷ ts) us h = go (t .ok) (refusal-first ts us) h
-  where
-    go : (b : Bool) → (refusal ts ≢ 0 → refusal (ts ++ us) ≡ refusal ts) → cond b (refusal ts) (t .number) ≢ 0 → cond b (refusal (ts ++ us)) (t .number) ≡ cond b (refusal ts) (t .number)
-    go true ih h = ih h
-    go false ih h = refl
+-- where the first part refuses, the whole answers the same
+pub verdict-first : {A : Type 0} (ts us : List Test) (done end : A) (refuse : ℕ → ℕ → A) → refusal ts ≢ 0 → verdict (ts ++ us) done refuse ≡ verdict ts end refuse
+verdict-first ts us done end refuse h = verdict-append ts us done refuse ∙ verdict-refused ts (verdict us done refuse) refuse h ∙ sym (verdict-refused ts end refuse h)
 
 -- where it is passed, the rest answers
-pub refusal-rest : (ts us : List Test) → passes ts ≡ true → refusal (ts ++ us) ≡ refusal us
-refusal-rest ts us e = go ts (passes-Passed ts e)
-  where
-    go : (ts : List Test) → Passed ts → refusal (ts ++ us) ≡ refusal us
-    go [] h = refl
-    go (t ∷ ts) h = rw (h .0) (go ts (h .1))
-
--- a table that answers a number refuses with it
-pub verdict-number : {A : Type 0} (ts : List Test) (done : A) (f : ℕ → A) → refusal ts ≢ 0 → verdict ts done (λ n i. f n) ≡ f (refusal ts)
-verdict-number [] done f h = absurd (h refl)
-verdict-number (t ∷ ts) done f h = go (t .ok) (verdict-number ts done f) h
-  where
-    go : (b : Bool) → (refusal ts ≢ 0 → verdict ts done (λ n i. f n) ≡ f (refusal ts)) → cond b (refusal ts) (t .number) ≢ 0
-        → cond b (verdict ts done (λ n i. f n)) (f (t .number)) ≡ f (cond b (refusal ts) (t .number))
-    go true ih h = ih h
-    go false ih h = refl
+pub verdict-rest : {A : Type 0} (ts us : List Test) (done : A) (refuse : ℕ → ℕ → A) → passes ts ≡ true → verdict (ts ++ us) done refuse ≡ verdict us done refuse
+verdict-rest ts us done refuse e = verdict-append ts us done refuse ∙ verdict-passed ts (verdict us done refuse) refuse (passes-Passed ts e)

@@ -116,12 +116,12 @@ told-idle h d (on g rs p) e w k = (k .0 ∙ map-same same (units g rs), k .1)
     same u = sym (pendingBy-snoc h d u ∙ ap₂ (λ a b. pendingBy h u && not a || b) (e u) (w u) ∙ or-false (pendingBy h u && true) ∙ and-true (pendingBy h u))
 
 -- a refused call
-known-refused : (h : List Did) (o : Op) (n : ℕ) (b : Bool) (t : Marks) → Known h b t → Known (h ++ did o (refused n) ∷ []) b t
-known-refused h o n b t k =
+known-refused : (h : List Did) (o : Op) (n i : ℕ) (b : Bool) (t : Marks) → Known h b t → Known (h ++ did o (refused n i) ∷ []) b t
+known-refused h o n i b t k =
     record {
-      marks = told-idle h (did o (refused n)) t (λ u. refl) (λ u. refl) (k .marks);
-      tracked = k .tracked ∙ sym (tracksBy-snoc h (did o (refused n)) none);
-      suspended = k .suspended ∙ sym (suspendedBy-snoc h (did o (refused n)) false);
+      marks = told-idle h (did o (refused n i)) t (λ u. refl) (λ u. refl) (k .marks);
+      tracked = k .tracked ∙ sym (tracksBy-snoc h (did o (refused n i)) none);
+      suspended = k .suspended ∙ sym (suspendedBy-snoc h (did o (refused n i)) false);
     }
 
 -- an accepted call, from its marks and what becomes of its flag and ranges
@@ -206,6 +206,6 @@ known-done h (slot b t) resume free k =
 pub known-step : (s : Settings) (v : Seen) (h : List Did) (c : Slot) (o : Op) → KnownSlot h c
     → KnownSlot (h ++ did o ((slotStep s v c o) .0) ∷ []) ((slotStep s v c o) .1)
 known-step s v h (slot b t) o k =
-    verdict-has (λ (r : Answer × Slot). KnownSlot (h ++ did o (r .0) ∷ []) (r .1)) (λ n i. (refused n, slot b t))
-    (λ n i. known-refused h o n b t k) (order s v o) (accepted (slot b t) o)
+    verdict-has (λ (r : Answer × Slot). KnownSlot (h ++ did o (r .0) ∷ []) (r .1)) (λ n i. (refused n i, slot b t))
+    (λ n i. known-refused h o n i b t k) (order s v o) (accepted (slot b t) o)
     (λ p. known-done h (slot b t) o (allowed s v o p) k)

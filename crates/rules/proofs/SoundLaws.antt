@@ -20,7 +20,7 @@ use Rattle.rules.specs.Device.{Held, heldOk, heldCount, sound, soundRule
 use Rattle.rules.specs.Machine.{Answer, refused, Marks, off, on, Slot, slot, freshSlot, heldBy, accepted, slotStep, State, closed, opened, fresh, soundState, seenAt, stepAt, Call, step, after}
 use Rattle.rules.specs.declared.Settings.{Settings}
 use Rattle.rules.proofs.ListLaws.{all-set, every-at, and-left, and-right, and-intro, map-set}
-use Rattle.rules.proofs.RefusalLaws.{Passed, verdict-has, verdict-number, passes-all}
+use Rattle.rules.proofs.RefusalLaws.{Passed, verdict-has, verdict-refused, passes-all}
 use Rattle.rules.proofs.StartLaws.{rangesOf-length}
 use Rattle.rules.proofs.OrderLaws.{StartPassed, startOrder-passed}
 use Rattle.rules.proofs.StateLaws.{cleaned-identifiers}
@@ -78,7 +78,7 @@ accepted-stays s v (slot b t) resume p e h = stays-same s (v .counts) b false t 
 
 slotStep-stays : (s : Settings) (v : Seen) (c : Slot) (o : Op) → heldOk s (heldBy c) ≡ true → v .counts ≤ s .limit → Stays s (v .counts) c ((slotStep s v c o) .1)
 slotStep-stays s v (slot b t) o e h =
-    verdict-has (λ (r : Answer × Slot). Stays s (v .counts) (slot b t) (r .1)) (λ n i. (refused n, slot b t))
+    verdict-has (λ (r : Answer × Slot). Stays s (v .counts) (slot b t) (r .1)) (λ n i. (refused n i, slot b t))
     (λ n i. stays-same s (v .counts) b b t e h) (order s v o) (accepted (slot b t) o)
     (λ p. accepted-stays s v (slot b t) o p e h)
 
@@ -149,4 +149,4 @@ fresh-opens s words = go (settingsOk s) (eqb words markWords) refl
 
 pub fresh-closed : (s : Settings) (words : ℕ) → refusal (freshOrder s words) ≢ 0 → fresh s words ≡ closed
 unfolding fresh
-fresh-closed s words h = verdict-number (freshOrder s words) (opened s) (λ n. closed) h
+fresh-closed s words h = verdict-refused (freshOrder s words) (opened s) (λ n i. closed) h

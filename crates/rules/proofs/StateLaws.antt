@@ -49,11 +49,11 @@ placeOf-fits st z a = go (placeOf (st .settings) a) refl
 
 -- ---- a call to a controller that the settings lack
 
-pub slotStep-unknown : (s : Settings) (v : Seen) (c : Slot) (o : Op) → v .known ≡ false → slotStep s v c o ≡ (refused (cond (v .sound) 2 1), c)
+pub slotStep-unknown : (s : Settings) (v : Seen) (c : Slot) (o : Op) → v .known ≡ false → slotStep s v c o ≡ (refused (cond (v .sound) 2 1) 0, c)
 unfolding order
 slotStep-unknown s v c o e = go o (v .sound)
   where
-    go : (o : Op) (b : Bool) → slotStep s (record { sound = b; known = v .known; suspended = v .suspended; tracked = v .tracked; counts = v .counts }) c o ≡ (refused (cond b 2 1), c)
+    go : (o : Op) (b : Bool) → slotStep s (record { sound = b; known = v .known; suspended = v .suspended; tracked = v .tracked; counts = v .counts }) c o ≡ (refused (cond b 2 1) 0, c)
     go (start x) true = rw e
     go (start x) false = refl
     go stop true = rw e

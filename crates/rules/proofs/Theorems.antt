@@ -2,7 +2,7 @@
 use mathlib.Core.Path.{_≡_, refl, sym, ap, _∙_}
 use mathlib.Core.Logic.{_↔_}
 use mathlib.Core.Bool.{true}
-use mathlib.Core.List.{List, [], _∷_, map}
+use mathlib.Core.List.{List, [], _∷_}
 use mathlib.Core.Option.{Option, none, some}
 use Prim.Native.Nat.{ℕ, _+_, _-_, _%_, _^_, _≤_, _<_}
 use native.Mathlib.Omega.{arith}
@@ -35,33 +35,33 @@ use Rattle.rules.proofs.ReportLaws.{reports-map, runs-are, writes-alway
 
 -- ---- refusals
 
-accepted-not-refused : (c : Slot) (o : Op) (n : ℕ) → (accepted c o) .0 ≡ refused n → ⊥
-accepted-not-refused (slot b t) (start x) n e = let z : _≡_ {A = ℕ} 0 1 = cc in omega arith
-accepted-not-refused (slot b t) stop n e = let z : _≡_ {A = ℕ} 0 1 = cc in omega arith
-accepted-not-refused (slot b off) (write w) n e = let z : _≡_ {A = ℕ} 0 1 = cc in omega arith
-accepted-not-refused (slot b (on g rs p)) (write w) n e = let z : _≡_ {A = ℕ} 0 1 = cc in omega arith
-accepted-not-refused (slot b off) (receive x) n e = let z : _≡_ {A = ℕ} 0 1 = cc in omega arith
-accepted-not-refused (slot b (on g rs p)) (receive x) n e = let z : _≡_ {A = ℕ} 0 1 = cc in omega arith
-accepted-not-refused (slot b t) (suspend kind) n e = let z : _≡_ {A = ℕ} 0 1 = cc in omega arith
-accepted-not-refused (slot b t) resume n e = let z : _≡_ {A = ℕ} 0 1 = cc in omega arith
+accepted-not-refused : (c : Slot) (o : Op) (n i : ℕ) → (accepted c o) .0 ≡ refused n i → ⊥
+accepted-not-refused (slot b t) (start x) n i e = let z : _≡_ {A = ℕ} 0 1 = cc in omega arith
+accepted-not-refused (slot b t) stop n i e = let z : _≡_ {A = ℕ} 0 1 = cc in omega arith
+accepted-not-refused (slot b off) (write w) n i e = let z : _≡_ {A = ℕ} 0 1 = cc in omega arith
+accepted-not-refused (slot b (on g rs p)) (write w) n i e = let z : _≡_ {A = ℕ} 0 1 = cc in omega arith
+accepted-not-refused (slot b off) (receive x) n i e = let z : _≡_ {A = ℕ} 0 1 = cc in omega arith
+accepted-not-refused (slot b (on g rs p)) (receive x) n i e = let z : _≡_ {A = ℕ} 0 1 = cc in omega arith
+accepted-not-refused (slot b t) (suspend kind) n i e = let z : _≡_ {A = ℕ} 0 1 = cc in omega arith
+accepted-not-refused (slot b t) resume n i e = let z : _≡_ {A = ℕ} 0 1 = cc in omega arith
 
-refused-unchanged : (st : State) (k : Call) (n : ℕ) → (step st k) .0 ≡ refused n → (step st k) .1 ≡ st
+refused-unchanged : (st : State) (k : Call) (n i : ℕ) → (step st k) .0 ≡ refused n i → (step st k) .1 ≡ st
 unfolding step
-refused-unchanged st k n = go (placeOf (st .settings) (k .id))
+refused-unchanged st k n i = go (placeOf (st .settings) (k .id))
   where
-    go : (p : Option ℕ) → (stepAt st p (k .op)) .0 ≡ refused n → (stepAt st p (k .op)) .1 ≡ st
+    go : (p : Option ℕ) → (stepAt st p (k .op)) .0 ≡ refused n i → (stepAt st p (k .op)) .1 ≡ st
     go p =
-        verdict-has (λ (r : Answer × Slot). r .0 ≡ refused n → withSlot st p (r .1) ≡ st) (λ m i. (refused m, slotAt st p))
+        verdict-has (λ (r : Answer × Slot). r .0 ≡ refused n i → withSlot st p (r .1) ≡ st) (λ m j. (refused m j, slotAt st p))
         (λ m i e. withSlot-slotAt st p) (order (st .settings) (seenAt st p) (k .op)) (accepted (slotAt st p) (k .op))
-        (λ h e. absurd (accepted-not-refused (slotAt st p) (k .op) n e))
+        (λ h e. absurd (accepted-not-refused (slotAt st p) (k .op) n i e))
 
 pub refusals : Refusals
 refusals =
     record {
       unchanged = refused-unchanged;
-      bytes = λ id x n. refl;
-      number = λ n. refl;
-      zeros = λ n. (refl, refl);
+      bytes = λ id x n i. refl;
+      number = λ n i. refl;
+      zeros = λ n i. (refl, refl);
     }
 
 -- ---- soundness

@@ -6,7 +6,6 @@ use mathlib.Core.Logic.{_≢_, _↔_, _⊎_}
 use mathlib.Core.Bool.{Bool, true, false, _&&_, not}
 use mathlib.Core.List.{List, [], _∷_, map}
 use mathlib.Core.Option.{none, some}
-use lib.Dec.{eqb}
 use lib.ListN.{length, take, drop, getD, getElem?}
 use Rattle.rules.specs.Lists.{all, any, join, member}
 use Rattle.rules.specs.Refusals.{refusal}
@@ -34,15 +33,41 @@ sessionHistory s words ks a = historyOf a (events (fresh s words) ks)
 
 -- "A refusal returns its number and zeros, and the device record, the marks and the report buffer stay as they were"
 pub record Refusals : Type 0 where
-  pub unchanged : (st : State) (k : Call) (n : ℕ) → (step st k) .0 ≡ refused n → (step st k) .1 ≡ st
-  pub bytes : (id : ℕ) (x : List ℕ) (n : ℕ) → stored id x (refused n) ≡ x
-  pub number : (n : ℕ) → numberOf (refused n) ≡ n
-  pub zeros : (n : ℕ) → (newlyOf (refused n) ≡ 0) × (reportOf (refused n) ≡ noReport)
+  pub unchanged : (st : State) (k : Call) (n i : ℕ) → (step st k) .0 ≡ refused n i → (step st k) .1 ≡ st
+  pub bytes : (id : ℕ) (x : List ℕ) (n i : ℕ) → stored id x (refused n i) ≡ x
+  pub number : (n i : ℕ) → numberOf (refused n i) ≡ n
+  pub zeros : (n i : ℕ) → (newlyOf (refused n i) ≡ 0) × (reportOf (refused n i) ≡ noReport)
+
+-- W3: "Say which rule and row, counted from 0, the earliest row first; within a row length 0, unaligned, past the end"
+
+-- a range that breaks no rule of a row, with units of 2^g times 4 KiB
+pub record Good (g : ℕ) (r : Range) : Type 0 where
+  pub some : 1 ≤ r .length
+  pub aligned : r .start % 2 ^ (12 + g) ≡ 0
+  pub within : r .start + r .length * 2 ^ (12 + g) ≤ 2 ^ 64
+
+-- the first of the three rules that a range breaks, by its number
+pub data Breaks (g : ℕ) (r : Range) : ℕ → Type 0 where
+  empty : r .length ≡ 0 → Breaks g r 19
+  unaligned : 1 ≤ r .length → r .start % 2 ^ (12 + g) ≢ 0 → Breaks g r 20
+  past : 1 ≤ r .length → r .start % 2 ^ (12 + g) ≡ 0 → 2 ^ 64 < r .start + r .length * 2 ^ (12 + g) → Breaks g r 21
+
+-- a number that names no rule of ranges, and row 0
+abbrev pub Rowless : ℕ → ℕ → Type 0
+Rowless number row = ((number < 18) ⊎ (21 < number)) × (row ≡ 0)
+
+-- number and row of a start on ranges rs that breaks nothing before their rules
+pub record Names (g : ℕ) (rs : List Range) (number row : ℕ) : Type 0 where
+  pub count : (length rs ≡ 0) ⊎ (16 < length rs) → (number ≡ 18) × (row ≡ 0)
+  -- the earliest row that breaks a rule: those before it are good
+  pub rule : (i k : ℕ) → length rs ≤ 16 → i < length rs → ((j : ℕ) → j < i → Good g (getD rs j noRange)) → Breaks g (getD rs i noRange) k
+      → (number ≡ k) × (row ≡ i)
+  pub none : 1 ≤ length rs → length rs ≤ 16 → ((j : ℕ) → j < length rs → Good g (getD rs j noRange)) → Rowless number row
 
 -- "From a fresh device no sequence of calls leads to an unsound record, save the closed device of a refused fresh", which answers 1 to every call
 pub record Soundness : Type 0 where
   pub kept : (s : Settings) (words : ℕ) (ks : List Call) → refusal (freshOrder s words) ≡ 0 → soundState (sessionEnd s words ks) ≡ true
-  pub closed : (s : Settings) (words : ℕ) (ks : List Call) (k : Call) → refusal (freshOrder s words) ≢ 0 → (step (sessionEnd s words ks) k) .0 ≡ refused 1
+  pub closed : (s : Settings) (words : ℕ) (ks : List Call) (k : Call) → refusal (freshOrder s words) ≢ 0 → (step (sessionEnd s words ks) k) .0 ≡ refused 1 0
 
 -- ---- demand 2
 
@@ -59,7 +84,7 @@ pub record Pending (s : Settings) (words : ℕ) (ks : List Call) (a : ℕ) : Typ
 abbrev pub InRange : ℕ → Range → ℕ → Type 0
 InRange g r x = (r .start ≤ x) × (x < r .start + r .length * 2 ^ (12 + g))
 
--- which units ranges have, and their order: of ranges that pass 9 each by itself
+-- which units ranges have, and their order: of ranges of which each breaks no rule of a row
 pub record UnitsListed (g : ℕ) (rs : List Range) : Type 0 where
   -- "A granularity n means a unit of 2^n times 4 KiB": each has that size, and stands at a multiple of it
   pub sized : (m : ℕ) (u : Unit) → getElem? (units g rs) m ≡ some u → u .size ≡ unitSize g

@@ -27,7 +27,7 @@ pub record Held : Type 0 where
   pub count : ℕ
   pub ranges : List Range
 
--- whether a controller is not tracked, or its granularity and ranges pass 7, 9, 10 and 11
+-- whether a controller is not tracked, or its granularity and ranges pass 7, 18 to 21, 10 and 11
 unfoldable pub heldOk : Settings → Option Held → Bool
 heldOk s none = true
 heldOk s (some h) = passes ((granularityOk s (h .granularity) else 7) ∷ listTests s (h .granularity) (h .count) (h .ranges))

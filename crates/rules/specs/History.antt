@@ -32,7 +32,7 @@ historyOf a (e ∷ es) = cond (eqb (e .call .id) a) (record { op = e .call .op; 
 -- ---- what one call did
 
 abbrev pub isAccepted : Answer → Bool
-isAccepted (refused n) = false
+isAccepted (refused n i) = false
 isAccepted done = true
 isAccepted (wrote n) = true
 isAccepted (reported r) = true

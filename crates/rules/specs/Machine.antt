@@ -51,9 +51,9 @@ pendingIn (slot b (on g rs p)) = pending (units g rs) p
 
 -- ---- one call
 
--- a refusal's number; or done, for a write with its count and for a report with the report
+-- a refusal's number, and its row, which is 0 save where a rule of a row is broken (W3); or done, for a write with its count and for a report with the report
 pub data Answer : Type 0 where
-  refused : ℕ → Answer
+  refused : ℕ → ℕ → Answer
   done : Answer
   wrote : ℕ → Answer
   reported : Report → Answer
@@ -72,7 +72,7 @@ accepted (slot b t) resume = (done, slot false t)
 
 -- a refused call leaves the slot as it was
 abbrev pub slotStep : Settings → Seen → Slot → Op → Answer × Slot
-slotStep s v c o = verdict (order s v o) (accepted c o) (λ n i. (refused n, c))
+slotStep s v c o = verdict (order s v o) (accepted c o) (λ n i. (refused n i, c))
 
 -- ---- the device
 
@@ -163,21 +163,21 @@ lent resume = []
 -- lent bytes after an answer to a controller's call: a report is stored at the buffer's front, all else is as it was
 abbrev pub stored : ℕ → List ℕ → Answer → List ℕ
 stored id x (reported r) = put x 0 (reportBytes id r)
-stored id x (refused n) = x
+stored id x (refused n i) = x
 stored id x done = x
 stored id x (wrote n) = x
 
 -- ---- what an answer says in numbers; a refusal says zero beside its own number
 
 abbrev pub numberOf : Answer → ℕ
-numberOf (refused n) = n
+numberOf (refused n i) = n
 numberOf done = 0
 numberOf (wrote n) = 0
 numberOf (reported r) = 0
 
 abbrev pub newlyOf : Answer → ℕ
 newlyOf (wrote n) = n
-newlyOf (refused n) = 0
+newlyOf (refused n i) = 0
 newlyOf done = 0
 newlyOf (reported r) = 0
 
@@ -186,6 +186,6 @@ noReport = record { suspended = false; more = false; granularity = 0; descriptor
 
 abbrev pub reportOf : Answer → Report
 reportOf (reported r) = r
-reportOf (refused n) = noReport
+reportOf (refused n i) = noReport
 reportOf done = noReport
 reportOf (wrote n) = noReport

@@ -48,7 +48,7 @@ startWho v =
     ∷ (not (v .tracked) else 3)
     ∷ []
 
--- the structure behind its header, by itself: 7, 8 (listed ranges), 9, 10, 11
+-- the structure behind its header, by itself: 7, 8 (listed ranges), 18 to 21 with their rows (W3), 10, 11
 abbrev pub startListed : Settings → List ℕ → List Test
 startListed s x =
     (granularityOk s (granularityOf x) else 7)

@@ -1,5 +1,5 @@
--- Document 01, "The start structure", range rules (9), and the rules 10 and 11 of the same ranges. Each part of 9 is a test of its own, with the
--- row that it is about.
+-- Document 01, "The start structure", range rules, and the rules 10 and 11 of the same ranges. W3: each of the range rules has a number of its own, 18 to 21,
+-- and names the row that it is about, counted from 0, the earliest row first.
 use Prim.Native.Nat.{ℕ, suc, _%_, _^_}
 use mathlib.Core.Bool.{Bool, _||_, not}
 use mathlib.Core.List.{List, [], _∷_, _++_}
@@ -12,12 +12,12 @@ use Rattle.rules.specs.Units.{endOf, units}
 use Rattle.rules.specs.declared.Range.{Range}
 use Rattle.rules.specs.declared.Settings.{Settings}
 
--- one range: its length is at least 1, its start is a multiple of the unit, and it ends at most at 2^64
+-- 19, 20 and 21 for one range: its length is at least 1, its start is a multiple of the unit, and it ends at most at 2^64
 abbrev pub rowTests : ℕ → ℕ → Range → List Test
 rowTests g row r =
-    (leb 1 (r .length) else 9 place row)
-    ∷ (eqb (r .start % unitSize g) 0 else 9 place row)
-    ∷ (leb (endOf (unitSize g) r) (2 ^ 64) else 9 place row)
+    (leb 1 (r .length) else 19 place row)
+    ∷ (eqb (r .start % unitSize g) 0 else 20 place row)
+    ∷ (leb (endOf (unitSize g) r) (2 ^ 64) else 21 place row)
     ∷ []
 
 -- whether a range passes these
@@ -33,11 +33,11 @@ abbrev pub rowsTests : ℕ → ℕ → List Range → List Test
 rowsTests g row [] = []
 rowsTests g row (r ∷ rs) = rowTests g row r ++ rowsTests g (suc row) rs
 
--- 9 for n ranges: the count is 1 to 16; each range by itself. They may overlap (W2)
+-- 18 to 21 for n ranges: the count is 1 to 16; each range by itself. They may overlap (W2)
 unfoldable pub rangeTests : ℕ → ℕ → List Range → List Test
 rangeTests g n rs =
-    (leb 1 n else 9)
-    ∷ (leb n 16 else 9)
+    (leb 1 n else 18)
+    ∷ (leb n 16 else 18)
     ∷ rowsTests g 0 rs
 
 -- whether a length is a power of two
@@ -52,6 +52,6 @@ powersOk s rs = not (s .powers) || all (λ (r : Range). isPower (r .length)) rs
 unfoldable pub unitsOk : ℕ → List Range → Bool
 unitsOk g rs = leb (length (units g rs)) mostUnits
 
--- 9, 10 and 11
+-- 18 to 21, 10 and 11
 abbrev pub listTests : Settings → ℕ → ℕ → List Range → List Test
 listTests s g n rs = rangeTests g n rs ++ (powersOk s rs else 10) ∷ (unitsOk g rs else 11) ∷ []

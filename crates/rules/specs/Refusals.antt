@@ -3,6 +3,7 @@ use Prim.Native.Nat.{ℕ}
 use mathlib.Core.Bool.{Bool, cond}
 use mathlib.Core.List.{List, [], _∷_}
 use Rattle.rules.specs.Lists.{all}
+use Rattle.rules.specs.declared.Refusal.{Refusal}
 
 infix 28 _else_
 infix 27 _place_
@@ -32,6 +33,10 @@ refusal ts = verdict ts 0 (λ n i. n)
 -- the place that it answers, 0 where all tests are passed
 abbrev pub placeIn : List Test → ℕ
 placeIn ts = verdict ts 0 (λ n i. i)
+
+-- both, of a table whose places are rows
+abbrev pub refusalAt : List Test → Refusal
+refusalAt ts = verdict ts (record { number = 0; row = 0 }) (λ n i. record { number = n; row = i })
 
 -- a number where all tests are passed, else 0
 abbrev pub orZero : List Test → ℕ → ℕ

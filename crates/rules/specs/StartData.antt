@@ -64,9 +64,9 @@ headerTests x = (headerThere x else 8) ∷ (versionOk x else 6) ∷ []
 unfoldable pub headerOf : List ℕ → Header
 headerOf x = verdict (headerTests x) (Is (granularityOf x) (countOf x)) Refused
 
--- what the structure's reader checks: 8, 6, a count over 16 as 9 at the count's place, then 8 at the first range that is not wholly there
+-- what the structure's reader checks: 8, 6, a count over 16 as 18 at the count's place, then 8 at the first range that is not wholly there
 abbrev pub readTests : List ℕ → List Test
-readTests x = headerTests x ++ (leb (countOf x) 16 else 9 place 4) ∷ (rangesThere x else 8 place stopsAt x) ∷ []
+readTests x = headerTests x ++ (leb (countOf x) 16 else 18 place 4) ∷ (rangesThere x else 8 place stopsAt x) ∷ []
 
 -- a range of zeros, as in the places that are not in use
 abbrev pub noRange : Range
@@ -98,7 +98,7 @@ startBytes g rs = headerBytes g (length rs) ++ records rangeBytes rs
 
 -- what the writer of n ranges into a buffer of so many bytes checks: more than 16, then a buffer too short
 abbrev pub writeTests : ℕ → ℕ → List Test
-writeTests size n = (leb n 16 else 9) ∷ (leb (startSize n) size else 8) ∷ []
+writeTests size n = (leb n 16 else 18) ∷ (leb (startSize n) size else 8) ∷ []
 
 -- what a buffer holds after the writer was asked to write n ranges: bytes after the structure, or where it was refused all, are as they were
 unfoldable pub startWritten : List ℕ → ℕ → ℕ → List Range → List ℕ

@@ -1,4 +1,5 @@
--- Document 01, "Settled by worked numbers": the marked cases (*), in their order, as one table of sessions with the answers that the document gives.
+-- Document 01, "Settled by worked numbers": the marked cases (*), in their order, as one table of sessions with the answers that the document gives; then
+-- the numbers and rows of document 02, W3.
 -- That the rules give these answers is one claim, `Worked`, proved by computing (proofs/Theorems.antt).
 use Prim.Native.Nat.{ℕ, zero, suc, _+_, _-_, _^_}
 use mathlib.Core.Path.{_≡_}
@@ -66,11 +67,11 @@ cases =
     -- write at 65535, length 1: none; length 0 anywhere: none
     ∷ case (usual ∷ writes 65535 1 ∷ writes 65536 0 ∷ writes 69632 0 ∷ receives 64 ∷ []) (done ∷ wrote 0 ∷ wrote 0 ∷ wrote 0 ∷ report false [] ∷ [])
     -- write at 2^64 − 1, length 1: done; length 2: refusal 14
-    ∷ case (usual ∷ writes (2 ^ 64 - 1) 1 ∷ writes (2 ^ 64 - 1) 2 ∷ []) (done ∷ wrote 0 ∷ refused 14 ∷ [])
-    -- granularity 8: start 1048576 is allowed, 1052672 is refusal 9
-    ∷ case (starts 8 (range 1052672 1 ∷ []) ∷ starts 8 (range 1048576 1 ∷ []) ∷ []) (refused 9 ∷ done ∷ [])
-    -- range (2^64 − 4096, 1): allowed; length 2: refusal 9
-    ∷ case (starts 0 (range (2 ^ 64 - 4096) 2 ∷ []) ∷ starts 0 (range (2 ^ 64 - 4096) 1 ∷ []) ∷ []) (refused 9 ∷ done ∷ [])
+    ∷ case (usual ∷ writes (2 ^ 64 - 1) 1 ∷ writes (2 ^ 64 - 1) 2 ∷ []) (done ∷ wrote 0 ∷ refused 14 0 ∷ [])
+    -- granularity 8: start 1048576 is allowed, 1052672 is refused (W3: 20, row 0)
+    ∷ case (starts 8 (range 1052672 1 ∷ []) ∷ starts 8 (range 1048576 1 ∷ []) ∷ []) (refused 20 0 ∷ done ∷ [])
+    -- range (2^64 − 4096, 1): allowed; length 2: refused (W3: 21, row 0)
+    ∷ case (starts 0 (range (2 ^ 64 - 4096) 2 ∷ []) ∷ starts 0 (range (2 ^ 64 - 4096) 1 ∷ []) ∷ []) (refused 21 0 ∷ done ∷ [])
     -- units 0 and 2 pending, buffer 47: one descriptor (65536, 1), More set; next (73728, 1), More clear
     ∷ case (usual ∷ writes 65536 1 ∷ writes 73728 1 ∷ receives 47 ∷ receives 47 ∷ [])
     (done ∷ wrote 1 ∷ wrote 1 ∷ report true (run 65536 1 ∷ []) ∷ report false (run 73728 1 ∷ []) ∷ [])
@@ -78,9 +79,18 @@ cases =
     ∷ case (starts 0 (range 65536 1 ∷ range 69632 1 ∷ []) ∷ writes 65536 8192 ∷ receives 64 ∷ [])
     (done ∷ wrote 2 ∷ report false (run 65536 1 ∷ run 69632 1 ∷ []) ∷ [])
     -- power-of-two rule on: length 3 is refusal 10, length 4 allowed
-    ∷ record { powers = true; calls = starts 0 (range 65536 3 ∷ []) ∷ usual ∷ []; answers = refused 10 ∷ done ∷ [] }
+    ∷ record { powers = true; calls = starts 0 (range 65536 3 ∷ []) ∷ usual ∷ []; answers = refused 10 0 ∷ done ∷ [] }
     -- limit 16, another controller holds 10: a start with 7 is refusal 12, with 6 done
-    ∷ case (otherStarts 0 (singles 0 10) ∷ starts 0 (singles 0 7) ∷ starts 0 (singles 0 6) ∷ []) (done ∷ refused 12 ∷ done ∷ [])
+    ∷ case (otherStarts 0 (singles 0 10) ∷ starts 0 (singles 0 7) ∷ starts 0 (singles 0 6) ∷ []) (done ∷ refused 12 0 ∷ done ∷ [])
+    -- W3: no range, and 17 of which the first has no units: 18
+    ∷ case (starts 0 [] ∷ starts 0 (range 4097 0 ∷ singles 0 16) ∷ []) (refused 18 0 ∷ refused 18 0 ∷ [])
+    -- the earliest row answers, whichever of its rules it breaks
+    ∷ case (starts 0 (range 65536 4 ∷ range 4097 1 ∷ range 0 0 ∷ []) ∷ starts 0 (range 65536 1 ∷ range (2 ^ 64 - 4096) 2 ∷ range 4097 0 ∷ []) ∷ [])
+    (refused 20 1 ∷ refused 21 1 ∷ [])
+    -- within a row length 0, unaligned, past the end
+    ∷ case (starts 0 (range 4097 0 ∷ []) ∷ starts 0 (range (2 ^ 64 - 1) 0 ∷ []) ∷ starts 0 (range (2 ^ 64 - 1) 1 ∷ []) ∷ []) (refused 19 0 ∷ refused 19 0 ∷ refused 20 0 ∷ [])
+    -- all of it before the power-of-two rule, and behind the granularity, which name no row
+    ∷ record { powers = true; calls = starts 0 (range 65536 3 ∷ range 4096 0 ∷ []) ∷ starts 9 (range 0 0 ∷ []) ∷ []; answers = refused 19 1 ∷ refused 7 0 ∷ [] }
     ∷ []
 
 -- ---- the claim

@@ -64,6 +64,12 @@ pub struct StartData {
     pub ranges: [Range; 16],
 }
 
+// What a table answers of listed ranges: a refusal's number, and the row that it is about; zeros where nothing is refused.
+pub struct Refusal {
+    pub number: u8,
+    pub row: u8,
+}
+
 // No range: zeros in all places.
 pub fn no_ranges() -> [Range; 16]
     ensures { λ r. ⌜ r ≡ replicate 16 noRange ⌝ }

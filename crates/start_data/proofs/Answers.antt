@@ -15,7 +15,7 @@ use Rattle.rules.specs.declared.Range.{Range}
 use Rattle.rules.specs.declared.Header.{Header}
 use Rattle.rules.specs.declared.Header.the-variants.{Is, Refused}
 use Rattle.rules.specs.declared.StartData.{StartData}
-use Rattle.rules.proofs.RefusalLaws.{verdict-has, verdict-map, verdict-number}
+use Rattle.rules.proofs.RefusalLaws.{verdict-has, verdict-map, verdict-refused}
 use Rattle.start_data.specs.Answer.{headerSays, saidBy, HeaderRead, StartRead, rangesRead}
 
 -- ---- a header
@@ -91,12 +91,12 @@ module _ (x : List ℕ) where
       verdict-map (λ (d : StartData). d .ranges) (readTests x)
       (record { header = Is (granularityOf x) (countOf x); ranges = placed (rangesOf x) })
       (λ k at. record { header = Refused k at; ranges = placed [] })
-      ∙ verdict-number (readTests x) (placed (rangesOf x)) (λ k. placed []) h
+      ∙ verdict-refused (readTests x) (placed (rangesOf x)) (λ k at. placed []) h
 
 -- a refused writer changes no byte
 pub startWritten-refused : (buffer : List ℕ) (g n : ℕ) (rs : List Range) → refusal (writeTests (length buffer) n) ≢ 0 → startWritten buffer g n rs ≡ buffer
 unfolding startWritten
-startWritten-refused buffer g n rs h = verdict-number (writeTests (length buffer) n) (put buffer 0 (startBytes g rs)) (λ k. buffer) h
+startWritten-refused buffer g n rs h = verdict-refused (writeTests (length buffer) n) (put buffer 0 (startBytes g rs)) (λ k at. buffer) h
 
 -- ---- the ranges
 

@@ -55,7 +55,7 @@ module _ (x : List ℕ) (h : Header) (e : h ≡ headerOf x) where
     pub read-start-there : 8 ≤ length x
     read-start-there = leb-true 8 (length x) (told .there)
 
-    pub read-start-many : (r : StartData) → r ≡ noRanges (Refused 9 4) → 16 < n → r ≡ startData x
+    pub read-start-many : (r : StartData) → r ≡ noRanges (Refused 18 4) → 16 < n → r ≡ startData x
     unfolding startData put
     read-start-many r q many = rw (q, told .there, told .version, told .count, lt-leb n 16 many)
 
@@ -76,7 +76,7 @@ abbrev Wrote : List ℕ → ℕ → ℕ → List Range → ℕ → List ℕ → 
 Wrote l g n rs k l′ = (k ≡ refusal (writeTests (length l) n)) × (l′ ≡ startWritten l g n (take n rs))
 
 module _ (l : List ℕ) (g n : ℕ) (rs : List Range) where
-  pub write-start-many : 16 < n → Wrote l g n rs 9 l
+  pub write-start-many : 16 < n → Wrote l g n rs 18 l
   unfolding startWritten
   write-start-many many = let t = lt-leb n 16 many in (rw t, rw t)
 

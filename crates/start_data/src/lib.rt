@@ -75,7 +75,7 @@ fn refused(header: Header) -> StartData
     StartData { header, ranges }
 }
 
-// The structure: its header and its listed ranges. Refused as the header is, then with 9 at place 4, the count's, where more than 16 ranges are
+// The structure: its header and its listed ranges. Refused as the header is, then with 18 at place 4, the count's, where more than 16 ranges are
 // listed, then with 8 at the place of the first range that is not wholly there. A refusal comes with no range: zeros in all places.
 pub fn read_start(s: &[u8]) -> StartData
     ensures { λ r. ⌜ StartRead (now (s .entry)) r ⌝ }
@@ -85,7 +85,7 @@ pub fn read_start(s: &[u8]) -> StartData
         return refused(header);
     };
     if 16 < listed {
-        return refused(Header::Refused(9, 4));
+        return refused(Header::Refused(18, 4));
     }
     let n = listed as usize;
     if s.len() < 8 + 12 * n {
@@ -132,13 +132,13 @@ fn put_ranges(buffer: &mut [u8], n: usize, ranges: [Range; 16])
 }
 
 // Writes the structure with version 0, this granularity and the first `count` ranges to the front of the buffer, zeros in its reserved bytes, and
-// answers 0; bytes after it stay as they were. Refused, in this order: 9 for more than 16 ranges, 8 for a buffer too short; then no byte changes.
+// answers 0; bytes after it stay as they were. Refused, in this order: 18 for more than 16 ranges, 8 for a buffer too short; then no byte changes.
 pub fn write_start(buffer: &mut [u8], granularity: u8, count: u32, ranges: [Range; 16]) -> u8
     ensures number { λ r. ⌜ r ≡ refusal (writeTests (length (now (buffer .entry))) count) ⌝ }
     ensures bytes { λ _. ⌜ now (buffer .exit) ≡ startWritten (now (buffer .entry)) granularity count (take count ranges) ⌝ }
 {
     if 16 < count {
-        return 9;
+        return 18;
     }
     let n = count as usize;
     if buffer.len() < 8 + 12 * n {

@@ -2,17 +2,19 @@
 // every returned value, every field of the record and every word of the marks afterwards.
 
 use calls::Changed;
+use calls::Started;
 use record::Place;
 use rules::Controller;
 use rules::Device;
 use rules::Header;
+use rules::Refusal;
 use rules::Tracking;
 ghost use mathlib.Core.Path.{_≡_};
 ghost use mathlib.Core.Bool.{true};
 ghost use mathlib.Core.List.{_++_};
 ghost use Prim.Native.Nat.{_<_};
 ghost use lib.ListN.{length};
-ghost use Rattle.rules.specs.Refusals.{refusal};
+ghost use Rattle.rules.specs.Refusals.{refusalAt};
 ghost use Rattle.rules.specs.Settings.{shareAt, markWords};
 ghost use Rattle.rules.specs.StartData.{headerOf};
 ghost use Rattle.rules.specs.declared.Header.the-variants.{Is};
@@ -43,66 +45,80 @@ fn header_number(h: Header) -> u8
     }
 }
 
-// The first of 7, 8 (listed ranges), 9, 10, 11 and 12 that a start structure with this granularity and count breaks, or 0.
-fn list_number(d: Device, g: u8, n: u32, data: &[u8]) -> u8
+// The first of 7, 8 (listed ranges), 18 to 21, 10, 11 and 12 that a start structure with this granularity and count breaks, with its row.
+fn listed_refusal(d: Device, g: u8, n: u32, data: &[u8]) -> Refusal
     requires { ⌜ (soundDevice d ≡ true) × (headerOf (now «data») ≡ Is g n) ⌝ }
-    ensures { λ r. ⌜ r ≡ refusal (startListed (d .settings) (now («data» .entry)) ++ startShared (d .settings) (countsOf d) (now («data» .entry))) ⌝ }
+    ensures { λ r. ⌜ r ≡ refusalAt (startListed (d .settings) (now («data» .entry)) ++ startShared (d .settings) (countsOf d) (now («data» .entry))) ⌝ }
 {
     let s = d.settings;
     if !settings::granularity_ok(s, g) {
-        return 7;
+        return Refusal { number: 7, row: 0 };
     }
     let count = n as usize;
     if data.len() < 8 + 12 * count {
-        return 8;
+        return Refusal { number: 8, row: 0 };
     }
     if count > 16 {
-        return 9;
+        return Refusal { number: 18, row: 0 };
     }
     let ranges = start_data::read_ranges(data, count);
-    let number = ranges::list_refusal(s, g, count as u8, ranges);
-    if number != 0 {
-        return number;
+    let refusal = ranges::list_refusal(s, g, count as u8, ranges);
+    if refusal.number != 0 {
+        return refusal;
     }
     if count + record::counts(d) > s.limit as usize {
-        return 12;
+        return Refusal { number: 12, row: 0 };
     }
-    0
+    Refusal { number: 0, row: 0 }
 }
 
 // Starts tracking a controller from a start structure: its granularity and ranges are recorded and its share of the marks is clear. Refused, in this
-// order: 1, 2, 4 suspended, 3 already tracked, 8 no whole header, 6 version, 7 granularity, 8 listed ranges not there, 9 range rules, 10 power of
-// two, 11 too many units, 12 descriptor limit passed.
-pub fn start(d: Device, marks: &mut [u64], id: u16, data: &[u8]) -> Changed
+// order: 1, 2, 4 suspended, 3 already tracked, 8 no whole header, 6 version, 7 granularity, 8 listed ranges not there, 18 no range or more than 16, then row
+// by row 19 length 0, 20 unaligned, 21 past 2^64, then 10 power of two, 11 too many units, 12 descriptor limit passed. A refusal with 19 to 21 names its row.
+pub fn start(d: Device, marks: &mut [u64], id: u16, data: &[u8]) -> Started
     ensures { λ r. ⌜ (r ≡ startChange d (now (marks .entry)) id (now («data» .entry)) .answer) × (now (marks .exit) ≡ startChange d (now (marks .entry)) id (now («data» .entry)) .marks) ⌝ }
 {
     let place = record::locate(d, marks.len(), id);
     let Place::At(i) = place else {
         let number = calls::number_of(place);
-        return Changed { number, device: d };
+        return Started {
+            number,
+            row: 0,
+            device: d,
+        };
     };
     let c = d.controllers[i];
     if c.suspended {
-        return Changed {
+        return Started {
             number: 4,
+            row: 0,
             device: d,
         };
     }
     let t = c.tracking;
     let Tracking::Off = t else {
-        return Changed {
+        return Started {
             number: 3,
+            row: 0,
             device: d,
         };
     };
     let header = start_data::read_header(data);
     let Header::Is(g, n) = header else {
         let number = header_number(header);
-        return Changed { number, device: d };
+        return Started {
+            number,
+            row: 0,
+            device: d,
+        };
     };
-    let number = list_number(d, g, n, data);
-    if number != 0 {
-        return Changed { number, device: d };
+    let refusal = listed_refusal(d, g, n, data);
+    if refusal.number != 0 {
+        return Started {
+            number: refusal.number,
+            row: refusal.row,
+            device: d,
+        };
     }
     clear_share(marks, i);
     let ranges = start_data::read_ranges(data, n as usize);
@@ -113,8 +129,9 @@ pub fn start(d: Device, marks: &mut [u64], id: u16, data: &[u8]) -> Changed
         suspended: false,
         ranges,
     };
-    Changed {
+    Started {
         number: 0,
+        row: 0,
         device: e,
     }
 }

@@ -3,6 +3,7 @@
 
 pub use calls::Changed;
 pub use calls::Received;
+pub use calls::Started;
 pub use calls::Written;
 pub use fresh::fresh;
 pub use migration_send::resume;

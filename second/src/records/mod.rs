@@ -12,7 +12,7 @@ use crate::cases::play_cases;
 use crate::device::Device;
 use crate::little_endian::put;
 use crate::report::read_report;
-use crate::rules::{Record, Refusal, UNSOUND};
+use crate::rules::{Reason, Record, Refusal, UNSOUND};
 
 use self::case::{read_case, record_bytes, Call, Case, CASE_BYTES, MOST_DATA, MOST_WORDS};
 use self::marks::{clear_words, mark_pending, pending_units, MARK_WORDS};
@@ -21,6 +21,8 @@ use self::marks::{clear_words, mark_pending, pending_units, MARK_WORDS};
 #[derive(Clone, Debug, PartialEq, Eq)]
 struct Outcome {
     refusal: Refusal,
+    /// A refused start's row, 0 where it has none (W3).
+    row: usize,
     /// A write's count.
     count: u64,
     /// A report's suspended, more, granularity and number of runs.
@@ -36,14 +38,14 @@ pub fn play<R: Read, W: Write>(input: &mut R, output: &mut W) -> io::Result<()> 
 }
 
 /// "Every refused call returns its number, with zeros for everything else ..., and changes neither device, marks nor any
-/// buffer."; a refused fresh "returns a closed device, all zeros".
+/// buffer."; a refused fresh "returns a closed device, all zeros". W3: "Every caller passes the row on".
 fn outcome(case: &Case) -> Outcome {
     match done(case) {
         Ok(outcome) => outcome,
-        Err(refusal) => {
+        Err(Reason { number, row }) => {
             let closed = case.call == Call::Fresh;
             let record = if closed { Record::default() } else { case.record.clone() };
-            Outcome { refusal, record, ..untouched(case) }
+            Outcome { refusal: number, row: row.unwrap_or(0), record, ..untouched(case) }
         }
     }
 }
@@ -51,6 +53,7 @@ fn outcome(case: &Case) -> Outcome {
 fn untouched(case: &Case) -> Outcome {
     Outcome {
         refusal: 0,
+        row: 0,
         count: 0,
         report: [0; 4],
         record: case.record.clone(),
@@ -59,7 +62,7 @@ fn untouched(case: &Case) -> Outcome {
     }
 }
 
-fn done(case: &Case) -> Result<Outcome, Refusal> {
+fn done(case: &Case) -> Result<Outcome, Reason> {
     let mut after = untouched(case);
     if case.call == Call::Fresh {
         // "Fresh: 16, then 1 for the marks' length; done, all marks are 0".
@@ -118,6 +121,7 @@ fn report_numbers(buffer: &[u8]) -> [u64; 4] {
 fn answer(outcome: &Outcome) -> Vec<u8> {
     let mut bytes = Vec::new();
     put(&mut bytes, u128::from(outcome.refusal), 1);
+    put(&mut bytes, outcome.row as u128, 1);
     put(&mut bytes, u128::from(outcome.count), 8);
     for (number, width) in outcome.report.iter().zip(&[1, 1, 1, 8]) {
         put(&mut bytes, u128::from(*number), *width);

@@ -196,6 +196,91 @@ fn marks_that_are_not_512_words() {
 }
 
 // ---------------------------------------------------------------------------------------------------------------
+// Which row (W3)
+// ---------------------------------------------------------------------------------------------------------------
+
+/// A start of controller 6 at granularity 0 with these ranges, in a record full of rubbish.
+fn start_with(ranges: &[(u64, u64)]) -> Case {
+    let mut case = base(Call::Start, 6);
+    rubbish(&mut case.record);
+    let ranges: Vec<Range> = ranges.iter().map(|(start, length)| Range { start: *start, length: *length }).collect();
+    case.data = structure_bytes(0, &ranges);
+    case
+}
+
+/// This start is refused so, and leaves all as it was.
+fn assert_refused(case: &Case, refusal: Refusal, row: usize) {
+    assert_eq!(outcome(case), Outcome { refusal, row, ..untouched(case) });
+}
+
+#[test]
+fn rows_of_refused_starts() {
+    assert_refused(&start_with(&[]), 18, 0);
+    assert_refused(&start_with(&[(65536, 0)]), 19, 0);
+    assert_refused(&start_with(&[(4097, 0)]), 19, 0);
+    assert_refused(&start_with(&[(65536, 4), (4097, 1), (0, 0)]), 20, 1);
+    assert_refused(&start_with(&[(65536, 1), (18446744073709547520, 2)]), 21, 1);
+    let mut ranges = vec![(65536, 4); 16];
+    ranges[15] = (18446744073709551615, 1);
+    assert_refused(&start_with(&ranges), 20, 15);
+    ranges[3] = (18446744073709547520, 2);
+    assert_refused(&start_with(&ranges), 21, 3);
+    // Seventeen, and then the last of them not wholly there.
+    ranges.push((65536, 0));
+    let mut case = start_with(&ranges);
+    assert_refused(&case, 18, 0);
+    case.data.pop();
+    assert_refused(&case, 8, 0);
+}
+
+#[test]
+fn refusals_that_have_no_row() {
+    // Row 1 breaks 20; then ever earlier rules are broken as well.
+    let mut case = start_with(&[(65536, 4), (4097, 1)]);
+    assert_refused(&case, 20, 1);
+    case.data[3] = 9;
+    assert_refused(&case, 7, 0);
+    case.data[0] = 1;
+    assert_refused(&case, 6, 0);
+    case.id = 5;
+    assert_refused(&case, 3, 0);
+    case.id = 7;
+    assert_refused(&case, 4, 0);
+    case.id = 1;
+    assert_refused(&case, 2, 0);
+    // Row 1 of the record is of no length: unsound, and no row is told. So with 511 words.
+    let mut unsound = case.clone();
+    unsound.record.controllers[0].ranges[1].length = 0;
+    assert_refused(&unsound, 1, 0);
+    case.words.pop();
+    assert_refused(&case, 1, 0);
+    // Those behind 21: a length that is no power of two, 4,097 units, 14 ranges beside the 3 that are tracked.
+    let mut case = start_with(&[(65536, 4), (0, 3)]);
+    case.record.settings.rule = 1;
+    case.record.controllers[2].ranges[0].length = 4;
+    assert_refused(&case, 10, 0);
+    assert_refused(&start_with(&[(65536, 4), (0, 4097)]), 11, 0);
+    assert_refused(&start_with(&[(65536, 4); 14]), 12, 0);
+    let after = outcome(&start_with(&[(65536, 4); 13]));
+    assert_eq!((after.refusal, after.row), (0, 0));
+}
+
+#[test]
+fn no_other_call_has_a_row() {
+    // The record's row 15 is of no length: each call answers 1.
+    assert_unsound(&|record| {
+        let mut ranges = vec![(65536, 4); 16];
+        ranges[15] = (65536, 0);
+        track(record, 0, &ranges);
+        record.settings.limit = 128;
+    });
+    assert_sound(&|record| {
+        track(record, 0, &[(65536, 4); 16]);
+        record.settings.limit = 128;
+    });
+}
+
+// ---------------------------------------------------------------------------------------------------------------
 // What each call leaves behind, in a record full of rubbish
 // ---------------------------------------------------------------------------------------------------------------
 
@@ -465,23 +550,24 @@ fn bytes_that_are_no_case() {
 #[test]
 fn answers_at_their_offsets() {
     let case = read_case(&case_bytes()).unwrap();
-    let mut after = Outcome { refusal: 200, count: high(1, 2), report: [3, 4, 5, high(6, 7)], ..untouched(&case) };
+    let report = [3, 4, 5, high(6, 7)];
+    let mut after = Outcome { refusal: 200, row: 201, count: high(1, 2), report, ..untouched(&case) };
     after.words[512] = high(41, 42);
-    let mut expected = vec![0; 7443];
+    let mut expected = vec![0; 7444];
     let fields: [(usize, &[u8]); 6] = [
-        (0, &[200]),                         // refusal
-        (1, &[1, 0, 0, 0, 0, 0, 0, 2]),      // count
-        (9, &[3, 4, 5]),                     // suspended, more, granularity
-        (12, &[6, 0, 0, 0, 0, 0, 0, 7]),     // number of runs
-        (5715, &[41, 0, 0, 0, 0, 0, 0, 42]), // the last of 513 words
-        (6419, &[34, 35, 36]),               // 3 lent bytes
+        (0, &[200, 201]),                    // refusal and row
+        (2, &[1, 0, 0, 0, 0, 0, 0, 2]),      // count
+        (10, &[3, 4, 5]),                    // suspended, more, granularity
+        (13, &[6, 0, 0, 0, 0, 0, 0, 7]),     // number of runs
+        (5716, &[41, 0, 0, 0, 0, 0, 0, 42]), // the last of 513 words
+        (6420, &[34, 35, 36]),               // 3 lent bytes
     ];
     for (at, field) in &fields {
         expected[*at..*at + field.len()].copy_from_slice(field);
     }
-    expected[20..1619].copy_from_slice(&case_bytes()[..1599]);
+    expected[21..1620].copy_from_slice(&case_bytes()[..1599]);
     for word in 0..512 {
-        expected[1619 + 8 * word..1627 + 8 * word].copy_from_slice(&[25, 0, 0, 0, 0, 0, 0, 26]);
+        expected[1620 + 8 * word..1628 + 8 * word].copy_from_slice(&[25, 0, 0, 0, 0, 0, 0, 26]);
     }
     assert_eq!(answer(&after), expected);
 }
@@ -493,10 +579,27 @@ fn answer_to_a_case_that_lends_the_most() {
     case.words = vec![u64::MAX; 600];
     case.data = vec![170; 1024];
     let mut expected = vec![1];
-    expected.resize(20, 0);
+    expected.resize(21, 0);
     expected.extend_from_slice(&record_bytes(&case.record));
-    expected.resize(6419, 255);
-    expected.resize(7443, 170);
+    expected.resize(6420, 255);
+    expected.resize(7444, 170);
+    assert_eq!(answer(&outcome(&case)), expected);
+}
+
+#[test]
+fn answer_to_a_start_that_names_a_row() {
+    // 32 bytes are lent: a header and two ranges, of which the second is unaligned. All words are 0.
+    let case = start_with(&[(65536, 4), (4097, 1)]);
+    let mut expected = vec![20, 1];
+    expected.resize(21, 0);
+    expected.extend_from_slice(&record_bytes(&case.record));
+    expected.resize(6420, 0);
+    expected.extend_from_slice(&[
+        0, 0, 0, 0, 2, 0, 0, 0, // version, reserved, granularity, count
+        0, 0, 1, 0, 0, 0, 0, 0, 4, 0, 0, 0, // 65536, 4
+        1, 16, 0, 0, 0, 0, 0, 0, 1, 0, 0, 0, // 4097, 1
+    ]);
+    expected.resize(7444, 0);
     assert_eq!(answer(&outcome(&case)), expected);
 }
 
@@ -507,7 +610,7 @@ fn controller_that_is_off_answers_zeros() {
     for byte in &mut expected[31..227] {
         *byte = 0;
     }
-    assert_eq!(answer(&outcome(&base(Call::Stop, 5)))[20..1619].to_vec(), expected);
+    assert_eq!(answer(&outcome(&base(Call::Stop, 5)))[21..1620].to_vec(), expected);
 }
 
 #[test]
@@ -515,9 +618,9 @@ fn an_answer_for_each_case() {
     // Two cases of zeros: a fresh whose settings have no identifiers. It answers 16 and is closed; no words, no bytes.
     let mut output = Vec::new();
     play(&mut &vec![0; 2 * CASE_BYTES][..], &mut output).unwrap();
-    let mut expected = vec![0; 2 * 7443];
+    let mut expected = vec![0; 2 * 7444];
     expected[0] = 16;
-    expected[7443] = 16;
+    expected[7444] = 16;
     assert_eq!(output, expected);
     let mut output = Vec::new();
     play(&mut &[][..], &mut output).unwrap();

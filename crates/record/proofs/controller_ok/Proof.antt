@@ -32,10 +32,10 @@ list-refusal-requires c κs =
 
 returns-3 : tie.Need-returns-3
 returns-3 c =
-    let p = c .before .before .before in
+    let p = c .before .before .before .before in
     let t = p .before .before .t .given in
-    listTests-none _ _ _ _ _ (c .list-refusal .ensures)
-    ∙ sym (heldOk-on _ _ _ _ _ (t .1) (sym (p .granularity-ok .ensures) ∙ not-false _ (c .before .before .if1 .left)))
+    listTests-none _ _ _ _ _ (c .before .list-refusal .ensures)
+    ∙ sym (heldOk-on _ _ _ _ _ (t .1) (sym (p .granularity-ok .ensures) ∙ not-false _ (c .before .before .before .if1 .left)))
 
 pub controller-ok-spec : {M : Type 1} → statement M
 controller-ok-spec =

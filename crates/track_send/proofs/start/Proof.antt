@@ -38,8 +38,8 @@ listed : (c : tie.After-known-told2) → headerOf (now (c .before .before .befor
 listed c = sym (c .before .before .before .read-header .ensures .is) ∙ c .before .header .given .1
 
 -- its number of ranges, once they have passed
-few : (c : tie.Else2) → (c .before .before .before .header .given .0 .1 .0 ≤ 16) × (startSize (c .before .before .before .header .given .0 .1 .0) ≤ length (now (c .before .before .before .before .before .before .before .before .before .before .before .before .before .before .before .before .args .«data»)))
-few c = listed-few _ _ _ _ _ (listed (c .before .before)) (sym (c .before .list-number .ensures) ∙ c .if2 .left)
+few : (c : tie.Else2) → (c .before .before .before .before .header .given .0 .1 .0 ≤ 16) × (startSize (c .before .before .before .before .header .given .0 .1 .0) ≤ length (now (c .before .before .before .before .before .before .before .before .before .before .before .before .before .before .before .before .before .args .«data»)))
+few c = listed-few _ _ _ _ _ (listed (c .before .before .before)) _ (c .before .before .listed-refusal .ensures) (c .if2 .left)
 
 locate-requires : tie.Need-locate-requires
 locate-requires c κs = search needs
@@ -54,7 +54,7 @@ number-of-requires : tie.Need-number-of-requires
 number-of-requires c κs = search needs
 
 returns : tie.Need-returns
-returns c = leaves-unchanged _ _ _ _ (start-refused _ _ _ _ _ (refused c))
+returns c = leaves-unchanged _ _ _ (start-refused _ _ _ _ _ (refused c))
 
 mul-c : tie.Need-mul-c
 mul-c c = omega (arith, below c)
@@ -63,7 +63,7 @@ element-copy-out-c : tie.Need-element-copy-out-c
 element-copy-out-c c = below c
 
 returns-2 : tie.Need-returns-2
-returns-2 c = leaves-unchanged _ 4 _ _ (start-suspended _ _ _ _ _ (found (c .before .before)) (c .if1 .taken))
+returns-2 c = leaves-unchanged _ _ _ (start-suspended _ _ _ _ _ (found (c .before .before)) (c .if1 .taken))
 
 enum-told-2 : tie.Need-enum-told-2
 enum-told-2 c = search needs
@@ -72,7 +72,7 @@ enum-told-3 : tie.Need-enum-told-3
 enum-told-3 c = search needs
 
 returns-3 : tie.Need-returns-3
-returns-3 c = leaves-unchanged _ 3 _ _ (start-tracked _ _ _ _ _ (found (c .before .before .before .before)) (c .before .before .if1 .left) _ _ (c .enum-told3 .given .1))
+returns-3 c = leaves-unchanged _ _ _ (start-tracked _ _ _ _ _ (found (c .before .before .before .before)) (c .before .before .if1 .left) _ _ (c .enum-told3 .given .1))
 
 read-header-requires : tie.Need-read-header-requires
 read-header-requires c κs = search needs
@@ -89,16 +89,16 @@ header-number-requires c κs = search needs
 returns-4 : tie.Need-returns-4
 returns-4 c =
     let e = sym (c .before .before .before .read-header .ensures .is) in
-    leaves-unchanged _ _ _ _ (start-header _ _ _ _ _ (found (c .before .before .before .before .before .before .before .before)) (c .before .before .before .before .before .before .if1 .left) (c .before .before .before .before .enum-told2 .given .1) _ _ _ (e ∙ c .before .enum-told4 .given .1) (c .header-number .ensures ∙ ap (λ h. headerSays h .number) (sym e)))
+    leaves-unchanged _ _ _ (start-header _ _ _ _ _ (found (c .before .before .before .before .before .before .before .before)) (c .before .before .before .before .before .before .if1 .left) (c .before .before .before .before .enum-told2 .given .1) _ _ _ (e ∙ c .before .enum-told4 .given .1) (c .header-number .ensures ∙ ap (λ h. headerSays h .number) (sym e)))
 
-list-number-requires : tie.Need-list-number-requires
-list-number-requires c κs = (whereIs-at _ _ _ _ (found (c .before .before .before .before .before .before .before .before)) .sound, listed c)
+listed-refusal-requires : tie.Need-listed-refusal-requires
+listed-refusal-requires c κs = (whereIs-at _ _ _ _ (found (c .before .before .before .before .before .before .before .before)) .sound, listed c)
 
 returns-5 : tie.Need-returns-5
-returns-5 c = leaves-unchanged _ _ _ _ (start-listed _ _ _ _ _ (found (c .before .before .before .before .before .before .before .before .before .before)) (c .before .before .before .before .before .before .before .before .if1 .left) (c .before .before .before .before .before .before .enum-told2 .given .1) _ _ (listed (c .before .before)) _ (c .before .list-number .ensures) (c .if2 .taken))
+returns-5 c = leaves-unchanged _ _ _ (start-listed _ _ _ _ _ (found (c .before .before .before .before .before .before .before .before .before .before .before)) (c .before .before .before .before .before .before .before .before .before .if1 .left) (c .before .before .before .before .before .before .before .enum-told2 .given .1) _ _ (listed (c .before .before .before)) _ (c .before .before .listed-refusal .ensures) (c .if2 .taken))
 
 clear-share-requires : tie.Need-clear-share-requires
-clear-share-requires c κs = (below (c .before .before .before .before .before .before .before .before .before .before .before), whereIs-at _ _ _ _ (found (c .before .before .before .before .before .before .before .before .before .before .before)) .whole)
+clear-share-requires c κs = (below (c .before .before .before .before .before .before .before .before .before .before .before .before), whereIs-at _ _ _ _ (found (c .before .before .before .before .before .before .before .before .before .before .before .before)) .whole)
 
 cast-read-ranges : tie.Need-cast-read-ranges
 cast-read-ranges c = search needs
@@ -110,20 +110,20 @@ cast-t33 : tie.Need-cast-t33
 cast-t33 c = omega (arith, few (c .before .before .before .before .before) .0)
 
 mul-t20 : tie.Need-mul-t20
-mul-t20 c = omega (arith, below (c .before .before .before .before .before .before .before .before .before .before .before .before .before .before .before))
+mul-t20 c = omega (arith, below (c .before .before .before .before .before .before .before .before .before .before .before .before .before .before .before .before))
 
 element-set-from-e : tie.Need-element-set-from-e
-element-set-from-e c = below (c .before .before .before .before .before .before .before .before .before .before .before .before .before .before .before)
+element-set-from-e c = below (c .before .before .before .before .before .before .before .before .before .before .before .before .before .before .before .before)
 
 same-length : tie.Need-same-length
 same-length c = search needs
 
 returns-6 : tie.Need-returns-6
 returns-6 c =
-    let k = c .before .before .before .before .before .before .before .before .before .before .before .before .before .before .before in
+    let k = c .before .before .before .before .before .before .before .before .before .before .before .before .before .before .before .before in
     let a = k .before .before .before .before .before .before .args in
     let read-few = few (c .before .before .before .before .before) in
-    leaves _ 0 _ _ _ _ (start-done (a .t1) (now (a .marks)) (a .id) (now (a .«data»)) _ (found k) (c .before .before .before .before .before .before .before .before .before .before .before .before .before .if1 .left) (c .before .before .before .before .before .before .before .before .before .before .before .enum-told2 .given .1) _ _ (listed (c .before .before .before .before .before .before .before)) (sym (c .before .before .before .before .before .if2 .left) ∙ c .before .before .before .before .before .before .list-number .ensures))
+    leaves _ _ _ _ _ (start-done (a .t1) (now (a .marks)) (a .id) (now (a .«data»)) _ (found k) (c .before .before .before .before .before .before .before .before .before .before .before .before .before .before .if1 .left) (c .before .before .before .before .before .before .before .before .before .before .before .before .enum-told2 .given .1) _ _ (listed (c .before .before .before .before .before .before .before .before)) _ (c .before .before .before .before .before .before .before .listed-refusal .ensures) (c .before .before .before .before .before .if2 .left))
     (rw (c .read-ranges .ensures, rangesRead-there _ _ (read-few .0) (read-few .1))) (c .before .before .before .clear-share .ensures)
 
 pub start-spec : {M : Type 1} → statement M
@@ -146,7 +146,7 @@ start-spec =
     enum-told-4
     header-number-requires
     returns-4
-    list-number-requires
+    listed-refusal-requires
     returns-5
     clear-share-requires
     cast-read-ranges

@@ -43,7 +43,7 @@ number-of-requires : tie.Need-number-of-requires
 number-of-requires c κs = search needs
 
 returns : tie.Need-returns
-returns c = leaves-unchanged _ _ _ _ (stop-refused _ _ _ _ (refused c))
+returns c = leaves-unchanged _ _ _ (stop-refused _ _ _ _ (refused c))
 
 mul-c : tie.Need-mul-c
 mul-c c = omega (arith, below c)
@@ -52,7 +52,7 @@ element-copy-out-c : tie.Need-element-copy-out-c
 element-copy-out-c c = below c
 
 returns-2 : tie.Need-returns-2
-returns-2 c = leaves-unchanged _ 4 _ _ (stop-suspended _ _ _ _ (found (c .before .before)) (c .if1 .taken))
+returns-2 c = leaves-unchanged _ _ _ (stop-suspended _ _ _ _ (found (c .before .before)) (c .if1 .taken))
 
 enum-told-2 : tie.Need-enum-told-2
 enum-told-2 c = search needs
@@ -61,7 +61,7 @@ enum-told-3 : tie.Need-enum-told-3
 enum-told-3 c = search needs
 
 returns-3 : tie.Need-returns-3
-returns-3 c = leaves-unchanged _ 5 _ _ (stop-off _ _ _ _ (found (c .before .before .before .before)) (c .before .before .if1 .left) (c .enum-told3 .given .1))
+returns-3 c = leaves-unchanged _ _ _ (stop-off _ _ _ _ (found (c .before .before .before .before)) (c .before .before .if1 .left) (c .enum-told3 .given .1))
 
 clear-share-requires : tie.Need-clear-share-requires
 clear-share-requires c κs = (below (c .before .before .before .before .before), whereIs-at _ _ _ _ (found (c .before .before .before .before .before)) .whole)
@@ -82,7 +82,7 @@ returns-4 : tie.Need-returns-4
 returns-4 c =
     let k = c .before .before .before .before .before .before .before .before .before in
     let a = k .before .before .before .before .before .args in
-    leaves _ 0 _ _ _ _ (stop-done (a .t1) (a .id) (now (a .marks)) _ (found k) _ _ (c .before .before .before .before .before .before .before .if1 .left) (c .before .before .before .before .before .enum-told2 .given .1))
+    leaves _ _ _ _ _ (stop-done (a .t1) (a .id) (now (a .marks)) _ (found k) _ _ (c .before .before .before .before .before .before .before .if1 .left) (c .before .before .before .before .before .enum-told2 .given .1))
     (rw (c .no-ranges .ensures, put-nil)) (c .before .before .before .clear-share .ensures)
 
 pub stop-spec : {M : Type 1} → statement M

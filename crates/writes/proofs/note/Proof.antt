@@ -14,7 +14,7 @@ use Rattle.record.proofs.RecordLaws.{whereIs-at}
 use Rattle.rules.proofs.LoopLaws.{length-mapped}
 use Rattle.ranges.proofs.RangeLaws.{HeldFacts}
 use Rattle.marking.specs.Note.{writeTo}
-use Rattle.calls.proofs.Answers.{notes}
+use Rattle.calls.proofs.Answers.{leaves-unchanged}
 use Rattle.writes.proofs.WriteLaws.{sound-found, sound-nothing, write-refused, write-suspended, write-past, write-off, write-empty, write-done}
 use Rattle.calls.proofs.PlaceLaws.{held-at, share-within}
 use Rattle.writes.proofs.note.Statement.{statement}
@@ -59,7 +59,7 @@ enum-told : tie.Need-enum-told
 enum-told c = search needs
 
 returns : tie.Need-returns
-returns c = notes _ 2 0 _ (write-refused _ _ _ _ _ (sound-nothing _ _ _ (c .before .before .before .before .before .pre) (sym (c .before .before .find .ensures) ∙ c .enum-told .given .1)))
+returns c = leaves-unchanged _ _ _ (write-refused _ _ _ _ _ (sound-nothing _ _ _ (c .before .before .before .before .before .pre) (sym (c .before .before .find .ensures) ∙ c .enum-told .given .1)))
 
 mul-c : tie.Need-mul-c
 mul-c c = omega (arith, below c)
@@ -68,12 +68,12 @@ element-copy-out-c : tie.Need-element-copy-out-c
 element-copy-out-c c = below c
 
 returns-2 : tie.Need-returns-2
-returns-2 c = notes _ 4 0 _ (write-suspended _ _ _ _ _ (found (c .before .before)) (c .if1 .taken))
+returns-2 c = leaves-unchanged _ _ _ (write-suspended _ _ _ _ _ (found (c .before .before)) (c .if1 .taken))
 
 returns-3 : tie.Need-returns-3
 returns-3 c =
     let k = c .before .before .before in
-    notes _ 0 0 _ (write-empty _ _ _ _ _ (found k) (c .before .if1 .left) (omega arith) (there k) (λ i. k .before .before .before .before .before .slice-known .given i .fits) (c .if2 .taken))
+    leaves-unchanged _ _ _ (write-empty _ _ _ _ _ (found k) (c .before .if1 .left) (omega arith) (there k) (λ i. k .before .before .before .before .before .slice-known .given i .fits) (c .if2 .taken))
 
 sub-if3 : tie.Need-sub-if3
 sub-if3 c = search needs
@@ -82,7 +82,7 @@ sub-if3-2 : tie.Need-sub-if3-2
 sub-if3-2 c = search needs
 
 returns-4 : tie.Need-returns-4
-returns-4 c = notes _ 14 0 _ (write-past _ _ _ _ _ (found (c .before .before .before .before)) (c .before .before .if1 .left) (omega arith))
+returns-4 c = leaves-unchanged _ _ _ (write-past _ _ _ _ _ (found (c .before .before .before .before)) (c .before .before .if1 .left) (omega arith))
 
 enum-known-t : tie.Need-enum-known-t
 enum-known-t c = search needs
@@ -91,7 +91,7 @@ enum-told-2 : tie.Need-enum-told-2
 enum-told-2 c = search needs
 
 returns-5 : tie.Need-returns-5
-returns-5 c = notes _ 0 0 _ (write-off _ _ _ _ _ (found (c .before .before .before .before .before .before)) (c .before .before .before .before .if1 .left) (omega arith) (c .enum-told2 .given .1))
+returns-5 c = leaves-unchanged _ _ _ (write-off _ _ _ _ _ (found (c .before .before .before .before .before .before)) (c .before .before .before .before .if1 .left) (omega arith) (c .enum-told2 .given .1))
 
 share-at-requires : tie.Need-share-at-requires
 share-at-requires c κs = below (c .before .before .before .before .before .before .before .before .before)
@@ -129,7 +129,7 @@ returns-6 c =
     ap (λ (b : ℕ). record { address = a .at; bytes = b }) e in
     let r = c .before .before .mark-ranges in
     let at = c .before .before .before .share-at .ensures in
-    notes _ 0 _ _ (write-done (a .t1) (now (a .marks)) (a .id) _ _ (found k) (m .before .before .before .before .before .if1 .left) (omega arith) _ _ (m .before .t .given .1) (there k) _ _
+    leaves-unchanged _ _ _ (write-done (a .t1) (now (a .marks)) (a .id) _ _ (found k) (m .before .before .before .before .before .if1 .left) (omega arith) _ _ (m .before .t .given .1) (there k) _ _
     (λ i. c .slice-known2 .given i .fits) (r .kept .0) (rw (w, at) at (r .ensures .0)) (rw (w, at) at (r .ensures .1)))
 
 pub note-spec : {M : Type 1} → statement M

@@ -5,19 +5,19 @@ use borrow.Author.Tests.{not-true, not-false, eq-eqb}
 use Rattle.rules.specs.Settings.{markWords}
 use Rattle.record.specs.Record.{soundWith}
 use Rattle.record.proofs.RecordLaws.{whereIs-words, whereIs-unsound}
-use Rattle.calls.proofs.Answers.{notes}
+use Rattle.calls.proofs.Answers.{leaves-unchanged}
 use Rattle.writes.proofs.WriteLaws.{write-refused}
 use Rattle.writes.proofs.write.Statement.{statement}
 use Rattle.writes.proofs.write.Tie as tie
 
 returns : tie.Need-returns
-returns c = notes _ 1 0 _ (write-refused _ _ _ _ _ (whereIs-words _ _ _ (c .if1 .taken)))
+returns c = leaves-unchanged _ _ _ (write-refused _ _ _ _ _ (whereIs-words _ _ _ (c .if1 .taken)))
 
 sound-requires : tie.Need-sound-requires
 sound-requires c κs = search needs
 
 returns-2 : tie.Need-returns-2
-returns-2 c = notes _ 1 0 _ (write-refused _ _ _ _ _ (whereIs-unsound _ _ _ (sym (c .before .sound .ensures) ∙ not-true _ (c .if2 .taken))))
+returns-2 c = leaves-unchanged _ _ _ (write-refused _ _ _ _ _ (whereIs-unsound _ _ _ (sym (c .before .sound .ensures) ∙ not-true _ (c .if2 .taken))))
 
 note-requires : tie.Need-note-requires
 unfolding soundWith

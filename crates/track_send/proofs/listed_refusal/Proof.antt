@@ -1,4 +1,4 @@
--- `track_send::list_number` is right: it refuses in the order of the table's tests from 7 on. Assumes nothing.
+-- `track_send::listed_refusal` is right: it refuses in the order of the table's tests from 7 on, with the row of the ranges' own. Assumes nothing.
 use mathlib.Core.Path.{_≡_, sym, _∙_}
 use mathlib.Core.Bool.{true}
 use native.Mathlib.Omega.{arith}
@@ -12,8 +12,8 @@ use Rattle.start_data.proofs.Answers.{rangesRead-there}
 use Rattle.record.proofs.RecordLaws.{soundDevice-facts}
 use Rattle.settings.proofs.SettingsLaws.{granularityOk-greatest}
 use Rattle.track_send.proofs.StartedLaws.{listed-granularity, listed-short, listed-many, listed-rules, listed-limit, listed-passed}
-use Rattle.track_send.proofs.list_number.Statement.{statement}
-use Rattle.track_send.proofs.list_number.Tie as tie
+use Rattle.track_send.proofs.listed_refusal.Statement.{statement}
+use Rattle.track_send.proofs.listed_refusal.Tie as tie
 
 -- past the first test the granularity passes
 allowed : (c : tie.Else1) → granularityOk (c .before .before .before .before .args .d .settings) (c .before .before .before .before .args .g) ≡ true
@@ -53,10 +53,10 @@ list-refusal-requires c κs =
     omega (arith, granularityOk-greatest _ _ (allowed (c .before .before .before)), soundDevice-facts _ (c .before .before .before .before .before .before .before .pre .0) .greatest)
 
 returns-4 : tie.Need-returns-4
-returns-4 c = listed-rules _ _ _ _ _ (c .before .before .before .before .before .before .before .before .before .pre .1) (allowed (c .before .before .before .before .before)) (c .before .before .before .before .if2 .left) (c .before .before .before .if3 .left) _ (c .before .list-refusal .ensures ∙ rw (read (c .before .before))) (c .if4 .taken)
+returns-4 c = listed-rules _ _ _ _ _ (c .before .before .before .before .before .before .before .before .before .before .pre .1) (allowed (c .before .before .before .before .before .before)) (c .before .before .before .before .before .if2 .left) (c .before .before .before .before .if3 .left) _ (c .before .before .list-refusal .ensures ∙ rw (read (c .before .before .before))) (c .if4 .taken)
 
 counts-requires : tie.Need-counts-requires
-counts-requires c κs = soundDevice-facts _ (c .before .before .before .before .before .before .before .before .before .pre .0) .count
+counts-requires c κs = soundDevice-facts _ (c .before .before .before .before .before .before .before .before .before .before .pre .0) .count
 
 add-if5 : tie.Need-add-if5
 add-if5 c = search needs
@@ -65,13 +65,13 @@ cast-if5 : tie.Need-cast-if5
 cast-if5 c = search needs
 
 returns-5 : tie.Need-returns-5
-returns-5 c = sym (listed-limit _ _ _ _ _ (c .before .before .before .before .before .before .before .before .before .before .before .before .pre .1) (allowed (c .before .before .before .before .before .before .before .before)) (c .before .before .before .before .before .before .before .if2 .left) (c .before .before .before .before .before .before .if3 .left) (sym (c .before .before .before .if4 .left) ∙ c .before .before .before .before .list-refusal .ensures ∙ rw (read (c .before .before .before .before .before))) (rw (c .before .before .counts .ensures .0) at (c .if5 .taken)))
+returns-5 c = sym (listed-limit _ _ _ _ _ (c .before .before .before .before .before .before .before .before .before .before .before .before .before .pre .1) (allowed (c .before .before .before .before .before .before .before .before .before)) (c .before .before .before .before .before .before .before .before .if2 .left) (c .before .before .before .before .before .before .before .if3 .left) _ (c .before .before .before .before .before .list-refusal .ensures ∙ rw (read (c .before .before .before .before .before .before))) (c .before .before .before .if4 .left) (rw (c .before .before .counts .ensures .0) at (c .if5 .taken)))
 
 returns-6 : tie.Need-returns-6
-returns-6 c = sym (listed-passed _ _ _ _ _ (c .before .before .before .before .before .before .before .before .before .before .before .before .pre .1) (allowed (c .before .before .before .before .before .before .before .before)) (c .before .before .before .before .before .before .before .if2 .left) (c .before .before .before .before .before .before .if3 .left) (sym (c .before .before .before .if4 .left) ∙ c .before .before .before .before .list-refusal .ensures ∙ rw (read (c .before .before .before .before .before))) (rw (c .before .before .counts .ensures .0) at (c .if5 .left)))
+returns-6 c = sym (listed-passed _ _ _ _ _ (c .before .before .before .before .before .before .before .before .before .before .before .before .before .pre .1) (allowed (c .before .before .before .before .before .before .before .before .before)) (c .before .before .before .before .before .before .before .before .if2 .left) (c .before .before .before .before .before .before .before .if3 .left) _ (c .before .before .before .before .before .list-refusal .ensures ∙ rw (read (c .before .before .before .before .before .before))) (c .before .before .before .if4 .left) (rw (c .before .before .counts .ensures .0) at (c .if5 .left)))
 
-pub list-number-spec : {M : Type 1} → statement M
-list-number-spec =
+pub listed-refusal-spec : {M : Type 1} → statement M
+listed-refusal-spec =
     tie.close
     (tie.spec
     granularity-ok-requires
