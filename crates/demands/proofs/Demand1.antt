@@ -1,23 +1,28 @@
 -- Demand 1, proved of the calls, the structure's reader and writer and the report's reader. Assumes nothing.
 use mathlib.Core.Path.{_≡_, refl, sym, ap, _∙_}
 use mathlib.Core.Logic.{_≢_}
-use mathlib.Core.Bool.{true, false, _||_}
-use mathlib.Core.List.{List}
-use Prim.Native.Nat.{ℕ, _<_}
-use lib.Dec.{eqb}
-use lib.ListN.{length}
-use borrow.Author.Tests.{lt-leb}
-use Rattle.rules.specs.Refusals.{refusal, passes}
-use Rattle.rules.specs.Settings.{placeOf}
-use Rattle.rules.specs.StartData.{granularityOf, countOf, headerTests, readTests}
-use Rattle.rules.specs.Order.{startOrder, stopOrder, writeOrder, receiveOrder, suspendOrder, resumeOrder}
+use mathlib.Core.Bool.{false, not, _&&_, _||_}
+use mathlib.Core.List.{List, [], _∷_}
+use Prim.Native.Nat.{ℕ, _+_, _*_, _%_, _≤_, _<_}
+use Rattle.little.specs.Little.{numberAt}
+use lib.Dec.{leb, eqb}
+use lib.ListN.{length, take, getD}
+use borrow.Author.Tests.{le-leb, lt-leb, eq-eqb}
+use Rattle.rules.specs.Refusals.{_else_, refusal}
+use Rattle.rules.specs.Settings.{placeOf, granularityOk}
+use Rattle.rules.specs.StartData.{granularityOf, countOf, headerTests, readTests, startData}
+use Rattle.rules.specs.Order.{Seen, startOrder, stopOrder, writeOrder, receiveOrder, suspendOrder, resumeOrder}
 use Rattle.rules.specs.Machine.{soundState, noReport}
-use Rattle.rules.proofs.RefusalLaws.{verdict-refused, passes-Passed}
+use Rattle.rules.proofs.RefusalLaws.{verdict-refused}
 use Rattle.rules.proofs.NameLaws.{early, names}
+use Rattle.rules.proofs.HeldLaws.{held}
 use Rattle.rules.proofs.Theorems as rules
+use Rattle.rules.specs.ReportReader.{reportTests, reportRefusal}
+use Rattle.rules.specs.declared.Settings.{Settings}
+use Rattle.rules.specs.declared.Header.the-variants.{Is, Refused}
 use Rattle.rules.specs.declared.Device.{Device}
 use Rattle.record.specs.Record.{controllerAt, seenIn}
-use Rattle.start_data.specs.Answer.{Said, saidBy}
+use Rattle.start_data.specs.Answer.{Said}
 use Rattle.start_data.proofs.Answers.{headerOf-says, startData-says, startData-none, startWritten-refused}
 use Rattle.report_reader.proofs.AnswerLaws.{refused-answer, index-zero}
 use Rattle.calls.specs.Calls.{Change, changed, startedWith, startDone, startChange, stopDone, stopChange, flagDone, suspendChange, resumeChange, Note, noted, writeDone, writeNote, Receipt, received, receiveDone, receiveReceipt}
@@ -40,11 +45,34 @@ start-number d ws id x =
     (startOrder (d .settings) (seenIn d (length ws) (placeOf (d .settings) id)) x) (startDone d ws x (placeOf (d .settings) id)) (λ n i. startedWith n i d ws)
     (start-zero d ws x (placeOf (d .settings) id)) (λ n i. refl) (λ n i. (refl, refl))
 
--- a count over 16, to the structure's reader
-many-said : (x : List ℕ) → passes (headerTests x) ≡ true → 16 < countOf x → saidBy (readTests x) x ≡ record { number = 18; place = 4; granularity = 0; count = 0 }
-many-said x e h =
-    let p = passes-Passed (headerTests x) e in
-    rw (p .0, p .1 .0, lt-leb (countOf x) 16 h)
+-- a count over 16, and a smaller one, to the structure's reader
+many-said : (x : List ℕ) → 8 ≤ length x → getD x 0 0 ≡ 0 → 16 < countOf x → startData x .header ≡ Refused 18 4
+unfolding startData
+many-said x l z h = rw (le-leb 8 (length x) l, eq-eqb (getD x 0 0) 0 z, lt-leb (countOf x) 16 h)
+
+whole-said : (x : List ℕ) → 8 ≤ length x → getD x 0 0 ≡ 0 → numberAt x 4 4 ≤ 16 → 8 + 12 * numberAt x 4 4 ≤ length x → startData x .header ≡ Is (getD x 3 0) (numberAt x 4 4)
+unfolding startData
+whole-said x l z h k = rw (le-leb 8 (length x) l, eq-eqb (getD x 0 0) 0 z, le-leb (numberAt x 4 4) 16 h, le-leb (8 + 12 * numberAt x 4 4) (length x) k)
+
+-- More set with no descriptors, to the report's reader (W1)
+none-said : (x : List ℕ) → 16 ≤ length x → getD x 0 0 ≡ 0 → numberAt x 8 2 ≤ 20 → getD x 1 0 % 2 ≡ 1 → numberAt x 4 4 ≡ 0 → reportRefusal x ≡ 9
+unfolding reportTests
+none-said x l v g m n = rw (le-leb 16 (length x) l, eq-eqb (getD x 0 0) 0 v, le-leb (numberAt x 8 2) 20 g, eq-eqb (getD x 1 0 % 2) 1 m, eq-eqb (numberAt x 4 4) 0 n)
+
+-- a start's first eight tests
+eight : (s : Settings) (v : Seen) (x : List ℕ)
+    → take 8 (startOrder s v x)
+    ≡ (v .sound else 1)
+    ∷ (v .known else 2)
+    ∷ (not (v .suspended) else 4)
+    ∷ (not (v .tracked) else 3)
+    ∷ (leb 8 (length x) else 8)
+    ∷ (eqb (getD x 0 0) 0 else 6)
+    ∷ (leb (s .least) (getD x 3 0) && leb (getD x 3 0) (s .greatest) else 7)
+    ∷ (leb (8 + 12 * numberAt x 4 4) (length x) else 8)
+    ∷ []
+unfolding granularityOk
+eight s v x = refl
 
 pub demand-1 : Demand1
 unfolding stopChange writeNote receiveReceipt suspendChange resumeChange
@@ -53,6 +81,7 @@ demand-1 =
       fresh = fresh-answers;
       start = start-number;
       row = row-is;
+      before = eight;
       names = λ d ws id x.
           let v = seenIn d (length ws) (placeOf (d .settings) id) in
           rw (start-number d ws id x .first, row-is d ws id x) (names (d .settings) v x, early (d .settings) v x);
@@ -101,14 +130,17 @@ demand-1 =
                   startData-none x bad,
                 );
           };
-      read-many = λ x e h. startData-says x ∙ many-said x e h;
+      read-many = many-said;
+      read-whole = whole-said;
       write-start = λ buffer g n rs. record { first = refl; refused = startWritten-refused buffer g n rs };
       write-many = λ size n h. rw (lt-leb n 16 h);
+      write-whole = λ size n h k. rw (le-leb n 16 h, le-leb (8 + 12 * n) size k);
       read-report = λ x.
           record {
             first = refl;
             refused = λ h. (refl, sym (refused-answer x _ h), sym (refused-answer x _ h), sym (refused-answer x _ h), sym (refused-answer x _ h), sym (refused-answer x _ h));
           };
+      read-none = none-said;
       read-index = λ x i. record { first = refl; refused = λ h. (sym (index-zero x i _ h), sym (index-zero x i _ h)) };
     }
 
@@ -117,6 +149,7 @@ demand-1 =
 pub soundness : Soundness
 soundness =
     record {
+      held = held;
       kept = λ s ws ks eight e.
           let f = fresh-done s ws e in
           let fits = fits-after ks (begun s ws) (begins s ws eight (f .0) (f .1) .fits) in (

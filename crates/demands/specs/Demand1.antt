@@ -1,24 +1,27 @@
 -- Demand 1, as statements about the calls of `tracker`, the start structure's reader and writer and the report's reader: of any record, any words, any bytes
 -- and any numbers. That each of them returns, whatever it is given, is the checker's own: none has a `requires`.
-use Prim.Native.Nat.{ℕ, _<_}
+use Prim.Native.Nat.{ℕ, _+_, _*_, _%_, _≤_, _<_}
+use lib.Dec.{leb, eqb}
+use Rattle.little.specs.Little.{numberAt}
 use mathlib.Core.Path.{_≡_}
 use mathlib.Core.Logic.{_≢_}
-use mathlib.Core.Bool.{true, false}
-use mathlib.Core.List.{List, []}
-use lib.ListN.{length, take}
-use Rattle.rules.specs.Refusals.{Test, refusal, placeIn, passes}
+use mathlib.Core.Bool.{true, false, not, _&&_}
+use mathlib.Core.List.{List, [], _∷_}
+use lib.ListN.{length, take, getD}
+use Rattle.rules.specs.Refusals.{Test, _else_, refusal, placeIn, passes}
 use Rattle.rules.specs.Settings.{markWords, placeOf}
 use Rattle.rules.specs.Units.{Write}
-use Rattle.rules.specs.StartData.{granularityOf, countOf, rangesOf, placed, headerTests, headerOf, readTests, startData, writeTests, startWritten}
+use Rattle.rules.specs.StartData.{granularityOf, rangesOf, placed, headerTests, headerOf, readTests, startData, writeTests, startWritten}
 use Rattle.rules.specs.ReportReader.{reportTests, indexTests, reportRefusal, reportBadIndex, reportSuspended, reportMore, reportIdentifier, reportGranularity, reportCount, reportRefusalAt, reportAddress, reportLength}
-use Rattle.rules.specs.Order.{freshOrder, startOrder, stopOrder, writeOrder, receiveOrder, suspendOrder, resumeOrder}
+use Rattle.rules.specs.Order.{Seen, freshOrder, startOrder, stopOrder, writeOrder, receiveOrder, suspendOrder, resumeOrder}
 use Rattle.rules.specs.Device.{closedDevice, soundDevice}
 use Rattle.rules.specs.Machine.{refused, Call, lent}
-use Rattle.rules.specs.Demands.{Rowless, Names}
+use Rattle.rules.specs.Demands.{Rowless, Names, Held}
 use Rattle.rules.specs.declared.Range.{Range}
 use Rattle.rules.specs.declared.Settings.{Settings}
+use Rattle.rules.specs.declared.Header.the-variants.{Is, Refused}
 use Rattle.rules.specs.declared.Device.{Device}
-use Rattle.record.specs.Record.{seenIn}
+use Rattle.record.specs.Record.{countsOf, seenIn}
 use Rattle.start_data.specs.Answer.{headerSays}
 use Rattle.calls.specs.Calls.{freshChange, startChange, stopChange, suspendChange, resumeChange, writeNote, receiveReceipt}
 use Rattle.demands.specs.Sessions.{outcome, endOf}
@@ -46,7 +49,19 @@ pub record Demand1 : Type 0 where
   pub names : (d : Device) (ws : List ℕ) (id : ℕ) (x : List ℕ)
       → let a = startChange d ws id x .answer in
       let first = passes (take 8 (startOrder (d .settings) (seenIn d (length ws) (placeOf (d .settings) id)) x)) in
-      (first ≡ true → Names (granularityOf x) (rangesOf x) (a .number) (a .row)) × (first ≡ false → Rowless (a .number) (a .row))
+      (first ≡ true → Names (d .settings) (countsOf d) (granularityOf x) (rangesOf x) (a .number) (a .row)) × (first ≡ false → Rowless (a .number) (a .row))
+  -- those eight, in the order of document 01
+  pub before : (s : Settings) (v : Seen) (x : List ℕ)
+      → take 8 (startOrder s v x)
+      ≡ (v .sound else 1)
+      ∷ (v .known else 2)
+      ∷ (not (v .suspended) else 4)
+      ∷ (not (v .tracked) else 3)
+      ∷ (leb 8 (length x) else 8)
+      ∷ (eqb (getD x 0 0) 0 else 6)
+      ∷ (leb (s .least) (getD x 3 0) && leb (getD x 3 0) (s .greatest) else 7)
+      ∷ (leb (8 + 12 * numberAt x 4 4) (length x) else 8)
+      ∷ []
   pub stop : (d : Device) (ws : List ℕ) (id : ℕ)
       → let c = stopChange d ws id in
       Answers (c .answer .number) (stopOrder (seenIn d (length ws) (placeOf (d .settings) id))) ((c .answer .device ≡ d) × (c .marks ≡ ws))
@@ -70,21 +85,27 @@ pub record Demand1 : Type 0 where
   pub read-start : (x : List ℕ)
       → let h = headerSays (startData x .header) in
       Answers (h .number) (readTests x) ((h .place ≡ placeIn (readTests x)) × (h .granularity ≡ 0) × (h .count ≡ 0) × (startData x .ranges ≡ placed []))
-  -- W3: a count over 16 is 18 at the count's place, byte 4
-  pub read-many : (x : List ℕ) → passes (headerTests x) ≡ true → 16 < countOf x
-      → headerSays (startData x .header) ≡ record { number = 18; place = 4; granularity = 0; count = 0 }
+  -- W3: a count over 16 is 18 at the count's place, byte 4; a smaller one, 0 too, is read where its ranges are there
+  pub read-many : (x : List ℕ) → 8 ≤ length x → getD x 0 0 ≡ 0 → 16 < numberAt x 4 4 → startData x .header ≡ Refused 18 4
+  pub read-whole : (x : List ℕ) → 8 ≤ length x → getD x 0 0 ≡ 0 → numberAt x 4 4 ≤ 16 → 8 + 12 * numberAt x 4 4 ≤ length x
+      → startData x .header ≡ Is (getD x 3 0) (numberAt x 4 4)
   -- its writer leaves every byte
   pub write-start : (buffer : List ℕ) (g n : ℕ) (rs : List Range)
       → Answers (refusal (writeTests (length buffer) n)) (writeTests (length buffer) n) (startWritten buffer g n rs ≡ buffer)
   pub write-many : (size n : ℕ) → 16 < n → refusal (writeTests size n) ≡ 18
+  pub write-whole : (size n : ℕ) → n ≤ 16 → 8 + 12 * n ≤ size → refusal (writeTests size n) ≡ 0
   -- W1: of a refused report, and of a refused index, every other answer is 0
   pub read-report : (x : List ℕ)
       → Answers (reportRefusal x) (reportTests x)
       ((reportBadIndex x ≡ placeIn (reportTests x)) × (reportSuspended x ≡ 0) × (reportMore x ≡ 0) × (reportIdentifier x ≡ 0) × (reportGranularity x ≡ 0) × (reportCount x ≡ 0))
+  -- W3: "W1's use of 9 is unchanged"
+  pub read-none : (x : List ℕ) → 16 ≤ length x → getD x 0 0 ≡ 0 → numberAt x 8 2 ≤ 20 → getD x 1 0 % 2 ≡ 1 → numberAt x 4 4 ≡ 0 → reportRefusal x ≡ 9
   pub read-index : (x : List ℕ) (i : ℕ) → Answers (reportRefusalAt x i) (indexTests x i) ((reportAddress x i ≡ 0) × (reportLength x i ≡ 0))
 
 -- "From a fresh device no sequence of calls leads to an unsound record, save the closed device of a refused fresh", which answers 1 to every call
 pub record Soundness : Type 0 where
+  -- of a tracked controller it asks what a start asks: 7, 18 to 21, 10 and 11
+  pub held : Held
   pub kept : (s : Settings) (ws : List ℕ) (ks : List Call) → length (s .identifiers) ≡ 8 → freshChange s ws .answer .number ≡ 0
       → (soundDevice (endOf s ws ks .device) ≡ true) × (length (endOf s ws ks .marks) ≡ markWords)
   pub closed : (s : Settings) (ws : List ℕ) (ks : List Call) (k : Call) → freshChange s ws .answer .number ≢ 0

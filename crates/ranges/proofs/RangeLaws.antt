@@ -1,7 +1,7 @@
 -- Laws of the range rules (18 to 21, 10 and 11) as the code asks them: one range, the rows, the whole table; and what ranges that
 -- pass are known by (`HeldFacts`). All of it is the library's interface. Assumes nothing.
 use Prim.Native.Nat.{ℕ, suc, _+_, _-_, _%_, _^_, _<_, _≤_, min}
-use mathlib.Core.Path.{_≡_, refl, sym, ap, _∙_}
+use mathlib.Core.Path.{_≡_, sym, ap, _∙_}
 use mathlib.Core.Logic.{_≢_}
 use mathlib.Core.Bool.{true, false}
 use mathlib.Core.List.{List, [], _∷_, _++_, map}
@@ -20,8 +20,8 @@ use Rattle.rules.specs.declared.Range.{Range}
 use Rattle.rules.specs.declared.Refusal.{Refusal}
 use Rattle.rules.specs.declared.Settings.{Settings}
 use Rattle.rules.proofs.ListLaws.{All, All-append, front-at, front-end}
-use Rattle.rules.proofs.RefusalLaws.{Passed, Passed-left, Passed-right, refusal-none, refusalAt-is, verdict-first, verdict-rest, passes-all, passes-append}
-use Rattle.rules.proofs.RowLaws.{row-answers}
+use Rattle.rules.proofs.RefusalLaws.{Passed, Passed-left, Passed-right, refusal-none, refusalAt-is, verdict-first, verdict-rest, passes-all}
+use Rattle.rules.proofs.RowLaws.{row-answers, rowsTests-passes}
 use Rattle.rules.proofs.UnitLaws.{unitsFrom-length}
 use Rattle.measures.proofs.MeasureLaws.{bytesOf-pos}
 use Rattle.settings.proofs.SettingsLaws.{granularityOk-greatest}
@@ -84,11 +84,6 @@ module _ (g : ℕ) (rs : List Range) (n i : ℕ) (inside : i < n) (there : i < l
 
 pub rows-end : (g : ℕ) (rs : List Range) (n i : ℕ) → min n (length rs) ≤ i → refusalAt (rowsTests g i (drop i (take n rs))) ≡ record { number = 0; row = 0 }
 rows-end g rs n i h = rw (front-end rs n i h)
-
--- a row's tests are passed or not wherever it is listed
-pub rowsTests-passes : (g row : ℕ) (rs : List Range) → passes (rowsTests g row rs) ≡ rowsOk g rs
-rowsTests-passes g row [] = refl
-rowsTests-passes g row (r ∷ rs) = passes-append (rowTests g row r) (rowsTests g (suc row) rs) ∙ rw (rowsTests-passes g (suc row) rs)
 
 -- no test has the number 0
 rowsTests-numbers : (g row : ℕ) (rs : List Range) → All (λ (t : Test). 1 ≤ t .number) (rowsTests g row rs)

@@ -12,6 +12,7 @@ pub mod Sessions
 pub mod Isolation
 pub mod StartLaws
 pub mod NameLaws
+pub mod HeldLaws
 pub mod ReportLaws
 pub mod ListedLaws
 pub mod Theorems

@@ -73,7 +73,8 @@ module _ (s : Settings) (v : Seen) (x : List ℕ) where
     bad-count (inl h) = let l : n < 1 = omega (arith, size) in (no-count 0 (λ k i. k) l, no-count 0 (λ k i. i) l)
     bad-count (inr h) = let l : 16 < n = omega (arith, size) in (over-count 0 (λ k i. k) l, over-count 0 (λ k i. i) l)
 
-    pub names : Names g rs (refusal tests) (placeIn tests)
+    pub names : Names s (v .counts) g rs (refusal tests) (placeIn tests)
+    unfolding unitsOk
     names =
         record {
           count = bad-count;
@@ -83,6 +84,10 @@ module _ (s : Settings) (v : Seen) (x : List ℕ) where
                 past-count 0 (λ k i. k) some most ∙ rows-broken (λ k i. k) 0 others g 0 rs i k h good broken,
                 past-count 0 (λ k i. i) some most ∙ rows-broken (λ k i. i) 0 others g 0 rs i k h good broken ∙ omega arith,
               );
+          behind = λ some few good.
+              let h : 1 ≤ n = omega (arith, size) in
+              let k : n ≤ 16 = omega (arith, size) in
+              past-count 0 (λ k i. k) h k ∙ rows-good (λ k i. k) 0 others g 0 rs good ∙ rw size;
           none = λ some few good.
               let h : 1 ≤ n = omega (arith, size) in
               let k : n ≤ 16 = omega (arith, size) in

@@ -9,7 +9,7 @@ use lib.ListN.{length, take, getD}
 use lib.Seq.{take-take}
 use borrow.Author.Tests.{leb-true, le-leb, lt-leb, eqb-true, eq-eqb, ne-eqb}
 use Rattle.rules.specs.Lists.{all}
-use Rattle.rules.specs.Refusals.{Test, verdict, refusal}
+use Rattle.rules.specs.Refusals.{Test, verdict, refusal, passes}
 use Rattle.rules.specs.Settings.{unitSize}
 use Rattle.rules.specs.Units.{endOf}
 use Rattle.rules.specs.Ranges.{rowTests, rowOk, rowsOk, rowsTests}
@@ -18,7 +18,7 @@ use Rattle.rules.specs.Demands.{Good, Breaks, empty, unaligned, past}
 use Rattle.rules.specs.declared.Range.{Range}
 use Rattle.rules.proofs.ListLaws.{and-left, and-right, and-intro, all-at}
 use Rattle.rules.proofs.LoopLaws.{all-front}
-use Rattle.rules.proofs.RefusalLaws.{passes-Passed}
+use Rattle.rules.proofs.RefusalLaws.{passes-Passed, passes-append}
 
 pub rowOk-facts : (g : ℕ) (r : Range) → rowOk g r ≡ true → Good g r
 rowOk-facts g r e =
@@ -46,6 +46,11 @@ pub rowsOk-fewer : (g : ℕ) (rs : List Range) (n m : ℕ) → rowsOk g (take n 
 rowsOk-fewer g rs n m e h = ap (rowsOk g) (sym (take-take m n rs h)) ∙ all-take (rowOk g) (take n rs) m e
 
 -- ---- which row and which rule
+
+-- a row's tests are passed or not wherever it is listed
+pub rowsTests-passes : (g row : ℕ) (rs : List Range) → passes (rowsTests g row rs) ≡ rowsOk g rs
+rowsTests-passes g row [] = refl
+rowsTests-passes g row (r ∷ rs) = passes-append (rowTests g row r) (rowsTests g (suc row) rs) ∙ rw (rowsTests-passes g (suc row) rs)
 
 -- a row's tests before others: its own number and row, or the others answer
 pub row-answers : {A : Type 0} (g row : ℕ) (r : Range) (us : List Test) (done : A) (refuse : ℕ → ℕ → A)

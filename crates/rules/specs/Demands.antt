@@ -6,16 +6,18 @@ use mathlib.Core.Logic.{_≢_, _↔_, _⊎_}
 use mathlib.Core.Bool.{Bool, true, false, _&&_, not}
 use mathlib.Core.List.{List, [], _∷_, map}
 use mathlib.Core.Option.{none, some}
+use lib.Dec.{leb}
 use lib.ListN.{length, take, drop, getD, getElem?}
 use Rattle.rules.specs.Lists.{all, any, join, member}
-use Rattle.rules.specs.Refusals.{refusal}
+use Rattle.rules.specs.Refusals.{_else_, refusal}
 use Rattle.rules.specs.Settings.{unitSize, bytesOf}
 use Rattle.rules.specs.Units.{Unit, Write, units, touches, mark, newly, pending}
-use Rattle.rules.specs.Ranges.{rowsOk}
+use Rattle.rules.specs.Ranges.{rowsOk, powersOk}
 use Rattle.rules.specs.StartData.{noRange, startSize, startBytes, startData, startWritten, placed}
 use Rattle.rules.specs.Report.{follows, runs, Descriptor, descriptor, Report, room, reportOn, marksLeft}
 use Rattle.rules.specs.ReportReader.{reportSize, bit, reportRefusal, reportSuspended, reportMore, reportIdentifier, reportGranularity, reportCount, reportRefusalAt, reportAddress, reportLength}
 use Rattle.rules.specs.Order.{Op, start, stop, write, receive, suspend, resume, freshOrder}
+use Rattle.rules.specs.Device.{heldOk}
 use Rattle.rules.specs.Machine.{refused, slot, on, pendingIn, State, fresh, soundState, slotOf, Call, step, after, events, lent, stored, numberOf, newlyOf, noReport, reportOf}
 use Rattle.rules.specs.History.{Did, only, historyOf, PendingBy, lists, slotBy}
 use Rattle.rules.specs.declared.Range.{Range}
@@ -56,13 +58,27 @@ pub data Breaks (g : ℕ) (r : Range) : ℕ → Type 0 where
 abbrev pub Rowless : ℕ → ℕ → Type 0
 Rowless number row = ((number < 18) ⊎ (21 < number)) × (row ≡ 0)
 
--- number and row of a start on ranges rs that breaks nothing before their rules
-pub record Names (g : ℕ) (rs : List Range) (number row : ℕ) : Type 0 where
+-- number and row of a start on ranges rs that breaks nothing before their rules, with so many counts tracked now
+pub record Names (s : Settings) (counts g : ℕ) (rs : List Range) (number row : ℕ) : Type 0 where
   pub count : (length rs ≡ 0) ⊎ (16 < length rs) → (number ≡ 18) × (row ≡ 0)
   -- the earliest row that breaks a rule: those before it are good
   pub rule : (i k : ℕ) → length rs ≤ 16 → i < length rs → ((j : ℕ) → j < i → Good g (getD rs j noRange)) → Breaks g (getD rs i noRange) k
       → (number ≡ k) × (row ≡ i)
   pub none : 1 ≤ length rs → length rs ≤ 16 → ((j : ℕ) → j < length rs → Good g (getD rs j noRange)) → Rowless number row
+  -- behind the rows 10, 11 and 12 answer, and nothing else
+  pub behind : 1 ≤ length rs → length rs ≤ 16 → ((j : ℕ) → j < length rs → Good g (getD rs j noRange))
+      → number ≡ refusal ((powersOk s rs else 10) ∷ (leb (length (units g rs)) 4096 else 11) ∷ (leb (length rs + counts) (s .limit) else 12) ∷ [])
+
+-- what soundness asks of a tracked controller is what a start asks: 7, 18 to 21, 10 and 11
+pub record Lawful (s : Settings) (g n : ℕ) (rs : List Range) : Type 0 where
+  pub granularity : (s .least ≤ g) × (g ≤ s .greatest)
+  pub count : (1 ≤ n) × (n ≤ 16)
+  pub rows : (j : ℕ) → j < length rs → Good g (getD rs j noRange)
+  pub powers : powersOk s rs ≡ true
+  pub units : length (units g rs) ≤ 4096
+
+abbrev pub Held : Type 0
+Held = (s : Settings) (g n : ℕ) (rs : List Range) → (heldOk s (some (record { granularity = g; count = n; ranges = rs })) ≡ true) ↔ Lawful s g n rs
 
 -- "From a fresh device no sequence of calls leads to an unsound record, save the closed device of a refused fresh", which answers 1 to every call
 pub record Soundness : Type 0 where
