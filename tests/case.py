@@ -46,6 +46,11 @@ def read_cases(path):
     return cases
 
 
+def of_shelf_too(cases):
+    """Those whose answers are the same in a shelf listing: a word that it has is `bad` in a session listing."""
+    return [case for case in cases if ": session only" not in case.name]
+
+
 def unescaped(text):
     """\\x20, \\t, \\r and \\0 as the bytes that they stand for."""
     return text.encode("latin-1").decode("unicode_escape").encode("latin-1")

@@ -1,17 +1,27 @@
 """Plays cases through both programs, compares every byte, and shortens a listing that shows a difference."""
 
+import math
 from itertools import zip_longest
 from typing import NamedTuple
 
 from case import Case, answers_by_line, begins_anew, input_of
 from programs import run
 
+TRIES_A_LINE = 200  # at shortening one line: of a batch each record might be tried
+
+
+class Side(NamedTuple):
+    """What one side of a comparison gave."""
+    who: str
+    answers: list  # of lines
+    ending: str
+
 
 class Found(NamedTuple):
     """A difference: a listing that shows it, what each side answered, and what is known about it."""
     title: str
     case: Case
-    sides: list    # of (who, answer lines, ending)
+    sides: list
 
 
 def play(cases, programs):
@@ -24,27 +34,44 @@ def play(cases, programs):
 
 
 def play_together(cases, programs):
-    text = b"".join(input_of(case) for case in cases)
-    results = [(program, run(program, text)) for program in programs]
-    for program, result in results:
-        yield from against_hand(cases, program, result)
-    first, second = (result for _, result in results)
-    if first != second:
-        yield shortened_difference(cases, programs, first, second)
+    def sides_of(case):
+        return [side(program.name, program, case) for program in programs]
+
+    sides = sides_of(joined(cases))
+    for one in sides:
+        yield from against_hand(cases, one)
+    if differ(sides):
+        yield shortened_difference("first and second program", cases, sides, sides_of)
 
 
-def against_hand(cases, program, result):
-    """The first case whose answers by hand this program did not give."""
+def joined(cases):
+    """All these cases as one listing."""
+    lines = [line for case in cases for line in case.lines]
+    return Case("", lines, None, cases[-1].ended)
+
+
+def side(who, program, case):
+    result = run(program, input_of(case))
+    return Side(who, lines_of(result.output), result.ending)
+
+
+def differ(sides):
+    one, other = sides
+    return (one.answers, one.ending) != (other.answers, other.ending)
+
+
+def against_hand(cases, given):
+    """The first case whose answers by hand this side did not give."""
     if any(case.answers is None for case in cases):
         return
     by_hand = [answer for case in cases for answer in case.answers]
-    place = first_difference(lines_of(result.output), by_hand)
-    if place is None and result.ending == "ended":
+    place = first_difference(given.answers, by_hand)
+    if place is None and given.ending == "ended":
         return
     case, start = case_at(cases, by_hand, place if place is not None else len(by_hand))
-    given = lines_of(result.output)[start:]
-    yield Found(f"{program.name} program, against the answers by hand: {case.name}", case,
-                [(program.name, first_answers(given, len(case.lines)), result.ending), ("by hand", case.answers, "ended")])
+    answers = first_answers(given.answers[start:], len(case.lines))
+    yield Found(f"{given.who} program, against the answers by hand: {case.name}", case,
+                [Side(given.who, answers, given.ending), Side("by hand", case.answers, "ended")])
 
 
 def lines_of(output):
@@ -80,59 +107,67 @@ def first_answers(answers, count):
 
 # ---- Shortening
 
-def shortened_difference(cases, programs, first, second):
-    """The difference, on a listing from which no line can be deleted."""
-    place = first_difference(lines_of(first.output), lines_of(second.output))
-    case, _ = case_at(cases, lines_of(second.output), place if place is not None else len(lines_of(second.output)))
-    lines, ended = shortest_start(cases, case, programs)
+def shortened_difference(what, cases, sides, sides_of):
+    """The difference of two sides, on a listing from which no line can be deleted. `sides_of` plays a case."""
+    one, other = (given.answers for given in sides)
+    place = first_difference(one, other)
+    case, _ = case_at(cases, other, place if place is not None else len(other))
+
+    def shows(lines, ended):
+        return differ(sides_of(Case(case.name, lines, None, ended)))
+
+    lines, ended = shortest_start(cases, case, shows)
     before = len(lines)
-    lines = without_words(without_lines(lines, ended, programs), ended, programs)
+    lines = fewest(lines, lambda fewer: shows(fewer, ended))
+    lines = without_words(lines, lambda changed: shows(changed, ended))
     shorter = Case(case.name, lines, None, ended)
-    title = f"first and second program: {case.name}, shortened from {before} lines to {len(lines)}"
-    runs = [(program.name, run(program, input_of(shorter))) for program in programs]
-    return Found(title, shorter, [(name, lines_of(result.output), result.ending) for name, result in runs])
+    title = f"{what}: {case.name}, shortened from {before} lines to {len(lines)}"
+    return Found(title, shorter, sides_of(shorter))
 
 
-def shortest_start(cases, case, programs):
+def shortest_start(cases, case, shows):
     """The case alone if it shows the difference; else all lines up to its end; else all lines there are."""
     up_to = [line for other in cases[:cases.index(case) + 1] for line in other.lines]
     for lines in (case.lines, up_to):
-        if differs(lines, case.ended, programs):
+        if shows(lines, case.ended):
             return lines, case.ended
     return [line for other in cases for line in other.lines], cases[-1].ended
 
 
-def differs(lines, ended, programs):
-    text = input_of(Case("", lines, None, ended))
-    first, second = (run(program, text) for program in programs)
-    return first != second
-
-
-def without_lines(lines, ended, programs):
-    """Deletes lines, first many at a time and at last one by one, while the difference stays."""
-    size = max(1, len(lines) // 2)
+def fewest(items, shows, tries=math.inf):
+    """Deletes items, first many at a time and at last one by one, while the difference stays."""
+    size = max(1, len(items) // 2)
     while True:
         at = 0
-        while at < len(lines):
-            fewer = lines[:at] + lines[at + size:]
-            if differs(fewer, ended, programs):
-                lines = fewer
+        while at < len(items):
+            if tries == 0:
+                return items
+            tries -= 1
+            fewer = items[:at] + items[at + size:]
+            if shows(fewer):
+                items = fewer
             else:
                 at += size
         if size == 1:
-            return lines
+            return items
         size = max(1, size // 2)
 
 
-def without_words(lines, ended, programs):
-    """Deletes pairs of words, as a start's ranges, while the difference stays."""
+def without_words(lines, shows):
+    """Deletes a start's ranges, a batch's records, and pairs of words of any other line, while the difference stays."""
     for at, line in enumerate(lines):
-        words = line.split(b" ")
-        place = len(words) - 2
-        while place >= 1 and len(words) < 100:
-            fewer = words[:place] + words[place + 2:]
-            changed = lines[:at] + [b" ".join(fewer)] + lines[at + 1:]
-            if differs(changed, ended, programs):
-                lines, words = changed, fewer
-            place -= 2
+        head, parts = parted(line)
+
+        def with_parts(fewer):
+            return lines[:at] + [b" ".join([head, *fewer])] + lines[at + 1:]
+
+        lines = with_parts(fewest(parts, lambda fewer: shows(with_parts(fewer)), TRIES_A_LINE))
     return lines
+
+
+def parted(line):
+    """The beginning of a line, at least its word, and the parts of two or three words that follow."""
+    words = line.split(b" ")
+    size = 3 if words[0] == b"batch" else 2
+    first = 1 + (len(words) - 1) % size
+    return b" ".join(words[:first]), [b" ".join(words[at:at + size]) for at in range(first, len(words), size)]

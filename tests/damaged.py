@@ -12,7 +12,7 @@ LONG = [*range(1022, 1034), 2046, 2047, 2048, 2055, 2056, 4095, 4096, 4097, 4104
 
 
 def cases():
-    return [*every_byte(), *long_lines(), *ends_of_input()]
+    return [*every_byte(), *long_lines(LONG), *ends_of_input()]
 
 
 def every_byte():
@@ -37,9 +37,9 @@ def stop_answer(word):
     return b"5" if word in (b"5", b"6") else b"2"
 
 
-def long_lines():
+def long_lines(lengths):
     """A line too long is one `bad`, whatever its length, and the next line is read from its beginning."""
-    for length in LONG:
+    for length in lengths:
         lines = [filled(kind, length) for kind in range(len(FILLED))]
         listing, answers = [DEV], [b"0"]
         for line in lines:
@@ -86,6 +86,13 @@ def ends_of_input():
     yield Case("lines that end in a carriage return", [DEV + b"\r", b"stop 5\r"], said("bad", "bad"))
     for length in LONG:
         yield Case(f"a last line of {length} bytes without a line feed", [DEV, b"z" * length], said("0", "bad"), ended=False)
+
+
+def broken_line_case():
+    """Good, damaged and long lines, the last without its line feed: short enough to be fed byte by byte."""
+    lines = [DEV, b"", b"stop 5", b"stop  5", b"x" * 1024, b"stop 5", b"start 5 0 65536 4 65537 1",
+             b"start 5 0 65536 4", b"y" * 1023 + b"susp 5 1", b"write 5 65536 16384", b"recv 5 32"]
+    return Case("good, damaged and long lines", lines, None, ended=False)
 
 
 # ---- Damage for seeded sessions. Most results are bad, some are good lines with another meaning; both programs answer.

@@ -1,12 +1,10 @@
 """What tests/records and tests/reports share: cases and answers of fixed sizes, played through two programs."""
 
-import argparse
 import itertools
-import shlex
 import sys
-from pathlib import Path
 
-from programs import ROOT, Hang, Program, Trouble, built_second, command_of, run
+import programs
+from programs import ROOT, Hang, Trouble, run
 
 CASES_A_RUN = 500
 
@@ -22,35 +20,23 @@ class Difference(Exception):
 # ---- The programs
 
 def arguments(title, about, first, random_cases, long_cases):
-    parser = argparse.ArgumentParser(prog=f"tests/{title}", description=about)
-    parser.add_argument("--long", action="store_true", help=f"{long_cases:,} random cases in place of {random_cases:,}")
-    parser.add_argument("--seed", type=int, default=1, metavar="N", help="of the random cases (1)")
-    parser.add_argument("--first", type=shlex.split, metavar="PROGRAM", help=f"in place of {first}",
-                        default=[ROOT / first])
-    parser.add_argument("--second", type=shlex.split, metavar="PROGRAM", help=f"in place of `second --{title}`")
-    chosen = parser.parse_args()
+    long = f"{long_cases:,} random cases in place of {random_cases:,}"
+    chosen = programs.arguments(title, about, first, f"second --{title}", long)
     chosen.random_cases = long_cases if chosen.long else random_cases
     return chosen
 
 
 def both_programs(title, chosen):
-    return [program("first", chosen.first), program("second", chosen.second or [built_second(), f"--{title}"])]
-
-
-def program(name, command):
-    path, *words = command
-    if not Path(path).is_file():
-        raise Trouble(f"there is no {path}")
-    return Program(name, command_of(Path(path)) + words)
+    return programs.both_programs(chosen, f"--{title}")
 
 
 # ---- Playing
 
-def played(cases, programs, answer_bytes):
+def played(cases, both, answer_bytes):
     """Each case with the answer of each program. Some hundred cases go through one run."""
     cases = iter(cases)
     while batch := list(itertools.islice(cases, CASES_A_RUN)):
-        yield from zip(batch, *[answers(one, batch, answer_bytes) for one in programs])
+        yield from zip(batch, *[answers(one, batch, answer_bytes) for one in both])
 
 
 def answers(program, cases, answer_bytes):

@@ -1,8 +1,10 @@
 """The two programs: where they are, how the second is built, how both are run."""
 
+import argparse
 import os
 import platform
 import select
+import shlex
 import shutil
 import subprocess
 import time
@@ -32,18 +34,29 @@ class Run(NamedTuple):
     ending: str    # "ended", or with which status
 
 
-def first_program(path):
-    path = Path(path or ROOT / "target/bin/session")
-    if not path.is_file():
-        raise Trouble(f"there is no {path}; `rt check session` makes it")
-    return Program("first", command_of(path))
+def arguments(title, about, first, second, long):
+    """The options of a test. `first` and `second` name the programs that it plays through unless others are given."""
+    parser = argparse.ArgumentParser(prog=f"tests/{title}", description=about)
+    parser.add_argument("--long", action="store_true", help=long)
+    parser.add_argument("--seed", type=int, default=1, metavar="N", help="the first seed (1)")
+    parser.add_argument("--first", type=shlex.split, metavar="PROGRAM", default=[ROOT / first], help=f"in place of {first}")
+    parser.add_argument("--second", type=shlex.split, metavar="PROGRAM", help=f"in place of `{second}`")
+    return parser.parse_args()
 
 
-def second_program(path):
-    path = Path(path) if path else built_second()
+def both_programs(chosen, *words):
+    """The chosen ones. The second one is else built from second/, and these words tell it what it is to play."""
+    return [program("first", chosen.first), program("second", chosen.second or [built_second(), *words])]
+
+
+def program(name, command):
+    """A program with its arguments: a path, and words."""
+    path, *words = command
+    path = Path(path)
     if not path.is_file():
-        raise Trouble(f"there is no {path}")
-    return Program("second", command_of(path))
+        made = f"; `rt check {path.name}` makes it" if path.parent == ROOT / "target/bin" else ""
+        raise Trouble(f"there is no {path}{made}")
+    return Program(name, command_of(path) + words)
 
 
 def built_second():
@@ -147,7 +160,7 @@ def run_in_talk(program, lines, answers):
         if got != expected:
             process.kill()
             process.communicate()
-            return f"after the line {line!r}, with no more input, came {got!r} in place of {expected!r}"
+            return f"after the line {line[:120]!r} ({len(line)} bytes), with no more input, came {got!r} in place of {expected!r}"
     result = finished(program, process, b"", b"\n".join(lines))
     return None if result == Run(b"", "ended") else f"after the last answer came {result.output!r}, and it {result.ending}"
 

@@ -19,17 +19,22 @@ def cases(seed, count):
 
 
 def session(seed, number):
-    dice = random.Random(f"{seed}/{number}")
-    maker = Maker(dice)
-    lines = [maker.dev()]
+    return lines_of(Maker(random.Random(f"{seed}/{number}")))
+
+
+def lines_of(maker):
+    """A session's lines, some of them damaged."""
+    dice, lines = maker.dice, [maker.dev()]
     length = dice.choice([6, 12, 20, 30, 45])
     while len(lines) < length:
         for line in maker.next_lines():
-            lines.append(damage(dice, line) if dice.random() < maker.damaged else line)
+            lines.append(maker.damage(dice, line) if dice.random() < maker.damaged else line)
     return lines
 
 
 class Maker:
+    damage = staticmethod(damage)
+
     def __init__(self, dice):
         self.dice = dice
         self.tracked = {}       # guess: identifier -> (granularity, ranges)
@@ -74,7 +79,13 @@ class Maker:
     # ---- lines
 
     def next_lines(self):
-        kinds = [(self.write, 20), (self.burst, 14), (self.recv, 3), (self.drain, 1), (self.start, 4), (self.stop, 3),
+        kinds = self.kinds()
+        made = self.dice.choices([kind for kind, _ in kinds], [weight for _, weight in kinds])[0]()
+        return made if isinstance(made, list) else [made]
+
+    def kinds(self):
+        """What may come next, and how often."""
+        kinds = [(self.write, 20), (self.writes, 14), (self.recv, 3), (self.drain, 1), (self.start, 4), (self.stop, 3),
                  (self.susp, 4), (self.resume, 3), (self.refused_dev, 1), (self.dev, 1)]
         if not self.tracked:
             kinds = [(self.start, 70), (self.write, 3), (self.recv, 2), (self.susp, 2), (self.resume, 2), (self.dev, 3)]
@@ -84,8 +95,7 @@ class Maker:
             kinds += [(self.recv, 24), (self.drain, 6)]
         if self.suspended:
             kinds.append((self.resume, 12))
-        made = self.dice.choices([kind for kind, _ in kinds], [weight for _, weight in kinds])[0]()
-        return made if isinstance(made, list) else [made]
+        return kinds
 
     def words(self, *words):
         return " ".join(map(str, words)).encode()
@@ -227,25 +237,41 @@ class Maker:
     # ---- write
 
     def write(self):
-        identifier = self.identifier(set(self.tracked) - self.suspended)
+        identifier = self.writer()
+        return self.words("write", identifier, *self.aimed(identifier))
+
+    def writes(self):
+        """Writes of a byte, each into another unit of one controller: many runs."""
+        identifier = self.writer()
+        return [self.words("write", identifier, *one) for one in self.scattered(identifier)]
+
+    def writer(self):
+        """A controller whose notes will be done, mostly."""
+        return self.identifier(set(self.tracked) - self.suspended)
+
+    def tracked_by(self, identifier):
+        """What it tracks, as far as the maker can tell: a unit's bytes, and ranges."""
         granularity, ranges = self.tracked.get(identifier, (self.least, [(65536, 4)]))
-        unit = 2 ** (12 + granularity)
+        return 2 ** (12 + granularity), ranges
+
+    def aimed(self, identifier):
+        """A written range, an address and bytes, at the edges of this controller's ranges and units."""
+        unit, ranges = self.tracked_by(identifier)
         start, length = self.dice.choice(ranges)
         number = self.unit_of(length)
         address = start + unit * number + self.dice.choice([0, 0, 0, 1, -1, unit - 1, unit // 2, self.dice.randrange(unit)])
         address = max(0, min(address, END - 1))
         self.written.add(identifier)
-        return self.words("write", identifier, address, self.bytes(unit, length - number, address))
+        return address, self.bytes(unit, length - number, address)
 
-    def burst(self):
-        """Writes of a byte, each into another unit of one controller: many runs."""
-        identifier = self.identifier(set(self.tracked) - self.suspended)
-        granularity, ranges = self.tracked.get(identifier, (self.least, [(65536, 4)]))
-        unit, step = 2 ** (12 + granularity), self.dice.choice([1, 2, 2, 3, 16])
+    def scattered(self, identifier):
+        """Written ranges of a byte, a sector or a unit, each in another unit."""
+        unit, ranges = self.tracked_by(identifier)
+        step = self.dice.choice([1, 2, 2, 3, 16])
         addresses = sorted({start + unit * number for start, length in ranges for number in range(0, length, step)})
         self.written.add(identifier)
         chosen = self.dice.sample(addresses, min(len(addresses), self.dice.choice([2, 3, 5, 8, 12])))
-        return [self.words("write", identifier, address, self.dice.choice([1, 1, 1, 512, unit])) for address in chosen]
+        return [(address, self.dice.choice([1, 1, 1, 512, unit])) for address in chosen]
 
     def drain(self):
         """A suspended controller's reports, until More To Report may be clear."""

@@ -24,6 +24,15 @@ struct Run {
     length: u128,
 }
 
+/// What a done batch answers (W4): "the number done, the total newly pending and the refusal, if any", which is that of
+/// the note behind those done.
+#[derive(Clone, Copy, Debug, PartialEq, Eq)]
+pub struct Batch {
+    pub done: usize,
+    pub count: usize,
+    pub refusal: Option<Refusal>,
+}
+
 /// The device record, and the pending units of each controller by its identifier. The default is the closed device,
 /// which has no identifiers, is unsound, and so "answers 1 to every call".
 #[derive(Clone, Debug, Default, PartialEq, Eq)]
@@ -117,28 +126,47 @@ impl Device {
 
     /// Write: 1, 2, 4, 14. "Touched units of tracked ranges become pending. The answer counts the units that were not
     /// pending before. For a controller that isn't tracked a call not refused is done with count 0."
-    pub fn write(&mut self, id: u64, address: u64, bytes: u64) -> Result<u64, Refusal> {
-        let controller = self.controller(id)?;
-        if controller.suspended {
-            return Err(SUSPENDED);
-        }
-        if write_ends_past_memory(address, bytes) {
-            return Err(PAST_THE_END);
-        }
+    pub fn write(&mut self, note: &Note) -> Result<u64, Refusal> {
+        let controller = self.writer(note)?;
         let granularity = match controller.tracking {
             Tracking::Off => return Ok(0),
             Tracking::On { granularity, .. } => granularity,
         };
         // A sound record has at most 4,096 different units.
         let units: Vec<Unit> = units(controller).collect();
-        let pending = self.pending.entry(id).or_default();
+        let pending = self.pending.entry(note.id).or_default();
         let mut count = 0;
         for unit in units {
-            if touches(address, bytes, unit.address, unit_bytes(granularity)) && pending.insert(unit) {
+            if touches(note.address, note.bytes, unit.address, unit_bytes(granularity)) && pending.insert(unit) {
                 count += 1;
             }
         }
         Ok(count)
+    }
+
+    /// Batch (W4): 1, 22. "It does exactly the single notes in list order up to the first refused one"; "such a batch
+    /// counts as done."
+    ///
+    /// Every note is asked first, on the device as it is: no note changes what another is refused for. Those before the
+    /// first refused one are played on a copy, and what is pending there and not here is the total.
+    pub fn batch(&mut self, list: &[Note]) -> Result<Batch, Refusal> {
+        self.asked_sound()?;
+        if list.len() > MOST_NOTES {
+            return Err(LIST_TOO_LONG);
+        }
+        let mut refusals = Vec::new();
+        for note in list {
+            refusals.push(self.writer(note).err());
+        }
+        let done = refusals.iter().take_while(|refusal| refusal.is_none()).count();
+        let refusal = refusals.into_iter().flatten().next();
+        let mut after = self.clone();
+        for note in list.iter().take(done) {
+            after.write(note)?;
+        }
+        let count = newly_pending(self, &after);
+        *self = after;
+        Ok(Batch { done, count, refusal })
     }
 
     /// Receive: 1, 2, 5, 8. "The first so many are reported and made clear; later ones stay. More To Report is set
@@ -197,12 +225,19 @@ impl Device {
         Ok(())
     }
 
-    /// With what each call begins: 1, "device record is unsound"; then 2, "identifier not in the settings, or the
-    /// manager's own". Answers the place of the identifier.
-    fn place(&self, id: u64) -> Result<usize, Refusal> {
-        if !sound(&self.record) {
-            return Err(UNSOUND);
+    /// With what each call begins: 1, "device record is unsound".
+    fn asked_sound(&self) -> Result<(), Refusal> {
+        if sound(&self.record) {
+            Ok(())
+        } else {
+            Err(UNSOUND)
         }
+    }
+
+    /// With what each call of an identifier begins: 1; then 2, "identifier not in the settings, or the manager's own".
+    /// Answers the place of the identifier.
+    fn place(&self, id: u64) -> Result<usize, Refusal> {
+        self.asked_sound()?;
         if id == self.record.settings.manager {
             return Err(UNKNOWN);
         }
@@ -217,6 +252,18 @@ impl Device {
     fn controller(&self, id: u64) -> Result<&Controller, Refusal> {
         let place = self.place(id)?;
         self.record.controllers.get(place).ok_or(UNKNOWN)
+    }
+
+    /// What a write is refused with, and else its controller.
+    fn writer(&self, note: &Note) -> Result<&Controller, Refusal> {
+        let controller = self.controller(note.id)?;
+        if controller.suspended {
+            return Err(SUSPENDED);
+        }
+        if write_ends_past_memory(note.address, note.bytes) {
+            return Err(PAST_THE_END);
+        }
+        Ok(controller)
     }
 
     fn controller_mut(&mut self, id: u64) -> Result<&mut Controller, Refusal> {
@@ -237,6 +284,16 @@ pub fn units(controller: &Controller) -> impl Iterator<Item = Unit> {
         (stretch.first..stretch.after)
             .map(move |number| Unit { row: stretch.row, address: number.saturating_mul(unit) })
     })
+}
+
+/// How many units of all controllers are pending after and weren't before.
+fn newly_pending(before: &Device, after: &Device) -> usize {
+    let none = BTreeSet::new();
+    let mut count = 0;
+    for (id, units) in &after.pending {
+        count += units.difference(before.pending.get(id).unwrap_or(&none)).count();
+    }
+    count
 }
 
 /// W2: "Runs are pending units consecutive in address and belonging to one range." "Runs are taken in the order of the
@@ -286,6 +343,10 @@ mod tests {
         structure_bytes(0, &[Range { start: 65536, length: 4 }])
     }
 
+    fn note(id: u64, address: u64, bytes: u64) -> Note {
+        Note { id, address, bytes }
+    }
+
     /// A refused start's number and row, if it has one. It changes nothing.
     fn refused_start(device: &Device, buffer: &[u8]) -> (Refusal, Option<usize>) {
         let mut after = device.clone();
@@ -300,7 +361,10 @@ mod tests {
         let mut device = Device::default();
         assert_eq!(device.start(0, &one_range()), Err(Reason { number: 1, row: None }));
         assert_eq!(device.stop(0), Err(1));
-        assert_eq!(device.write(0, 0, 0), Err(1));
+        assert_eq!(device.write(&note(0, 0, 0)), Err(1));
+        assert_eq!(device.batch(&[]), Err(1));
+        assert_eq!(device.batch(&[note(0, 0, 0)]), Err(1));
+        assert_eq!(device.batch(&[note(0, 0, 0); 1025]), Err(1));
         assert_eq!(device.receive(0, &mut [0; 64]), Err(1));
         assert_eq!(device.suspend(0, 9), Err(1));
         assert_eq!(device.resume(0), Err(1));
@@ -316,7 +380,10 @@ mod tests {
         for id in [1, 5, 6, 7].iter() {
             assert_eq!(device.start(*id, &[]), Err(Reason { number: 1, row: None }));
             assert_eq!(device.stop(*id), Err(1));
-            assert_eq!(device.write(*id, u64::MAX, u64::MAX), Err(1));
+            assert_eq!(device.write(&note(*id, u64::MAX, u64::MAX)), Err(1));
+            for notes in [0, 1, 1024, 1025].iter() {
+                assert_eq!(device.batch(&vec![note(*id, u64::MAX, u64::MAX); *notes]), Err(1));
+            }
             assert_eq!(device.receive(*id, &mut []), Err(1));
             assert_eq!(device.suspend(*id, 2), Err(1));
             assert_eq!(device.resume(*id), Err(1));
@@ -448,8 +515,8 @@ mod tests {
     fn report_in_its_buffer() {
         let mut device = device();
         device.start(5, &one_range()).unwrap();
-        assert_eq!(device.write(5, 65536, 1), Ok(1));
-        assert_eq!(device.write(5, 73728, 1), Ok(1));
+        assert_eq!(device.write(&note(5, 65536, 1)), Ok(1));
+        assert_eq!(device.write(&note(5, 73728, 1)), Ok(1));
         // Refused: the buffer is unchanged, and so is the device.
         let before = device.clone();
         let mut buffer = [170; 31];
@@ -481,6 +548,57 @@ mod tests {
         let mut expected = [170; 32];
         expected[..16].copy_from_slice(&[0, 2, 5, 0, 0, 0, 0, 0, 0, 0, 0, 0, 0, 0, 0, 0]);
         assert_eq!(buffer, expected);
+    }
+
+    #[test]
+    fn batch_in_all() {
+        let mut device = device();
+        device.start(5, &one_range()).unwrap();
+        let record = device.record.clone();
+        // Units 1 and 2 of controller 5; 6 isn't tracked, and 7 isn't there, so the last note is not tried.
+        let list = [note(5, 69632, 1), note(5, 73727, 2), note(6, 0, 5), note(7, 0, 1), note(5, 65536, 1)];
+        assert_eq!(device.batch(&list), Ok(Batch { done: 3, count: 2, refusal: Some(2) }));
+        assert_eq!(device.record, record);
+        let units = [Unit { row: 0, address: 69632 }, Unit { row: 0, address: 73728 }];
+        assert_eq!(device.pending.get(&5), Some(&units.iter().cloned().collect()));
+        assert_eq!(device.pending.get(&6), Some(&BTreeSet::new()));
+        // Cut at once, and an empty list: done, and nothing changes.
+        let before = device.clone();
+        assert_eq!(device.batch(&list[3..]), Ok(Batch { done: 0, count: 0, refusal: Some(2) }));
+        assert_eq!(device.batch(&[]), Ok(Batch { done: 0, count: 0, refusal: None }));
+        assert_eq!(device, before);
+    }
+
+    #[test]
+    fn lists_of_1024_and_1025() {
+        let mut device = device();
+        device.start(5, &one_range()).unwrap();
+        let before = device.clone();
+        // 22 is asked before any note, good or bad.
+        for each in [note(5, 65536, 1), note(7, 0, 1), note(5, u64::MAX, 2)].iter() {
+            assert_eq!(device.batch(&[*each; 1025]), Err(22));
+            assert_eq!(device.batch(&[*each; 5000]), Err(22));
+        }
+        assert_eq!(device, before);
+        assert_eq!(device.batch(&[note(7, 0, 1); 1024]), Ok(Batch { done: 0, count: 0, refusal: Some(2) }));
+        assert_eq!(device, before);
+        let mut list = [note(5, 65536, 1); 1024];
+        list[1023] = note(5, 77824, 1);
+        assert_eq!(device.batch(&list), Ok(Batch { done: 1024, count: 2, refusal: None }));
+    }
+
+    #[test]
+    fn newly_pending_by_hand() {
+        let unit = |address| Unit { row: 0, address };
+        let mut before = device();
+        let mut after = device();
+        assert_eq!(newly_pending(&before, &after), 0);
+        before.pending.insert(5, [unit(0), unit(4096)].iter().cloned().collect());
+        after.pending.insert(5, [unit(0), unit(4096), unit(8192)].iter().cloned().collect());
+        // The same units of another controller are others.
+        after.pending.insert(6, [unit(0), unit(4096)].iter().cloned().collect());
+        assert_eq!(newly_pending(&before, &after), 3);
+        assert_eq!(newly_pending(&after, &after), 0);
     }
 
     #[test]
@@ -539,9 +657,9 @@ mod tests {
         let mut device = device();
         let ranges = [Range { start: 69632, length: 1 }, Range { start: 65536, length: 4 }];
         device.start(5, &structure_bytes(0, &ranges)).unwrap();
-        assert_eq!(device.write(5, 69632, 1), Ok(1));
+        assert_eq!(device.write(&note(5, 69632, 1)), Ok(1));
         assert_eq!(device.pending[&5].iter().cloned().collect::<Vec<_>>(), [Unit { row: 0, address: 69632 }]);
-        assert_eq!(device.write(5, 65536, 16384), Ok(3));
-        assert_eq!(device.write(5, 65536, 16384), Ok(0));
+        assert_eq!(device.write(&note(5, 65536, 16384)), Ok(3));
+        assert_eq!(device.write(&note(5, 65536, 16384)), Ok(0));
     }
 }

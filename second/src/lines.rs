@@ -1,10 +1,10 @@
-//! Cutting input into lines (document 01, "Session listing": "lines of at most 1,023 bytes before the line feed").
+//! Input that is lines, of a bounded number of bytes before the line feed.
 
-/// The most bytes a line has before its line feed.
-pub const MOST_BYTES: usize = 1023;
+use std::io::{self, ErrorKind, Read, Write};
 
-/// The line that is coming in, however its bytes are split. Never keeps more than 1,023 of them.
+/// The line that is coming in, however its bytes are split. Never keeps more than `most_bytes` of them.
 pub struct Cutter {
+    most_bytes: usize,
     kept: Vec<u8>,
     too_long: bool,
 }
@@ -17,8 +17,8 @@ pub enum Cut {
 }
 
 impl Cutter {
-    pub fn new() -> Cutter {
-        Cutter { kept: Vec::new(), too_long: false }
+    pub fn new(most_bytes: usize) -> Cutter {
+        Cutter { most_bytes, kept: Vec::new(), too_long: false }
     }
 
     /// Takes one byte; answers the line that it ends, if it ends one.
@@ -26,7 +26,7 @@ impl Cutter {
         if byte == b'\n' {
             return Some(self.cut());
         }
-        if self.kept.len() < MOST_BYTES {
+        if self.kept.len() < self.most_bytes {
             self.kept.push(byte);
         } else {
             self.too_long = true;
@@ -34,8 +34,7 @@ impl Cutter {
         None
     }
 
-    /// The end of the input. DESIGN 6.1: "A session's last line without a line feed is a line like any other; an
-    /// empty rest is none."
+    /// The end of the input. A last line without a line feed is a line like any other; an empty rest is none.
     pub fn rest(&mut self) -> Option<Cut> {
         if self.kept.is_empty() {
             return None;
@@ -43,7 +42,7 @@ impl Cutter {
         Some(self.cut())
     }
 
-    /// DESIGN 6.1: "A line of more than 1,023 bytes is one `bad`, whatever its length."
+    /// A line that is too long is one all the same, whatever its length.
     fn cut(&mut self) -> Cut {
         let line = std::mem::take(&mut self.kept);
         let too_long = self.too_long;
@@ -56,20 +55,53 @@ impl Cutter {
     }
 }
 
+/// Writes the answer to each line of `input`, to its end. Answers are flushed before it waits for more input.
+pub fn play_lines<R: Read, W: Write>(
+    input: &mut R,
+    output: &mut W,
+    most_bytes: usize,
+    answer: &mut dyn FnMut(&Cut) -> String,
+) -> io::Result<()> {
+    let mut cutter = Cutter::new(most_bytes);
+    let mut chunk = [0; 4096];
+    loop {
+        output.flush()?;
+        let filled = match input.read(&mut chunk) {
+            Ok(0) => break,
+            Ok(filled) => filled,
+            Err(error) if error.kind() == ErrorKind::Interrupted => continue,
+            Err(error) => return Err(error),
+        };
+        for byte in chunk.iter().take(filled) {
+            if let Some(cut) = cutter.take(*byte) {
+                output.write_all(answer(&cut).as_bytes())?;
+            }
+        }
+    }
+    if let Some(cut) = cutter.rest() {
+        output.write_all(answer(&cut).as_bytes())?;
+    }
+    output.flush()
+}
+
 #[cfg(test)]
 mod tests {
     use super::*;
 
-    fn cuts(input: &[u8]) -> Vec<Cut> {
-        let mut cutter = Cutter::new();
+    fn cuts_of(most_bytes: usize, input: &[u8]) -> Vec<Cut> {
+        let mut cutter = Cutter::new(most_bytes);
         let mut cuts = Vec::new();
         for byte in input {
             cuts.extend(cutter.take(*byte));
-            assert!(cutter.kept.len() <= 1023);
+            assert!(cutter.kept.len() <= most_bytes);
         }
         cuts.extend(cutter.rest());
         assert_eq!(cutter.rest(), None);
         cuts
+    }
+
+    fn cuts(input: &[u8]) -> Vec<Cut> {
+        cuts_of(1023, input)
     }
 
     fn line(bytes: &[u8]) -> Cut {
@@ -103,5 +135,14 @@ mod tests {
         let mut input = vec![b' '; 3_000_000];
         input.extend_from_slice(b"\nx");
         assert_eq!(cuts(&input), [Cut::TooLong, line(b"x")]);
+    }
+
+    #[test]
+    fn another_bound() {
+        assert_eq!(
+            cuts_of(3, b"abc\nabcd\nab\nabcdefg\nabc"),
+            [line(b"abc"), Cut::TooLong, line(b"ab"), Cut::TooLong, line(b"abc")]
+        );
+        assert_eq!(cuts_of(3, b"abcd"), [Cut::TooLong]);
     }
 }

@@ -1,6 +1,9 @@
-//! The lines of a listing (document 01, "Session listing"; DESIGN 6.1 and 6.2).
+//! The lines of a listing (document 01, "Session listing").
 
-use crate::rules::{Range, Settings, MOST_CONTROLLERS, MOST_RANGES};
+use crate::rules::{Note, Range, Settings, MOST_CONTROLLERS, MOST_RANGES};
+
+/// "lines of at most 1,023 bytes before the line feed"
+pub const MOST_BYTES: usize = 1023;
 
 /// "decimal numbers ... that fit their fields (identifiers and limit 16 bits, addresses and bytes 64, lengths 32,
 /// granularities and type 8)"
@@ -19,20 +22,15 @@ pub enum Line {
     Dev(Settings),
     Start { id: u64, granularity: u64, ranges: Vec<Range> },
     Stop { id: u64 },
-    Write { id: u64, address: u64, bytes: u64 },
+    Write(Note),
     Recv { id: u64, buffer: u64 },
     Susp { id: u64, kind: u64 },
     Resume { id: u64 },
 }
 
-/// "a word, then decimal numbers ..., one space between." Nothing for "Any other line".
+/// The line in these bytes. Nothing for "Any other line".
 pub fn parse(line: &[u8]) -> Option<Line> {
-    let mut pieces = line.split(|byte| *byte == b' ');
-    let word = pieces.next()?;
-    let mut numbers = Vec::new();
-    for piece in pieces {
-        numbers.push(number(piece)?);
-    }
+    let (word, numbers) = word_and_numbers(line)?;
     match (word, numbers.as_slice()) {
         // "`dev` manager, least, greatest, rule (0 or 1), limit, 0 to 8 identifiers"
         (b"dev", [manager, least, greatest, rule, limit, identifiers @ ..]) => {
@@ -72,11 +70,7 @@ pub fn parse(line: &[u8]) -> Option<Line> {
         // "`stop` id"
         (b"stop", [id]) => Some(Line::Stop { id: fitting(*id, BITS_16)? }),
         // "`write` id, address, bytes"
-        (b"write", [id, address, bytes]) => Some(Line::Write {
-            id: fitting(*id, BITS_16)?,
-            address: fitting(*address, BITS_64)?,
-            bytes: fitting(*bytes, BITS_64)?,
-        }),
+        (b"write", fields) => Some(Line::Write(note(fields)?)),
         // "`recv` id, buffer (at most 4096)"
         (b"recv", [id, buffer]) => {
             Some(Line::Recv { id: fitting(*id, BITS_16)?, buffer: fitting(*buffer, GREATEST_BUFFER)? })
@@ -89,8 +83,31 @@ pub fn parse(line: &[u8]) -> Option<Line> {
     }
 }
 
-/// "decimal numbers without leading zeros". DESIGN 6.2: "`0` is a number; `00`, `+1`, `01` are not." Nothing also for
-/// a number of more than 64 bits, as no field is wider.
+/// "a word, then decimal numbers ..., one space between."
+pub fn word_and_numbers(line: &[u8]) -> Option<(&[u8], Vec<u64>)> {
+    let mut pieces = line.split(|byte| *byte == b' ');
+    let word = pieces.next()?;
+    let mut numbers = Vec::new();
+    for piece in pieces {
+        numbers.push(number(piece)?);
+    }
+    Some((word, numbers))
+}
+
+/// "id, address, bytes", exactly these.
+pub fn note(fields: &[u64]) -> Option<Note> {
+    match fields {
+        [id, address, bytes] => Some(Note {
+            id: fitting(*id, BITS_16)?,
+            address: fitting(*address, BITS_64)?,
+            bytes: fitting(*bytes, BITS_64)?,
+        }),
+        _ => None,
+    }
+}
+
+/// "decimal numbers without leading zeros": `0` is a number, and `00`, `+1`, `01` are not. Nothing also for a number of
+/// more than 64 bits, as no field is wider.
 fn number(piece: &[u8]) -> Option<u64> {
     if piece == b"0" {
         return Some(0);
@@ -124,7 +141,7 @@ fn number(piece: &[u8]) -> Option<u64> {
 }
 
 /// "that fit their fields"
-fn fitting(value: u64, greatest: u64) -> Option<u64> {
+pub fn fitting(value: u64, greatest: u64) -> Option<u64> {
     if value <= greatest {
         Some(value)
     } else {
@@ -204,7 +221,7 @@ mod tests {
             })
         );
         assert_eq!(parse(b"stop 5"), Some(Line::Stop { id: 5 }));
-        assert_eq!(parse(b"write 5 6 7"), Some(Line::Write { id: 5, address: 6, bytes: 7 }));
+        assert_eq!(parse(b"write 5 6 7"), Some(Line::Write(Note { id: 5, address: 6, bytes: 7 })));
         assert_eq!(parse(b"recv 5 4096"), Some(Line::Recv { id: 5, buffer: 4096 }));
         assert_eq!(parse(b"susp 5 1"), Some(Line::Susp { id: 5, kind: 1 }));
         assert_eq!(parse(b"resume 5"), Some(Line::Resume { id: 5 }));
@@ -242,7 +259,7 @@ mod tests {
         assert_eq!(parse(&line), None, "17 pairs");
         assert_eq!(
             parse(b"write 65535 18446744073709551615 18446744073709551615"),
-            Some(Line::Write { id: 65535, address: u64::MAX, bytes: u64::MAX })
+            Some(Line::Write(Note { id: 65535, address: u64::MAX, bytes: u64::MAX }))
         );
         assert_eq!(parse(b"susp 65535 255"), Some(Line::Susp { id: 65535, kind: 255 }));
     }

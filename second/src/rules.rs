@@ -28,6 +28,7 @@ pub const RANGE_COUNT: Refusal = 18;
 pub const LENGTH_0: Refusal = 19;
 pub const UNALIGNED: Refusal = 20;
 pub const RANGE_PAST_THE_END: Refusal = 21;
+pub const LIST_TOO_LONG: Refusal = 22;
 
 /// "tracks, for up to 8 migratable controllers".
 pub const MOST_CONTROLLERS: usize = 8;
@@ -35,6 +36,8 @@ pub const MOST_CONTROLLERS: usize = 8;
 pub const MOST_RANGES: usize = 16;
 /// "at most 4,096 units in all of one controller's ranges (house)"; W2: "The 4,096 limit counts different units".
 pub const MOST_UNITS: u128 = 4096;
+/// W4: "At most 1,024 records."
+pub const MOST_NOTES: usize = 1024;
 /// "least ≤ greatest ≤ 20 (house)".
 pub const GREATEST_GRANULARITY: u64 = 20;
 /// "The descriptor limit (CMMRTD), 0 to 128."
@@ -62,6 +65,14 @@ pub struct Settings {
 pub struct Range {
     pub start: u64,
     pub length: u64,
+}
+
+/// A write record (W4): "each an identifier, address and byte length". The word record is the device's here.
+#[derive(Clone, Copy, Debug, PartialEq, Eq)]
+pub struct Note {
+    pub id: u64,
+    pub address: u64,
+    pub bytes: u64,
 }
 
 /// "A controller is either not tracked, or tracked with its granularity and its number of ranges."
@@ -92,7 +103,7 @@ pub struct Record {
 }
 
 impl Settings {
-    /// The identifiers in use. DESIGN 6.5: "identifiers past their number ... are unused places".
+    /// The identifiers in use. Those past their number are what document 01 calls unused places.
     pub fn used_identifiers(&self) -> Vec<u64> {
         let mut used = Vec::new();
         for (identifier, _) in self.identifiers.iter().zip(0..self.number) {
@@ -103,8 +114,7 @@ impl Settings {
 }
 
 impl Controller {
-    /// The ranges in use. DESIGN 6.5: "ranges past a controller's count are unused places; so are all ranges of a
-    /// controller that is off".
+    /// The ranges in use. Those past the count are unused places, and so are all ranges of a controller that is off.
     pub fn used_ranges(&self) -> Vec<Range> {
         let mut used = Vec::new();
         if let Tracking::On { count, .. } = self.tracking {

@@ -1,8 +1,10 @@
 //! A session: one device, and an answer to each line (document 01, "Session listing").
 
+use std::io::{self, Read, Write};
+
 use crate::device::Device;
-use crate::lines::Cut;
-use crate::listing::{parse, Line};
+use crate::lines::{play_lines, Cut};
+use crate::listing::{parse, Line, MOST_BYTES};
 use crate::report::read_report;
 use crate::rules::Reason;
 use crate::structure::structure_bytes;
@@ -13,30 +15,45 @@ const STALE: u8 = 0xA5;
 /// "Before a done `dev`, calls answer 1": the session begins with the closed device.
 #[derive(Clone, Debug, Default, PartialEq, Eq)]
 pub struct Session {
-    device: Device,
+    pub device: Device,
+}
+
+/// Answers each line of a session listing.
+pub fn play<R: Read, W: Write>(input: &mut R, output: &mut W) -> io::Result<()> {
+    let mut session = Session::default();
+    play_lines(input, output, MOST_BYTES, &mut |cut| session.answer(cut))
+}
+
+/// The whole answer to a line, with its line feeds. "Any other line answers `bad`." A shelf listing, which has lines of
+/// its own to read and to play, answers likewise.
+pub fn answer_line<L>(
+    cut: &Cut,
+    parse: &dyn Fn(&[u8]) -> Option<L>,
+    play: &mut dyn FnMut(&L) -> Result<String, Reason>,
+) -> String {
+    let line = match cut {
+        Cut::TooLong => None,
+        Cut::Line(bytes) => parse(bytes),
+    };
+    match line {
+        None => "bad\n".to_string(),
+        Some(line) => match play(&line) {
+            Ok(answer) => answer,
+            Err(Reason { number, row: None }) => format!("{}\n", number),
+            // W3: "the session prints it after the number".
+            Err(Reason { number, row: Some(row) }) => format!("{} {}\n", number, row),
+        },
+    }
 }
 
 impl Session {
-    /// The whole answer to a line, with its line feeds. "Any other line answers `bad`."
     pub fn answer(&mut self, cut: &Cut) -> String {
-        let line = match cut {
-            Cut::TooLong => None,
-            Cut::Line(bytes) => parse(bytes),
-        };
-        match line {
-            None => "bad\n".to_string(),
-            Some(line) => match self.play(&line) {
-                Ok(answer) => answer,
-                Err(Reason { number, row: None }) => format!("{}\n", number),
-                // W3: "the session prints it after the number".
-                Err(Reason { number, row: Some(row) }) => format!("{} {}\n", number, row),
-            },
-        }
+        answer_line(cut, &parse, &mut |line| self.play(line))
     }
 
     /// "Each answers one line: the number, and after a done write its count. A report adds four named numbers and a
     /// line a descriptor."
-    fn play(&mut self, line: &Line) -> Result<String, Reason> {
+    pub fn play(&mut self, line: &Line) -> Result<String, Reason> {
         match line {
             // "a refused `dev` keeps the device there was"
             Line::Dev(settings) => {
@@ -46,10 +63,7 @@ impl Session {
                 self.device.start(*id, &structure_bytes(*granularity, ranges))?;
             }
             Line::Stop { id } => self.device.stop(*id)?,
-            Line::Write { id, address, bytes } => {
-                let count = self.device.write(*id, *address, *bytes)?;
-                return Ok(format!("0 {}\n", count));
-            }
+            Line::Write(note) => return Ok(format!("0 {}\n", self.device.write(note)?)),
             Line::Recv { id, buffer } => {
                 // At most 4096 bytes: a line with more is bad.
                 let mut bytes = vec![STALE; *buffer as usize];

@@ -5,15 +5,16 @@
 //! 2^64 - 2^32 = 18446744069414584320.
 
 use std::cell::RefCell;
+use std::fmt::Debug;
 use std::io::{self, Read, Write};
 use std::rc::Rc;
 
 use crate::lines::Cut;
-use crate::play;
-use crate::session::Session;
+use crate::session::{play, Session};
+use crate::shelf::Shelf;
 
 /// The document's own settings: manager 1, granularities 0 to 8, rule off, limit 16, controllers 5 and 6.
-const DEV: &str = "dev 1 0 8 0 16 5 6";
+pub const DEV: &str = "dev 1 0 8 0 16 5 6";
 
 /// Plays bytes as a whole input.
 fn output(input: &[u8]) -> String {
@@ -22,19 +23,28 @@ fn output(input: &[u8]) -> String {
     String::from_utf8(output).unwrap()
 }
 
-/// Plays lines one by one. Each must give its answer (lines separated by "/"), and a line that is refused or bad must
-/// leave the session as it was.
-fn session(lines: &[(&str, &str)]) {
-    let mut session = Session::default();
+/// Plays lines one by one from the default on. Each must give its answer (lines separated by "/"), and a line that is
+/// refused or bad must leave all as it was.
+pub fn check<S: Clone + Debug + Default + PartialEq>(
+    answer_of: &dyn Fn(&mut S, &Cut) -> String,
+    lines: &[(&str, &str)],
+) {
+    let mut state = S::default();
     for (number, (line, answer)) in lines.iter().enumerate() {
-        let before = session.clone();
-        let given = session.answer(&Cut::Line(line.as_bytes().to_vec()));
+        let before = state.clone();
+        let given = answer_of(&mut state, &Cut::Line(line.as_bytes().to_vec()));
         let expected = format!("{}\n", answer.replace("/", "\n"));
         assert_eq!(given, expected, "line {}: {}", number, line);
         if *answer != "0" && !answer.starts_with("0 ") {
-            assert_eq!(session, before, "line {}: {}", number, line);
+            assert_eq!(state, before, "line {}: {}", number, line);
         }
     }
+}
+
+/// Lines of document 01. A shelf listing has "every line of document 01 with the answers of the session program".
+fn session(lines: &[(&str, &str)]) {
+    check(&Session::answer, lines);
+    check(&Shelf::answer, lines);
 }
 
 /// A `start` line with `count` ranges of one page each, every second page from `first` on.
@@ -1391,6 +1401,24 @@ fn damaged_lines() {
     }
 }
 
+/// Document 01 has seven words; those of a shelf listing are not among them.
+#[test]
+fn lines_of_a_shelf_listing() {
+    let lines = ["batch", "batch 5 65536 1", "batch 7 0 1", "burst 0 5 0 0", "burst 1 5 65536 1", "burst 1025 5 0 0"];
+    for line in lines.iter() {
+        check(
+            &Session::answer,
+            &[
+                (line, "bad"),
+                (DEV, "0"),
+                ("start 5 0 65536 4", "0"),
+                (line, "bad"),
+                ("recv 5 64", "0 susp 0 more 0 gran 0 runs 0"),
+            ],
+        );
+    }
+}
+
 #[test]
 fn lines_of_any_bytes() {
     let mut input = Vec::new();
@@ -1585,10 +1613,10 @@ fn failing_input_and_output() {
 // ---------------------------------------------------------------------------------------------------------------
 
 /// A plain generator of numbers, the same in each run.
-struct Random(u64);
+pub struct Random(pub u64);
 
 impl Random {
-    fn below(&mut self, bound: usize) -> usize {
+    pub fn below(&mut self, bound: usize) -> usize {
         self.0 = self.0.wrapping_mul(6364136223846793005).wrapping_add(1442695040888963407);
         ((self.0 >> 33) as usize) % bound
     }
@@ -1634,7 +1662,10 @@ fn random_calls() {
     ];
     let mut random = Random(1);
     let mut session = Session::default();
-    assert_eq!(session.answer(&Cut::Line(b"dev 1 0 20 0 128 5 6 8".to_vec())), "0\n");
+    let mut shelf = Shelf::default();
+    let dev = Cut::Line(b"dev 1 0 20 0 128 5 6 8".to_vec());
+    assert_eq!(session.answer(&dev), "0\n");
+    assert_eq!(shelf.answer(&dev), "0\n");
     let mut done = 0;
     for _ in 0..30_000 {
         let word = words[random.below(words.len())];
@@ -1651,7 +1682,9 @@ fn random_calls() {
             line.push_str(numbers[random.below(numbers.len())]);
         }
         let before = session.clone();
-        let answer = session.answer(&Cut::Line(line.clone().into_bytes()));
+        let cut = Cut::Line(line.clone().into_bytes());
+        let answer = session.answer(&cut);
+        assert_eq!(shelf.answer(&cut), answer, "{}", line);
         assert!(answer.ends_with('\n'), "{}", line);
         assert_ne!(answer, "1\n", "{}", line);
         if answer == "0\n" || answer.starts_with("0 ") {

@@ -1,8 +1,8 @@
 -- What each call answers and leaves, as a total function of what it is given: any record, any words, any bytes. The refusals are the tables of
 -- `rules` (Order.antt), and what is done is done by the rules' own functions on the controller's units and marks.
-use Prim.Native.Nat.{ℕ}
-use mathlib.Core.Bool.{Bool, false, _||_}
-use mathlib.Core.List.{List, []}
+use Prim.Native.Nat.{ℕ, _+_}
+use mathlib.Core.Bool.{Bool, false, _||_, cond}
+use mathlib.Core.List.{List, [], _∷_}
 use mathlib.Core.Option.{Option, none, some}
 use lib.Dec.{eqb}
 use lib.ListN.{length, take, replicate}
@@ -16,7 +16,7 @@ use Rattle.rules.specs.Settings.{shareSize, shareAt, placeOf}
 use Rattle.rules.specs.Units.{Unit, Write, units, mark, newly}
 use Rattle.rules.specs.StartData.{granularityOf, countOf, rangesOf, placed}
 use Rattle.rules.specs.Report.{Report, room, reportOn, marksLeft, reportBytes}
-use Rattle.rules.specs.Order.{freshOrder, startOrder, stopOrder, writeOrder, receiveOrder, suspendOrder, resumeOrder}
+use Rattle.rules.specs.Order.{freshOrder, startOrder, stopOrder, writeOrder, batchOrder, receiveOrder, suspendOrder, resumeOrder}
 use Rattle.rules.specs.Device.{freshOf}
 use Rattle.rules.specs.Machine.{noReport}
 use Rattle.rules.specs.declared.Range.{Range}
@@ -25,10 +25,12 @@ use Rattle.rules.specs.declared.Tracking.the-variants.{Off, On}
 use Rattle.rules.specs.declared.Controller.{Controller}
 use Rattle.rules.specs.declared.Settings.{Settings}
 use Rattle.rules.specs.declared.Device.{Device}
-use Rattle.record.specs.Record.{controllerAt, withController, seenIn}
+use Rattle.record.specs.Record.{soundWith, controllerAt, withController, seenIn}
 use Rattle.calls.specs.declared.Changed.{Changed}
 use Rattle.calls.specs.declared.Started.{Started}
 use Rattle.calls.specs.declared.Written.{Written}
+use Rattle.calls.specs.declared.WriteRecord.{WriteRecord}
+use Rattle.calls.specs.declared.Batched.{Batched}
 use Rattle.calls.specs.declared.Received.{Received}
 
 -- ---- a controller's marks
@@ -142,6 +144,25 @@ writeAt d ws w p = verdict (writeOrder (seenIn d (length ws) p) w) (writeDone d 
 
 unfoldable pub writeNote : Device → List ℕ → ℕ → Write → Note
 writeNote d ws id w = writeAt d ws w (placeOf (d .settings) id)
+
+-- ---- a batch of notes (W4)
+
+-- a record as a write
+abbrev pub writeIn : WriteRecord → Write
+writeIn r = record { address = r .address; bytes = r .bytes .0 }
+
+abbrev pub batched : ℕ → ℕ → ℕ → ℕ → List ℕ → Change Batched
+batched number done count refusal ws = record { answer = record { number = number; done = done; count = count; refusal = refusal }; marks = ws }
+
+-- the notes of a list, one after another, up to the first that is refused, after so many done and so many units
+abbrev pub notesFrom : Device → List ℕ → ℕ → ℕ → List WriteRecord → Change Batched
+notesFrom d ws done count [] = batched 0 done count 0 ws
+notesFrom d ws done count (r ∷ rs) =
+    let n = writeNote d ws (r .id) (writeIn r) in
+    cond (eqb (n .answer .number) 0) (notesFrom d (n .marks) (done + 1) (count + n .answer .count) rs) (batched 0 done count (n .answer .number) (n .marks))
+
+unfoldable pub batchChange : Device → List ℕ → List WriteRecord → Change Batched
+batchChange d ws rs = verdict (batchOrder (soundWith d (length ws)) (length rs)) (notesFrom d ws 0 0 rs) (λ n i. batched n 0 0 0 ws)
 
 -- ---- receive
 

@@ -3,6 +3,7 @@
 // marks nor buffer. The order of refusals is document 01's, first hit answers.
 
 use record::Place;
+use rules::Bytes;
 use rules::Device;
 ghost use mathlib.Core.Path.{_≡_};
 ghost use Prim.Native.Nat.{_<_};
@@ -26,6 +27,21 @@ pub struct Started {
 pub struct Written {
     pub number: u8,
     pub count: usize,
+}
+
+// A record of a batch: a write that controller `id` made.
+pub struct WriteRecord {
+    pub id: u16,
+    pub address: u64,
+    pub bytes: Bytes,
+}
+
+// The answer to a batch of notes: its number, how many notes were done, how many units they made pending, and the refusal of the note that cut it, or 0.
+pub struct Batched {
+    pub number: u8,
+    pub done: usize,
+    pub count: usize,
+    pub refusal: u8,
 }
 
 // The answer to a receive: its number, and what the report's header says.

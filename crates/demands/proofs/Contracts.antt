@@ -1,5 +1,6 @@
 -- Each public function's contract is what the demands speak of: the contracts say so word for word. Assumes nothing.
-use Rattle.demands.specs.Contracts.{AsksNothing, CallsAre, StructuresAre, ReaderIs, Contracts}
+use mathlib.Core.Path.{refl}
+use Rattle.demands.specs.Contracts.{AsksNothing, CallsAre, BatchIs, StructuresAre, ReaderIs, Contracts}
 
 asks : AsksNothing
 asks =
@@ -40,6 +41,9 @@ calls =
       resume = λ κs a r e p. p;
     }
 
+batch : BatchIs
+batch = record { asks = λ 𝓤 H A mem run κs a g. refl; says = λ 𝓤 H A mem run κs a g r e. refl }
+
 structures : StructuresAre
 structures =
     record {
@@ -65,4 +69,4 @@ reader =
     }
 
 pub contracts : Contracts
-contracts = record { asks = asks; calls = calls; structures = structures; reader = reader; line = λ κs a r e p. p }
+contracts = record { asks = asks; calls = calls; batch = batch; structures = structures; reader = reader; line = λ κs a r e p. p }

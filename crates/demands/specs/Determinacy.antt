@@ -1,8 +1,14 @@
 -- "The team proves that any two results allowed by a promise are equal" (document 01, "How far each promise reaches"): of every public function. `Post` of a
 -- function's `Reads` is its contract as the checker reads it off the source: of its arguments, its result and what it was lent, at exit.
 use mathlib.Core.Path.{_≡_}
+use mathlib.Core.List.{List}
+use Prim.Native.Nat.{ℕ}
 use denote.Ref.{now}
 use Rattle.rules.specs.Promise.{Determinate}
+use Rattle.rules.specs.declared.Device.{Device}
+use Rattle.calls.specs.declared.WriteRecord.{WriteRecord}
+use Rattle.calls.specs.declared.Batched.{Batched}
+use Rattle.demands.specs.Contracts.{Promised}
 use Rattle.fresh.proofs.fresh.Reads as fresh
 use Rattle.track_send.proofs.start.Reads as start
 use Rattle.track_send.proofs.stop.Reads as stop
@@ -26,12 +32,13 @@ use Rattle.report_reader.proofs.tmc_report_address.Reads as address
 use Rattle.report_reader.proofs.tmc_report_length.Reads as run-length
 use Rattle.listing.proofs.read_line.Reads as read-line
 
--- the seven calls: the answer, and every word of the marks that were lent to be changed
+-- the calls: the answer, and every word of the marks that were lent to be changed
 pub record Calls : Type 1 where
   pub fresh : (κs : _) (a : _) (r r′ : _) (e e′ : _) → fresh.Post κs a r e → fresh.Post κs a r′ e′ → (r ≡ r′) × (now (e .1 .0) ≡ now (e′ .1 .0))
   pub start : (κs : _) (a : _) (r r′ : _) (e e′ : _) → start.Post κs a r e → start.Post κs a r′ e′ → (r ≡ r′) × (now (e .1 .0) ≡ now (e′ .1 .0))
   pub stop : (κs : _) (a : _) (r r′ : _) (e e′ : _) → stop.Post κs a r e → stop.Post κs a r′ e′ → (r ≡ r′) × (now (e .1 .0) ≡ now (e′ .1 .0))
   pub write : (κs : _) (a : _) (r r′ : _) (e e′ : _) → write.Post κs a r e → write.Post κs a r′ e′ → (r ≡ r′) × (now (e .1 .0) ≡ now (e′ .1 .0))
+  pub batch : (d : Device) (ws : List ℕ) (rs : List WriteRecord) (r r′ : Batched) (l l′ : List ℕ) → Promised d ws rs r l → Promised d ws rs r′ l′ → (r ≡ r′) × (l ≡ l′)
   -- and every byte of the buffer
   pub receive : (κs : _) (a : _) (r r′ : _) (e e′ : _) → receive.Post κs a r e → receive.Post κs a r′ e′
       → (r ≡ r′) × (now (e .1 .0) ≡ now (e′ .1 .0)) × (now (e .1 .1 .1 .0) ≡ now (e′ .1 .1 .1 .0))

@@ -1,13 +1,18 @@
 -- A session of the calls themselves: fresh, then any calls in any order, each given the record and the marks that the last one left.
 use Prim.Native.Nat.{ℕ}
 use mathlib.Core.Bool.{cond}
-use mathlib.Core.List.{List, [], _∷_}
+use mathlib.Core.List.{List, [], _∷_, _++_}
 use lib.Dec.{eqb}
+use lib.ListN.{length}
+use Rattle.rules.specs.Refusals.{verdict}
+use Rattle.rules.specs.Order.{write, batchOrder}
 use Rattle.rules.specs.Machine.{Call, Event}
-use Rattle.rules.specs.History.{Did, historyOf}
+use Rattle.rules.specs.History.{Did, historyOf, isAccepted}
 use Rattle.rules.specs.declared.Settings.{Settings}
 use Rattle.rules.specs.declared.Device.{Device}
-use Rattle.calls.specs.Calls.{freshChange}
+use Rattle.record.specs.Record.{soundWith}
+use Rattle.calls.specs.declared.WriteRecord.{WriteRecord}
+use Rattle.calls.specs.Calls.{freshChange, writeIn, batchChange}
 use Rattle.demands.specs.View.{Outcome, run}
 
 -- what a call leaves to the next
@@ -40,10 +45,50 @@ abbrev pub bytesTo : ℕ → Left → List Call → List (List ℕ)
 bytesTo a l [] = []
 bytesTo a l (k ∷ ks) = cond (eqb (k .id) a) (outcome l k .bytes ∷ bytesTo a (next l k) ks) (bytesTo a (next l k) ks)
 
+-- ---- W4: a session whose steps are calls and batches
+
+pub data Step : Type 0 where
+  one : Call → Step
+  batch : List WriteRecord → Step
+
+-- what a step leaves
+abbrev pub stepped : Left → Step → Left
+stepped l (one k) = next l k
+stepped l (batch rs) = record { device = l .device; marks = batchChange (l .device) (l .marks) rs .marks }
+
+abbrev pub leftBy : Left → List Step → Left
+leftBy l [] = l
+leftBy l (x ∷ xs) = leftBy (stepped l x) xs
+
+-- a record of a batch as the call that it is
+abbrev pub noteOf : WriteRecord → Call
+noteOf r = record { id = r .id; op = write (writeIn r) }
+
+-- the notes of a list that are tried one after another, as single calls: up to the first that is refused, with that one
+abbrev pub tried : Left → List WriteRecord → List Call
+tried l [] = []
+tried l (r ∷ rs) = noteOf r ∷ cond (isAccepted (outcome l (noteOf r) .answer)) (tried (next l (noteOf r)) rs) []
+
+-- the calls that a step is: a call itself, a batch its tried notes, and a refused batch none
+abbrev pub callsOf : Left → Step → List Call
+callsOf l (one k) = k ∷ []
+callsOf l (batch rs) = verdict (batchOrder (soundWith (l .device) (length (l .marks))) (length rs)) (tried l rs) (λ n i. [])
+
+abbrev pub expand : Left → List Step → List Call
+expand l [] = []
+expand l (x ∷ xs) = callsOf l x ++ expand (stepped l x) xs
+
 -- ---- a session from fresh
 
 abbrev pub endOf : Settings → List ℕ → List Call → Left
 endOf s ws ks = leftAfter (begun s ws) ks
+
+-- the same of a session with batches, and the calls that it is
+abbrev pub endBy : Settings → List ℕ → List Step → Left
+endBy s ws xs = leftBy (begun s ws) xs
+
+abbrev pub callsIn : Settings → List ℕ → List Step → List Call
+callsIn s ws xs = expand (begun s ws) xs
 
 -- a controller's calls and answers
 abbrev pub historyIn : Settings → List ℕ → List Call → ℕ → List Did

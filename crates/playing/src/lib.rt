@@ -20,7 +20,7 @@ pub struct Played {
 // ---- text
 
 // Puts a name between spaces, and its number.
-fn put_named(out: &mut Buffer, waiting: Waiting, name: &[u8], n: u64) -> Waiting {
+pub fn put_named(out: &mut Buffer, waiting: Waiting, name: &[u8], n: u64) -> Waiting {
     let a = output::put_bytes(out, waiting, name);
     output::put_number(out, a, n)
 }

@@ -6,7 +6,7 @@ use mathlib.Core.List.{List, [], _∷_, _++_}
 use lib.Dec.{leb, eqb}
 use lib.ListN.{length}
 use Rattle.rules.specs.Refusals.{Test, _else_}
-use Rattle.rules.specs.Settings.{markWords, settingsOk, granularityOk}
+use Rattle.rules.specs.Settings.{markWords, mostNotes, settingsOk, granularityOk}
 use Rattle.rules.specs.Units.{Write}
 use Rattle.rules.specs.Ranges.{listTests}
 use Rattle.rules.specs.StartData.{headerTests, rangesThere, granularityOf, countOf, rangesOf}
@@ -83,6 +83,13 @@ writeOrder v w =
     ∷ (v .known else 2)
     ∷ (not (v .suspended) else 4)
     ∷ (leb (w .address + w .bytes) (2 ^ 64) else 14)
+    ∷ []
+
+-- W4: a batch of so many records, on a record that is sound or not. Its notes have the table of a write each
+abbrev pub batchOrder : Bool → ℕ → List Test
+batchOrder sound total =
+    (sound else 1)
+    ∷ (leb total mostNotes else 22)
     ∷ []
 
 -- Receive, into a buffer

@@ -55,6 +55,10 @@ shareSize = 4096
 abbrev pub shareAt : ℕ → ℕ
 shareAt i = shareSize * i
 
+-- the most records of a batch (W4)
+abbrev pub mostNotes : ℕ
+mostNotes = 1024
+
 -- ---- granularities
 
 -- the bytes of a unit: 2^n times 4 KiB

@@ -10,6 +10,9 @@ pub const MARK_WORDS: usize = 512;
 // The most units that a controller's ranges may have.
 pub const MOST_UNITS: u64 = 4096;
 
+// The most records of a batch.
+pub const MOST_NOTES: usize = 1024;
+
 // A length in units.
 pub struct Units(pub u64);
 

@@ -1,1 +1,6 @@
 pub mod WriteLaws
+pub mod BatchLaws
+pub mod Turns
+pub mod Again
+pub mod Loop
+pub mod Front

@@ -1,22 +1,24 @@
 -- What a noted write answers, case by case of its table; a written range of no bytes leaves every word as it was. Assumes nothing.
 use mathlib.Core.Path.{_≡_, refl, sym, ap, ap₂, _∙_}
-use mathlib.Core.Bool.{Bool, true, false, or-false}
+use mathlib.Core.Logic.{_≢_}
+use mathlib.Core.Bool.{Bool, true, false, or-false, and-true, and-false}
 use mathlib.Core.List.{List, [], _∷_}
 use mathlib.Core.Option.{Option, none, some}
 use Prim.Native.Nat.{ℕ, _+_, _-_, _^_, _≤_, _<_}
 use native.Mathlib.Omega.{arith}
 use native.Mathlib.Nat.{zero-add}
 use lib.ListN.{length, getD, take, drop}
-use borrow.Author.Tests.{le-leb, lt-leb}
+use borrow.Author.Tests.{le-leb, lt-leb, eq-eqb, ne-eqb}
 use Rattle.bits.specs.Flat.{flat, Words}
 use Rattle.bits.specs.Share.{putShare}
 use Rattle.bits.specs.Pack.{pack}
 use Rattle.bits.proofs.Flat.{flat-length}
 use Rattle.bits.proofs.Pack.{pack-only, pack-flat}
 use Rattle.bits.proofs.Share.{getShare-length, putShare-getShare}
-use Rattle.rules.specs.Settings.{shareAt, placeOf}
+use Rattle.rules.specs.Settings.{markWords, shareAt, placeOf}
 use Rattle.rules.specs.Units.{Unit, Write, units, touches, mark, newly}
 use Rattle.rules.specs.Order.{writeOrder}
+use Rattle.rules.specs.Device.{soundDevice}
 use Rattle.rules.specs.declared.Device.{Device}
 use Rattle.rules.specs.declared.Tracking.{Tracking}
 use Rattle.rules.specs.declared.Tracking.the-variants.{Off, On}
@@ -46,6 +48,20 @@ module _ (d : Device) (words id : ℕ) (s : soundWith d words ≡ true) where
       go : (p : Option ℕ) → foundAt p ≡ found.Nothing → placeAt p ≡ Refused 2
       go none e = refl
       go (some j) e = let z : _≡_ {A = ℕ} 0 1 = cc in absurd (omega arith)
+
+-- on one that is not, whoever is named
+pub unsound-place : (d : Device) (words id : ℕ) → soundWith d words ≡ false → whereIs d words id ≡ Refused 1
+unfolding whereIs
+unsound-place d words id e = rw e
+
+-- whether it is, by its two parts
+pub ready-words : (d : Device) (words : ℕ) → words ≢ markWords → false ≡ soundWith d words
+unfolding soundWith
+ready-words d words h = rw (ne-eqb words markWords h, and-false (soundDevice d))
+
+pub ready-sound : (d : Device) (words : ℕ) (b : Bool) → words ≡ markWords → b ≡ soundDevice d → b ≡ soundWith d words
+unfolding soundWith
+ready-sound d words b h e = e ∙ rw (eq-eqb words markWords h, and-true (soundDevice d))
 
 -- ---- a written range of no bytes
 

@@ -1,17 +1,24 @@
 // The call that notes a write. Its contract is an equation with `writeNote` of the calls: it says every returned value and every word of the marks
 // afterwards.
 
+use calls::Batched;
+use calls::WriteRecord;
 use calls::Written;
 use rules::Bytes;
 use rules::Device;
 use rules::MARK_WORDS;
+use rules::MOST_NOTES;
 use rules::Tracking;
 use settings::Found;
 ghost use mathlib.Core.Path.{_≡_};
-ghost use mathlib.Core.Bool.{true};
-ghost use lib.ListN.{length};
+ghost use mathlib.Core.Bool.{true, not};
+ghost use mathlib.Core.List.{[], _∷_};
+ghost use lib.ListN.{length, take};
+ghost use Rattle.rules.specs.Refusals.{_else_, refusal};
 ghost use Rattle.record.specs.Record.{soundWith};
-ghost use Rattle.calls.specs.Calls.{writeNote};
+ghost use Prim.Native.Nat.{_+_, _<_, _≤_, _^_};
+ghost use Rattle.calls.specs.Calls.{writeNote, batchChange};
+ghost use Rattle.writes.specs.Inner.{beginOf, isDue, tallyOf};
 
 // Notes a write on a record that is known to be sound: the touched units of the controller's tracked ranges become pending. Refused, in this order: 2,
 // 4 suspended, 14 a written range that ends past 2^64.
@@ -66,23 +73,115 @@ fn note(d: Device, marks: &mut [u64], id: u16, at: u64, bytes: Bytes) -> Written
     Written { number: 0, count }
 }
 
+// Whether the record is sound and the marks have their words.
+fn ready(d: Device, words: usize) -> bool
+    ensures { λ r. ⌜ r ≡ soundWith d words ⌝ }
+{
+    if words != MARK_WORDS {
+        return false;
+    }
+    record::sound(d)
+}
+
 // Notes that controller `id` wrote `bytes` bytes at address `at`: the touched units of its tracked ranges become pending. Answers how many were not
 // pending before, 0 for a controller that is not tracked. Refused, in this order: 1, 2, 4 suspended, 14 a written range that ends past 2^64.
 pub fn write(d: Device, marks: &mut [u64], id: u16, at: u64, bytes: Bytes) -> Written
     ensures { λ r. ⌜ (r ≡ writeNote d (now (marks .entry)) id (record { address = at; bytes = bytes .0 }) .answer)
         × (now (marks .exit) ≡ writeNote d (now (marks .entry)) id (record { address = at; bytes = bytes .0 }) .marks) ⌝ }
 {
-    if marks.len() != MARK_WORDS {
-        return Written {
-            number: 1,
-            count: 0,
-        };
-    }
-    if !record::sound(d) {
+    if !ready(d, marks.len()) {
         return Written {
             number: 1,
             count: 0,
         };
     }
     note(d, marks, id, at, bytes)
+}
+
+// ---- a batch
+
+// The first of 1 and 22 that a batch is refused with, or 0: whether record and marks are sound, and whether there are too many records.
+fn begin_number(whole: bool, many: bool) -> u8
+    ensures { λ r. ⌜ r ≡ refusal ((whole else 1) ∷ (not many else 22) ∷ []) ⌝ }
+{
+    if !whole {
+        return 1;
+    }
+    if many {
+        return 22;
+    }
+    0
+}
+
+// A batch of `total` records before its first note. Refused, in this order: 1, 22 more than 1,024 records.
+fn begin(d: Device, words: usize, total: usize) -> Batched
+    ensures { λ r. ⌜ r ≡ beginOf d words total ⌝ }
+{
+    let whole = ready(d, words);
+    let number = begin_number(whole, total > MOST_NOTES);
+    Batched {
+        number,
+        done: 0,
+        count: 0,
+        refusal: 0,
+    }
+}
+
+// Whether a batch of `total` records that has come so far has a note to do.
+fn due(b: Batched, total: usize) -> bool
+    ensures { λ r. ⌜ r ≡ isDue b total ⌝ }
+{
+    if b.number != 0 {
+        return false;
+    }
+    if b.refusal != 0 {
+        return false;
+    }
+    b.done < total
+}
+
+// A batch after one more note: done, it is counted; refused, it cuts the batch.
+fn tally(b: Batched, w: Written) -> Batched
+    requires { ⌜ (b .done + 1 < 2 ^ 64) × (b .count + w .count < 2 ^ 64) ⌝ }
+    ensures { λ r. ⌜ r ≡ tallyOf b w ⌝ }
+{
+    let more = b.done + 1;
+    let sum = b.count + w.count;
+    if w.number != 0 {
+        return Batched {
+            number: b.number,
+            done: b.done,
+            count: b.count,
+            refusal: w.number,
+        };
+    }
+    Batched {
+        number: b.number,
+        done: more,
+        count: sum,
+        refusal: b.refusal,
+    }
+}
+
+// Notes the writes of a list one after another, as `write` would, up to the first that is refused; that cuts the batch, and the batch is done. Refused, in
+// this order: 1, 22 more than 1,024 records.
+pub fn batch(d: Device, marks: &mut [u64], list: &[WriteRecord]) -> Batched
+    ensures { λ r. ⌜ (r ≡ batchChange d (now (marks .entry)) (now (list .entry)) .answer) × (now (marks .exit) ≡ batchChange d (now (marks .entry)) (now (list .entry)) .marks) ⌝ }
+{
+    let mut b = begin(d, marks.len(), list.len());
+    while due(b, list.len()) {
+        let w = list[b.done];
+        let r = note(d, marks, w.id, w.address, w.bytes);
+        b = tally(b, r);
+    }
+    b
+}
+
+// A batch of the first n of some records, for a caller that holds them by value. There is room for one more than a batch may have, so that a list that is too
+// long is seen.
+pub fn batch_of(d: Device, marks: &mut [u64], list: [WriteRecord; 1025], n: usize) -> Batched
+    requires { ⌜ n ≤ 1025 ⌝ }
+    ensures { λ r. ⌜ (r ≡ batchChange d (now (marks .entry)) (take n list) .answer) × (now (marks .exit) ≡ batchChange d (now (marks .entry)) (take n list) .marks) ⌝ }
+{
+    batch(d, marks, &list[..n])
 }

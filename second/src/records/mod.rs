@@ -12,7 +12,7 @@ use crate::cases::play_cases;
 use crate::device::Device;
 use crate::little_endian::put;
 use crate::report::read_report;
-use crate::rules::{Reason, Record, Refusal, UNSOUND};
+use crate::rules::{Note, Reason, Record, Refusal, UNSOUND};
 
 use self::case::{read_case, record_bytes, Call, Case, CASE_BYTES, MOST_DATA, MOST_WORDS};
 use self::marks::{clear_words, mark_pending, pending_units, MARK_WORDS};
@@ -84,7 +84,7 @@ fn done(case: &Case) -> Result<Outcome, Reason> {
             device.stop(case.id)?;
             clear_words(&device.record, case.id, &mut after.words);
         }
-        Call::Write { address, bytes } => after.count = device.write(case.id, address, bytes)?,
+        Call::Write { address, bytes } => after.count = device.write(&Note { id: case.id, address, bytes })?,
         Call::Receive => {
             device.receive(case.id, &mut after.data)?;
             after.report = report_numbers(&after.data);

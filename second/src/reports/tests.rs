@@ -5,7 +5,7 @@ use super::reader::Refused;
 use super::*;
 use crate::device::Device;
 use crate::report::{report_bytes, Report};
-use crate::rules::{Range, Settings};
+use crate::rules::{Note, Range, Settings};
 use crate::structure::structure_bytes;
 
 /// A report by its fields, with all reserved bits and bytes set: they are ignored.
@@ -200,7 +200,7 @@ fn what_a_device_reports_is_read_back() {
     device.start(5, &structure_bytes(8, &ranges)).unwrap();
     // Units 0 and 2 of the first range, and the last one of memory: two runs in 63 bytes, then one, then none.
     for address in &[1048576, 3145728, u64::MAX] {
-        assert_eq!(device.write(5, *address, 1), Ok(1));
+        assert_eq!(device.write(&Note { id: 5, address: *address, bytes: 1 }), Ok(1));
     }
     device.suspend(5, 1).unwrap();
     let reported: [(bool, &[(u128, u128)]); 3] =

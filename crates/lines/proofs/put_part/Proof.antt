@@ -1,10 +1,10 @@
--- `session::put_part` is safe, ends, and stays in the line's buffer. The measure is the number of bytes left.
+-- `lines::put_part` is safe, ends, and stays in the line's buffer. The measure is the number of bytes left.
 use Prim.Native.Nat.{_≤_, _-_}
 use mathlib.Core.Path.{_≡_}
 use borrow.Author.Needs.{needs}
 use lib.ListN.{length}
-use Rattle.session.proofs.put_part.Statement.{statement}
-use Rattle.session.proofs.put_part.Tie as tie
+use Rattle.lines.proofs.put_part.Statement.{statement}
+use Rattle.lines.proofs.put_part.Tie as tie
 
 abbrev Inv-loop : tie.InvT-loop
 Inv-loop line₀ used part at₀ i₀ line at i = (length line ≡ length line₀) × (at ≤ length line) × (i ≤ length part)

@@ -1,9 +1,9 @@
--- `session::play_line` is safe: the line lies in its buffer.
+-- `listings::play_line` is safe: the line lies in its buffer.
 use mathlib.Core.Path.{sym}
 use lib.Seq.{length-take-le}
 use borrow.Author.Needs.{needs}
-use Rattle.session.proofs.play_line.Statement.{statement}
-use Rattle.session.proofs.play_line.Tie as tie
+use Rattle.listings.proofs.play_line.Statement.{statement}
+use Rattle.listings.proofs.play_line.Tie as tie
 
 slice-aggregate-play : tie.Need-slice-aggregate-play
 slice-aggregate-play c = sym (length-take-le _ _ (search needs))

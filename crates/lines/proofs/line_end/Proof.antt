@@ -1,9 +1,9 @@
--- `session::line_end` answers a place in the input, and ends. The measure is what is left of the input.
+-- `lines::line_end` answers a place in the input, and ends. The measure is what is left of the input.
 use Prim.Native.Nat.{_≤_, _-_}
 use borrow.Author.Needs.{needs}
 use lib.ListN.{length}
-use Rattle.session.proofs.line_end.Statement.{statement}
-use Rattle.session.proofs.line_end.Tie as tie
+use Rattle.lines.proofs.line_end.Statement.{statement}
+use Rattle.lines.proofs.line_end.Tie as tie
 
 abbrev Inv-loop : tie.InvT-loop
 Inv-loop input from i₀ i = (from ≤ i) × (i ≤ length input)

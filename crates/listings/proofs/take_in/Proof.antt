@@ -1,10 +1,10 @@
--- `session::take_in` is safe and ends: each turn passes a line feed or the rest. The measure is what is left of the input.
+-- `listings::take_in` is safe and ends: each turn passes a line feed or the rest. The measure is what is left of the input.
 use Prim.Native.Nat.{_≤_, _-_}
 use mathlib.Core.Path.{_≡_}
 use lib.ListN.{length}
 use borrow.Author.Needs.{needs}
-use Rattle.session.proofs.take_in.Statement.{statement}
-use Rattle.session.proofs.take_in.Tie as tie
+use Rattle.listings.proofs.take_in.Statement.{statement}
+use Rattle.listings.proofs.take_in.Tie as tie
 
 abbrev Inv-loop : tie.InvT-loop
 Inv-loop marks₀ line₀ out₀ input s₀ at₀ marks line out s at = (length marks ≡ length marks₀) × (length line ≡ length line₀) × (s .length ≤ length line) × (at ≤ length input)

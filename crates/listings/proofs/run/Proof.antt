@@ -1,16 +1,16 @@
--- `session::run` is safe and ends. The loop's invariant: the buffers keep their lengths, and the line lies in its buffer. The measure is the number of turns left.
+-- `listings::run` is safe and ends. The loop's invariant: the buffers keep their lengths, and the line lies in its buffer. The measure is the number of turns left.
 use Prim.Native.Nat.{_≤_}
 use mathlib.Core.Path.{_≡_}
 use lib.ListN.{length}
 use borrow.Author.Needs.{needs}
-use Rattle.session.proofs.run.Statement.{statement}
-use Rattle.session.proofs.run.Tie as tie
+use Rattle.listings.proofs.run.Statement.{statement}
+use Rattle.listings.proofs.run.Tie as tie
 
 abbrev Inv-loop : tie.InvT-loop
-Inv-loop marks₀ line₀ out₀ input₀ s₀ turns₀ marks line out input s turns = (length marks ≡ length marks₀) × (length line ≡ length line₀) × (length input ≡ length input₀) × (s .length ≤ length line)
+Inv-loop shelf marks₀ line₀ out₀ input₀ s₀ turns₀ marks line out input s turns = (length marks ≡ length marks₀) × (length line ≡ length line₀) × (length input ≡ length input₀) × (s .length ≤ length line)
 
 abbrev μ-loop : tie.MeasureT-loop
-μ-loop marks₀ line₀ out₀ input₀ s₀ turns₀ marks line out input s turns = turns
+μ-loop shelf marks₀ line₀ out₀ input₀ s₀ turns₀ marks line out input s turns = turns
 
 none-requires : tie.Need-none-requires Inv-loop μ-loop
 none-requires c κs = search needs

@@ -1,0 +1,72 @@
+-- W4, as statements: a batch of write notes is its tried notes as single calls, and demands 2 and 3 are read over those.
+use Prim.Native.Nat.{ℕ, _≤_, _<_}
+use mathlib.Core.Path.{_≡_}
+use mathlib.Core.Bool.{true, false, cond}
+use mathlib.Core.List.{List, [], _∷_, map}
+use lib.ListN.{length}
+use Rattle.rules.specs.Lists.{sum}
+use Rattle.rules.specs.Order.{batchOrder}
+use Rattle.rules.specs.Machine.{Call, Event, countsIn, numberOf, newlyOf}
+use Rattle.rules.specs.History.{only, isAccepted}
+use Rattle.rules.specs.Demands.{sessionEnd, unhindered}
+use Rattle.rules.specs.declared.Settings.{Settings}
+use Rattle.record.specs.Record.{soundWith}
+use Rattle.calls.specs.declared.WriteRecord.{WriteRecord}
+use Rattle.calls.specs.Calls.{freshChange, batchChange}
+use Rattle.demands.specs.Sessions.{Left, Step, one, leftAfter, answersTo, tried, endOf, endBy, callsIn, historyIn}
+use Rattle.demands.specs.Demand1.{Answers}
+use Rattle.demands.specs.Demand2.{Equals, Stands}
+use Rattle.demands.specs.Demand3.{Agree}
+
+-- ---- what the answers to some notes say together
+
+-- how many were done
+abbrev pub doneIn : List Event → ℕ
+doneIn es = sum (map (λ (e : Event). cond (isAccepted (e .answer)) 1 0) es)
+
+-- how many units they made pending
+abbrev pub newlyIn : List Event → ℕ
+newlyIn es = sum (map (λ (e : Event). newlyOf (e .answer)) es)
+
+-- the number of the last one, 0 where there is none
+abbrev pub lastNumber : List Event → ℕ
+lastNumber [] = 0
+lastNumber (e ∷ []) = numberOf (e .answer)
+lastNumber (e ∷ f ∷ es) = lastNumber (f ∷ es)
+
+-- ---- a batch
+
+-- "It does exactly the single notes in list order up to the first refused one and answers the number done, the total newly pending and the refusal, if any; such a
+-- batch counts as done. An empty list is done with 0. At most 1,024 records": a batch of records rs, given l
+pub record IsNotes (l : Left) (rs : List WriteRecord) : Type 0 where
+  -- 1, then 22; a refused one answers zeros and changes no mark
+  pub answers : let c = batchChange (l .device) (l .marks) rs in
+      Answers (c .answer .number) (batchOrder (soundWith (l .device) (length (l .marks))) (length rs))
+      ((c .answer .done ≡ 0) × (c .answer .count ≡ 0) × (c .answer .refusal ≡ 0) × (c .marks ≡ l .marks))
+  pub unsound : soundWith (l .device) (length (l .marks)) ≡ false → batchChange (l .device) (l .marks) rs .answer .number ≡ 1
+  pub many : soundWith (l .device) (length (l .marks)) ≡ true → 1024 < length rs → batchChange (l .device) (l .marks) rs .answer .number ≡ 22
+  pub few : soundWith (l .device) (length (l .marks)) ≡ true → length rs ≤ 1024 → batchChange (l .device) (l .marks) rs .answer .number ≡ 0
+  -- a done one leaves what its tried notes leave, and answers what they answer together
+  pub leaves : let c = batchChange (l .device) (l .marks) rs in
+      c .answer .number ≡ 0 → record { device = l .device; marks = c .marks } ≡ leftAfter l (tried l rs)
+  pub says : let c = batchChange (l .device) (l .marks) rs in
+      let es = answersTo l (tried l rs) in
+      c .answer .number ≡ 0 → (c .answer .done ≡ doneIn es) × (c .answer .count ≡ newlyIn es) × (c .answer .refusal ≡ lastNumber es)
+
+-- ---- sessions
+
+pub record Batches : Type 1 where
+  pub notes : (l : Left) (rs : List WriteRecord) → IsNotes l rs
+  -- a session with batches leaves what the session of its calls leaves; one with none is its calls
+  pub session : (s : Settings) (ws : List ℕ) (xs : List Step) → endBy s ws xs ≡ endOf s ws (callsIn s ws xs)
+  pub calls : (s : Settings) (ws : List ℕ) (ks : List Call) → callsIn s ws (map one ks) ≡ ks
+  -- demand 2: it comes for each controller to what the rules give for these calls, and each stands as its calls and answers tell
+  pub rules : (s : Settings) (a : ℕ) (ws : List ℕ) (xs : List Step) → length (s .identifiers) ≡ 8 → Equals s a ws (callsIn s ws xs) (callsIn s ws xs)
+  pub stands : (s : Settings) (ws : List ℕ) (xs : List Step) → length (s .identifiers) ≡ 8 → freshChange s ws .answer .number ≡ 0
+      → (a : ℕ) → Stands s (endBy s ws xs) (historyIn s ws (callsIn s ws xs) a) (countsIn (sessionEnd s (length ws) (callsIn s ws xs))) a
+  -- demand 3: "For demand 3 a batch is its notes carried out, each answered singly; a cut by another controller's note is outside": then A's calls differ
+  pub together : (s : Settings) (a : ℕ) (ws ws′ : List ℕ) (xs xs′ : List Step) → length (s .identifiers) ≡ 8 → length ws ≡ length ws′
+      → only a (callsIn s ws xs) ≡ only a (callsIn s ws′ xs′) → unhindered (historyIn s ws (callsIn s ws xs) a) ≡ true → unhindered (historyIn s ws′ (callsIn s ws′ xs′) a) ≡ true
+      → Agree s a ws ws′ (callsIn s ws xs) (callsIn s ws′ xs′)
+  pub alone : (s : Settings) (a : ℕ) (ws : List ℕ) (xs : List Step) → length (s .identifiers) ≡ 8
+      → unhindered (historyIn s ws (callsIn s ws xs) a) ≡ true → Equals s a ws (callsIn s ws xs) (only a (callsIn s ws xs))

@@ -1,0 +1,55 @@
+// Input on its way into lines: where a line ends, what of it is kept, and reading itself. What a line says is nothing to this.
+
+use libc::STDIN_FILENO;
+ghost use Prim.Native.Nat.{_≤_};
+ghost use lib.ListN.{length};
+ghost use Rattle.io.specs.Counts.{Counts};
+
+// Where a line ends in some input: at the next line feed, or at the end of the input.
+pub fn line_end(input: &[u8], from: usize) -> usize
+    requires { ⌜ from ≤ length (now input) ⌝ }
+    ensures { λ r. ⌜ (from ≤ r) × (r ≤ length (now (input .entry))) ⌝ }
+{
+    let mut i = from;
+    while i < input.len() {
+        if input[i] == b'\n' {
+            return i;
+        }
+        i = i + 1;
+    }
+    i
+}
+
+// Puts a byte behind the `at` bytes of a line that are there, or drops it: a line that fills its buffer is too long already.
+fn keep_byte(line: &mut [u8], at: usize, b: u8) -> usize
+    requires { ⌜ at ≤ length (now line) ⌝ }
+    ensures { λ r. ⌜ r ≤ length (now (line .entry)) ⌝ }
+{
+    if at < line.len() {
+        line[at] = b;
+        return at + 1;
+    }
+    at
+}
+
+// Puts bytes behind the `used` bytes of a line that are there.
+pub fn put_part(line: &mut [u8], used: usize, part: &[u8]) -> usize
+    requires { ⌜ used ≤ length (now line) ⌝ }
+    ensures { λ r. ⌜ r ≤ length (now (line .entry)) ⌝ }
+{
+    let mut at = used;
+    let mut i: usize = 0;
+    while i < part.len() {
+        at = keep_byte(line, at, part[i]);
+        i = i + 1;
+    }
+    at
+}
+
+// Reads once, and answers how many bytes came: 0 at the end of the input, and where reading fails.
+pub fn read_some(input: &mut [u8]) -> usize
+    ensures { λ r. ⌜ Counts r (now (input .exit)) ⌝ }
+{
+    let got = libc::read(STDIN_FILENO, input);
+    io::count(got, input)
+}
