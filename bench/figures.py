@@ -1,6 +1,9 @@
 """From times to ratios. Every figure is a difference of times, so that what both listings do (starting, reading lines, answering) falls out."""
 
+from sessions import BATCHES
+
 PROVED, PLAIN, TESTED = "proved", "plain C", "C with the test"
+SHELF = "proved, in batches"
 
 
 class Costs:
@@ -31,6 +34,10 @@ class Costs:
     def write(self, record, body="writes"):
         return self.on(record, body) / self.calls[body] - self.done()
 
+    def note(self, record):
+        """A note in a batch: the answer of 1,024 of them is one line, so nothing is taken off for it."""
+        return self.on(record, BATCHES) / self.calls[BATCHES]
+
     def report(self, record, session):
         return (self.on(record, session) - self.on(record, session + ", no reports")) / self.calls[session]
 
@@ -56,6 +63,11 @@ def ratio(cost):
     return lambda programs, record, other: cost(programs[PROVED], record) / cost(programs[other], record)
 
 
+def burst(programs, record, other):
+    """A note in a batch of the proved program to a write of another."""
+    return programs[SHELF].note(record) / programs[other].write(record)
+
+
 def share(cost):
     """The soundness test's part of a program's cost, in percent."""
     return lambda programs, record, name: 100 * programs[name].test(record) / cost(programs[name], record)
@@ -66,5 +78,5 @@ def share_left_out(programs, record, name):
     return None if name == PROVED else 100 * (1 - programs[PLAIN].write(record) / programs[TESTED].write(record))
 
 
-RATIOS = {name: ratio(cost) for name, cost in {**CALLS, **REST}.items()}
+RATIOS = {**{name: ratio(cost) for name, cost in {**CALLS, **REST}.items()}, "a note in a batch of 1,024, to a C write": burst}
 SHARES = {**{name: share(cost) for name, cost in CALLS.items()}, "write, sparse, by leaving the test out": share_left_out}

@@ -6,6 +6,8 @@ from typing import NamedTuple
 UNIT, UNITS, FIRST = 4096, 4096, 1 << 32   # bytes of a unit, units of a controller, address of the first
 ID, UNKNOWN = 5, 4                         # as many digits in both, so that their lines cost the same to read
 RUNS = 255                                 # what a report of 4,096 bytes holds
+BATCH = 1024                               # the most notes of one batch (W4)
+BATCHES = "writes in batches"              # the one body that is a shelf listing
 
 DEV = "dev 1 0 8 0 128"
 NOTHING = []                               # no device: every line answers 1, and no call does any work
@@ -41,6 +43,12 @@ def few_writes(rng, count):
     return [write(rng.randrange(UNITS), rng.randrange(UNIT)) for _ in range(count)]
 
 
+def batches(writes):
+    """The same writes in batches of 1,024."""
+    notes = [line.removeprefix("write ") for line in writes]
+    return [" ".join(["batch", *notes[at:at + BATCH]]) for at in range(0, len(notes), BATCH)]
+
+
 def sparse(rng, reports):
     """Eight writes, a report, and so on: a report goes over 4,096 units and finds up to eight runs."""
     return [line for _ in range(reports) for line in few_writes(rng, 8) + [report()]]
@@ -67,12 +75,13 @@ def to_unknown(lines):
 def bodies(seed, scale):
     """What is played on a record, by name. Scale 1 fits an emulator."""
     rng = random.Random(seed)
-    writes = few_writes(rng, 40_000 * scale)
+    writes = few_writes(rng, 40 * BATCH * scale)
     all_units = [f"write {ID} {FIRST} {UNITS * UNIT}"] * (2_000 * scale)
     few_runs, many_runs = sparse(rng, 1_000 * scale), dense(rng, 80 * scale)
     return {
         "writes": Body(writes, len(writes)),
         "refused writes": Body(to_unknown(writes), len(writes)),
+        BATCHES: Body(batches(writes), len(writes)),
         "writes to all units": Body(all_units, len(all_units)),
         "sparse": Body(few_runs, 1_000 * scale),
         "sparse, no reports": Body(without_reports(few_runs), 1_000 * scale),

@@ -59,6 +59,20 @@ def line_of_bytes(length, filling, last, count=None):
     return batch_line([*((filling, 10 ** (share - 1), 0) for share in shares), last])
 
 
+# ---- Bad notes
+
+def bad_note(dice, note, unknown, suspended):
+    """A note that will be refused, made from a good one: of an unknown controller or a suspended one, past 2^64, or for
+    two reasons. For the makers of seeded cases."""
+    identifier, address, length = note
+    past = (max(2, address), END - max(2, address) + 1)
+    return dice.choice([
+        (unknown, address, length), (unknown, *past),
+        (suspended, address, length), (suspended, address, length), (suspended, *past),
+        (identifier, *past), (identifier, END - 1, 2), (identifier, END - 1, END - 1),
+    ])
+
+
 # ---- Answers
 
 def batch_answer(answers):

@@ -2,7 +2,7 @@
 
 import copy
 
-from record_case import ALL_ONES, MEMORY, Case, Controller, Record, structure
+from record_case import ALL_ONES, MEMORY, MOST_ROWS, Case, Controller, Record, batch, structure
 
 MIXED = 0x8E5A0F3C7001C0D1  # a mark word with set and clear bits in every byte
 WRONG_WORDS = (0, 1, 64, 511, 513, 600)  # "marks are not 512 words"
@@ -147,6 +147,7 @@ BASE_CALLS = {
     "receive": dict(id=5, data=b"\xaa" * 64),
     "suspend": dict(id=5, type=1),
     "resume": dict(id=7),
+    "batch": batch((5, 69632, 1), (5, 65536, 1)),
 }
 
 SOUND, UNSOUND, BROKEN = (0, 0), (0, 1), (16, 1)
@@ -411,6 +412,75 @@ ROWS = [
     *[(structure(0, listed(3, {2: one}), reserved=65535) + b"\xff" * 100, [number, 2]) for number, one in BAD.items()],
 ]
 
+# The device of a batch's worked numbers: controllers 5 and 6, of which 5 tracks 4 units from page 16 on. So 7 stands in an
+# unused place.
+WORKED = both(settings(count=2), tracked(0, (65536, 4)))
+
+# Four controllers for batches. 5 and 7 are the base's; 6 tracks pages 0 to 3, the low bits of word 64; 8 tracks two units
+# of 1 MiB, the low bits of word 192.
+FOUR = both(identifiers(5, 6, 7, 8), tracked(0, (0, 4), place=1), tracked(8, (0, 2), place=3))
+
+# Notes on these, and after so many of them: how many units are new, and the mark words that have changed.
+NOTES = [(5, 65536, 1), (6, 4096, 4097), (8, 1048575, 2)]
+LEFT = [(0, {}), (1, {0: 0b1}), (3, {0: 0b1, 64: 0b110}), (5, {0: 0b1, 64: 0b110, 192: 0b11})]
+ALL_UNITS = [(id, 0, ALL_ONES) for id in (5, 6, 8)]
+
+# Notes that are refused there, with their numbers, in the order of a write: 2 (1 is the manager, 9 stands in an unused
+# place), 4, 14.
+BAD_NOTES = [
+    *[(2, one) for one in ((1, 0, 1), (9, 0, 0), (5 + 256, 65536, 1), (9, 2, ALL_ONES))],
+    *[(4, one) for one in ((7, 1048576, 1), (7, 0, 0), (7, 2, ALL_ONES))],
+    *[(14, one) for one in ((5, ALL_ONES, 2), (6, 2, ALL_ONES), (8, ALL_ONES, ALL_ONES))],
+]
+A_BAD_NOTE = {2: (9, 0, 1), 4: (7, 0, 1), 14: (6, 2, ALL_ONES)}  # of each number; refused on the base too
+
+PAGES = [(5, 4096 * page, 1) for page in range(MOST_ROWS)]
+EVERY_MARK = {word: ALL_ONES for word in range(64)}  # of controller 5
+
+
+def noted(done, new, cut=0):
+    """The numbers of a done batch."""
+    return [0, 0, new, 0, 0, 0, 0, done, cut]
+
+
+# What a batch answers: "the single notes in list order up to the first refused one and answers the number done, the total
+# newly pending and the refusal, if any". Here the whole answer is known: only the mark words that are named change.
+BATCHES = [
+    # Each refusal in each place. Behind it stand notes that would mark all, if they were tried.
+    *[("batch", batch(*NOTES[:place], bad, *ALL_UNITS), noted(place, new, number), marks)
+      for place, (new, marks) in enumerate(LEFT) for number, bad in BAD_NOTES],
+    # Two refusals: the earlier one.
+    *[("batch", batch(NOTES[0], one, other, *NOTES), noted(1, 1, number), {0: 1})
+      for number, one in BAD_NOTES for other in A_BAD_NOTE.values()],
+    # None, in any order.
+    *[("batch", batch(*NOTES[:place]), noted(place, new), marks) for place, (new, marks) in enumerate(LEFT)],
+    ("batch", batch(*reversed(NOTES)), noted(3, 5), LEFT[3][1]),
+    ("batch", batch(*NOTES, *NOTES), noted(6, 5), LEFT[3][1]),
+    # "The total newly pending": there are 6, 4 and 2 units, of which none, some or all were pending. The low byte of MIXED
+    # is 11010001b.
+    *[("batch", dict(mark=MIXED, **batch(*NOTES, bad, *ALL_UNITS)), noted(3, 3, number), {64: MIXED | 0b110, 192: MIXED | 0b11})
+      for number, bad in BAD_NOTES],
+    ("batch", batch(*ALL_UNITS), noted(3, 12), {0: 0b111111, 64: 0b1111, 192: 0b11}),
+    ("batch", batch(*NOTES, *ALL_UNITS), noted(6, 12), {0: 0b111111, 64: 0b1111, 192: 0b11}),
+    ("batch", dict(mark=0b0101, **batch(*ALL_UNITS)), noted(3, 7), {0: 0b111111, 64: 0b1111, 192: 0b0111}),
+    ("batch", dict(mark=ALL_ONES - 63, **batch(*ALL_UNITS)), noted(3, 12),
+     {0: ALL_ONES, 64: ALL_ONES - 0b110000, 192: ALL_ONES - 0b111100}),
+    ("batch", dict(mark=ALL_ONES, **batch(*NOTES, *ALL_UNITS)), noted(6, 0)),
+    # Record j is row j modulo the number of rows. A row past the last record isn't one of the batch.
+    *[("batch", batch(*NOTES, records=records), noted(records, new), marks) for records, (new, marks) in enumerate(LEFT)],
+    *[("batch", batch(*NOTES, records=records), noted(records, 5), LEFT[3][1]) for records in (4, 5, 6, 7, 1023, 1024)],
+    *[("batch", batch(*NOTES, bad, records=3), noted(3, 5), LEFT[3][1]) for _, bad in BAD_NOTES],
+    *[("batch", batch(*NOTES, bad, records=1024), noted(3, 5, number), LEFT[3][1]) for number, bad in BAD_NOTES],
+    # "At most 1,024 records", whatever they are.
+    ("batch", batch(*NOTES, records=1025), [22]),
+    *[("batch", dict(mark=MIXED, **batch(bad, records=1025)), [22]) for _, bad in BAD_NOTES],
+    *[("batch", batch(*NOTES, bad, records=1025), [22]) for _, bad in BAD_NOTES],
+    *[("batch", batch(bad, *NOTES, records=1024), noted(0, 0, number)) for number, bad in BAD_NOTES],
+    # What only other calls take is not looked at.
+    ("batch", dict(id=9, address=2, bytes=ALL_ONES, type=255, **batch(*NOTES)), noted(3, 5), LEFT[3][1]),
+    ("batch", dict(id=7, **batch()), noted(0, 0)),
+]
+
 # Sound records, by their change to the base, and calls on them: the call, its fields, the first numbers of the answer
 # (the row is 0 unless said); of some also mark words after the call, by their number, and the report's runs. Marks are 0
 # unless said. Controller 5's bits 0 to 3 are pages 16 to 19, its bits 4 and 5 pages 0 and 1.
@@ -529,6 +599,40 @@ ORDERS = [
         ("resume", dict(id=5), [13]),
         ("resume", dict(id=6), [13]),
         ("resume", dict(id=7), [0]),
+        # "An empty list is done with 0", also with rows that no record has. Records without rows are of controller 0.
+        ("batch", batch(), noted(0, 0)),
+        ("batch", dict(mark=MIXED, **batch()), noted(0, 0)),
+        ("batch", batch((5, 65536, 1), records=0), noted(0, 0)),
+        *[("batch", batch(records=records), noted(0, 0, 2)) for records in (1, 1024)],
+        ("batch", batch(records=1025), [22]),
+        # The edges of a write, as notes.
+        ("batch", batch((5, 65536, 0), (5, ALL_ONES, 0), (5, ALL_ONES, 1), (5, 65535, 1), (5, 81920, 1)), noted(5, 0)),
+        ("batch", batch((6, 0, ALL_ONES), (6, 1, ALL_ONES)), noted(2, 0)),
+        ("batch", batch((6, 0, ALL_ONES), (6, 2, ALL_ONES)), noted(1, 0, 14)),
+        ("batch", batch((5, 73727, 2), (5, 65535, 2), (5, 1, ALL_ONES)), noted(3, 6), {0: 0b111111}),
+        ("batch", batch((5, 4096, ALL_ONES - 4095), (5, 0, 1)), noted(2, 6), {0: 0b111111}),
+        # As many records as may be, and one more or less.
+        *[("batch", batch((5, 65536, 1), records=records), noted(records, 1), {0: 1}) for records in (1023, 1024)],
+        ("batch", batch((5, 65536, 1), records=1025), [22]),
+    ]),
+    ("worked batches", WORKED, [
+        ("batch", batch((5, 69632, 1), (5, 73727, 2), (6, 0, 5), (7, 0, 1), (5, 65536, 1)), noted(3, 2, 2), {0: 0b0110}),
+        ("batch", batch((7, 0, 1)), noted(0, 0, 2)),
+        ("batch", batch(), noted(0, 0)),
+        ("batch", batch((5, 65536, 1), (5, 65536, 1)), noted(2, 1), {0: 1}),
+        ("batch", batch((5, 65536, 1), records=1024), noted(1024, 1), {0: 1}),
+        ("batch", batch((5, ALL_ONES, 1), (5, ALL_ONES, 2)), noted(1, 0, 14)),
+        ("batch", batch((7, 0, 0), records=1024), noted(0, 0, 2)),
+        ("batch", batch((7, 0, 0), records=1025), [22]),
+    ]),
+    ("worked batches, 5 suspended", both(WORKED, suspended(1)), [
+        ("batch", batch((6, 0, 1), (5, 65536, 1), (6, 0, 1)), noted(1, 0, 4)),
+    ]),
+    ("batches", FOUR, BATCHES),
+    ("0 among the identifiers", both(identifiers(*EIGHT), tracked(0, (0, 1), place=3)), [
+        *[("batch", batch(records=records), noted(records, 0)) for records in (1, 1024)],
+        ("batch", batch(records=1025), [22]),
+        ("batch", batch((0, 0, 1), records=2), noted(2, 1), {192: 1}),
     ]),
     ("rule on", both(settings(rule=1), in_place(2, 0, 1048576, 4)), [
         ("start", dict(id=6, data=structure(0, [(65536, 3)])), [10]),
@@ -551,15 +655,24 @@ ORDERS = [
         ("write", dict(id=6, address=0, bytes=1), [4]),
         ("receive", dict(id=6, data=b"\xaa" * 64), [5]),
         ("resume", dict(id=6), [0]),
+        ("batch", batch((5, 65536, 1), (6, 0, 1), (5, 69632, 1)), noted(1, 1, 4), {0: 1}),
     ]),
     ("4,096 units", tracked(0, (0, 4096)), [
         ("write", dict(id=5, address=0, bytes=ALL_ONES), [0, 0, 4096]),
         ("receive", dict(id=5, data=b"\xaa" * 32, mark=ALL_ONES), [0, 0, 0, 0, 0, 0, 1]),
+        # As many rows as a case can have, a page each; then a bad one in the place of another.
+        ("batch", batch(*PAGES), noted(56, 56), {0: 2**56 - 1}),
+        ("batch", batch(*PAGES, records=1024), noted(1024, 56), {0: 2**56 - 1}),
+        *[("batch", batch(*PAGES[:place], bad, *PAGES[place + 1:]), noted(place, place, number), {0: 2**place - 1})
+          for place in (1, 27, 54, 55) for number, bad in A_BAD_NOTE.items()],
+        ("batch", batch((5, 0, 2**23), (5, 0, ALL_ONES)), noted(2, 4096), EVERY_MARK),
     ]),
     ("to 2^64", tracked(0, (MEMORY - 2**24, 4096)), [
         ("write", dict(id=5, address=ALL_ONES, bytes=1), [0, 0, 1]),
         ("write", dict(id=5, address=1, bytes=ALL_ONES), [0, 0, 4096]),
         ("receive", dict(id=5, data=b"\xaa" * 32, mark=ALL_ONES), [0, 0, 0, 0, 0, 0, 1]),
+        ("batch", batch((5, ALL_ONES, 1), (5, ALL_ONES, 2)), noted(1, 1, 14), {63: 2**63}),
+        ("batch", batch((5, ALL_ONES, 1), (5, 1, ALL_ONES), (5, 2, ALL_ONES)), noted(2, 4096, 14), EVERY_MARK),
     ]),
     # Page 17, then pages 15 to 18, then page 16, then pages 14 to 19. So bit 0 is page 17, bits 1 to 3 are pages 15, 16
     # and 18, the third range has none, and bits 4 and 5 are pages 14 and 19.
@@ -586,6 +699,14 @@ ORDERS = [
          {0: 0, 1: 0b110000}, [(57344, 1), (77824, 1)]),
         ("receive", dict(id=5, data=b"\xaa" * 48, mark=ALL_ONES - 63), [0, 0, 0, 0, 0, 0, 0], {0: ALL_ONES - 63}),
         ("stop", dict(id=5, mark=ALL_ONES), [0], {0: 0, 63: 0, 64: ALL_ONES}),
+        # Page 17, pages 16 and 17, page 14; pages 15 to 18, and all; a byte of each page.
+        ("batch", batch((5, 69632, 1), (5, 65536, 8192), (5, 57344, 1)), noted(3, 3), {0: 0b010101}),
+        ("batch", batch((5, 61440, 16384), (5, 0, ALL_ONES)), noted(2, 6), {0: 0b111111}),
+        ("batch", batch(*[(5, 4096 * page + 4095, 1) for page in range(13, 21)]), noted(8, 6), {0: 0b111111}),
+        ("batch", dict(mark=0b000100, **batch((5, 65536, 8192), (5, 69632, 1), (5, 61440, 1))), noted(3, 2), {0: 0b000111}),
+        ("batch", dict(mark=ALL_ONES - 63, **batch((5, 69632, 1), (5, 0, ALL_ONES))), noted(2, 6), {0: ALL_ONES}),
+        *[("batch", batch((5, 69632, 1), (5, 57344, 8192), bad, (5, 0, ALL_ONES)), noted(2, 3, number), {0: 0b010011})
+          for number, bad in A_BAD_NOTE.items()],
         # 5 of the limit's 16 are taken.
         ("start", dict(id=6, data=structure(0, [(65536, 1)] * 11), mark=ALL_ONES), [0],
          {63: ALL_ONES, 64: 0, 127: 0, 128: ALL_ONES}),
@@ -594,10 +715,12 @@ ORDERS = [
     ("sixteen are the same", tracked(0, *[(65536, 2)] * 16, limit=128), [
         ("write", dict(id=5, address=0, bytes=ALL_ONES), [0, 0, 2], {0: 0b11, 1: 0}),
         ("receive", dict(id=5, data=b"\xaa" * 272, mark=ALL_ONES), [0, 0, 0, 0, 0, 0, 1], {0: ALL_ONES - 3}, [(65536, 2)]),
+        ("batch", batch((5, 65536, 1), (5, 69632, 1), (5, 65536, 8192), records=1024), noted(1024, 2), {0: 0b11}),
     ]),
     ("4,096 units twice", tracked(0, (0, 4096), (0, 4096)), [
         ("write", dict(id=5, address=0, bytes=ALL_ONES), [0, 0, 4096], {0: ALL_ONES, 63: ALL_ONES, 64: 0}),
         ("receive", dict(id=5, data=b"\xaa" * 32, mark=ALL_ONES), [0, 0, 0, 0, 0, 0, 1], {0: 0, 63: 0, 64: ALL_ONES}, [(0, 4096)]),
+        ("batch", batch((5, 0, 2**23), (5, 2**23, 2**23), (5, 0, 2**24)), noted(3, 4096), EVERY_MARK),
     ]),
     # Page 4095 is unit 0, and each other page p is unit p + 1.
     ("page 4095 before 4,096 pages", tracked(0, (16773120, 1), (0, 4096)), [
@@ -611,6 +734,8 @@ ORDERS = [
          {0: ALL_ONES - 1, 1: ALL_ONES}, [(16773120, 1)]),
         ("receive", dict(id=5, data=b"\xaa" * 48, mark=ALL_ONES), [0, 0, 0, 0, 0, 0, 2], {0: 0, 63: 0, 64: ALL_ONES},
          [(16773120, 1), (0, 4095)]),
+        ("batch", batch((5, 0, 1), (5, 16773120, 1), (5, 4096 * 63, 1), (5, 4096 * 4094, 8192)), noted(4, 4),
+         {0: 0b11, 1: 1, 63: 2**63}),
     ]),
     # Unit 0 is page 100; pages 0 to 99 are units 1 to 100, and pages 101 to 199 units 101 to 199.
     ("page 100 before 200 pages", tracked(0, (409600, 1), (0, 200)), [
@@ -619,6 +744,7 @@ ORDERS = [
          {0: 0, 1: ALL_ONES - (2**37 - 1), 2: ALL_ONES}, [(409600, 1), (0, 100)]),
         ("receive", dict(id=5, data=b"\xaa" * 64, mark=ALL_ONES), [0, 0, 0, 0, 0, 0, 3],
          {0: 0, 1: 0, 2: 0, 3: ALL_ONES - 255, 4: ALL_ONES}, [(409600, 1), (0, 100), (413696, 99)]),
+        ("batch", batch((5, 4096 * 99, 3 * 4096), (5, 409600, 1), (5, 0, 4096)), noted(3, 4), {0: 0b11, 1: 0b11 << 36}),
     ]),
     ("last unit before the last two, granularity 20", tracked(20, (MEMORY - 2**32, 1), (MEMORY - 2**33, 2), greatest=20), [
         ("write", dict(id=5, address=ALL_ONES, bytes=1), [0, 0, 1], {0: 1}),
@@ -626,6 +752,7 @@ ORDERS = [
         ("write", dict(id=5, address=1, bytes=ALL_ONES), [0, 0, 2], {0: 3}),
         ("receive", dict(id=5, data=b"\xaa" * 48, mark=ALL_ONES), [0, 0, 0, 0, 0, 20, 2], {0: ALL_ONES - 3},
          [(MEMORY - 2**32, 1), (MEMORY - 2**33, 1)]),
+        ("batch", batch((5, MEMORY - 2**33, 1), (5, ALL_ONES, 1), (5, ALL_ONES, 2)), noted(2, 2, 14), {0: 3}),
     ]),
     ("sixteen touch", tracked(0, *sixteen(), limit=128), [
         ("receive", dict(id=5, data=b"\xaa" * 256, mark=ALL_ONES), [0, 0, 0, 0, 1, 0, 15]),
@@ -636,6 +763,12 @@ ORDERS = [
         ("receive", dict(id=4, data=b"\xaa" * 1024, mark=ALL_ONES), [0, 0, 0, 0, 0, 20, 16]),
         ("stop", dict(id=4, mark=ALL_ONES), [0]),
         ("resume", dict(id=7), [0]),
+        # The last unit of each in turn, up to 7, and then without it; and all units.
+        ("batch", batch(*[(id, 4095 * 2**32, 1) for id in EIGHT]), noted(2, 2, 4), {63: 2**63, 127: 2**63}),
+        ("batch", batch(*[(id, 4095 * 2**32, 1) for id in EIGHT if id != 7]), noted(7, 7),
+         {64 * place + 63: 2**63 for place, id in enumerate(EIGHT) if id != 7}),
+        ("batch", batch(*[(id, 0, ALL_ONES) for id in EIGHT if id != 7]), noted(7, 28672),
+         {word: ALL_ONES for word in range(512) if EIGHT[word // 64] != 7}),
     ]),
 ]
 
@@ -668,11 +801,11 @@ def wrong_words(build, said):
 
 
 def orders(build, said):
-    """Each call as it is; then on a record whose last controller is unsound in row 1, and with a word too few."""
+    """Each call as it is; then on a record whose last controller in use is unsound in row 1, and with a word too few."""
     for name, change_it, calls in ORDERS:
         record = changed(build, change_it)
         unsound = copy.deepcopy(record)
-        unsound.controllers[2].track(8, (1048576, 1), (1048577, 1))
+        unsound.controllers[record.count - 1].track(8, (1048576, 1), (1048577, 1))
         for call, fields, known, *after in calls:
             yield Case(record, call, **fields).named(f"{name}, {call}{said}", *known, **dict(zip(("marks", "runs"), after)))
             yield Case(unsound, call, **fields).named(f"{name}, {call}{said}, unsound", 1)

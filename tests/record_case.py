@@ -2,9 +2,11 @@
 
 import struct
 
-CALLS = ["fresh", "start", "stop", "write", "receive", "suspend", "resume"]
+CALLS = ["fresh", "start", "stop", "write", "receive", "suspend", "resume", "batch"]
 CASE_BYTES = 2944
 MOST_WORDS, MOST_DATA = 600, 1024  # that a case may lend
+ROW = struct.Struct("<HQQ")  # of a batch: id, address, bytes
+MOST_ROWS = MOST_DATA // ROW.size
 MEMORY = 2**64
 ALL_ONES = 2**64 - 1
 
@@ -63,10 +65,11 @@ class Case:
     """A record, lent marks and bytes, and one call. `known` are the answer's first numbers, as far as known by hand, the
     row 0 unless said; of some done calls also mark words and runs are known."""
 
-    def __init__(self, record, call, id=0, address=0, bytes=0, type=0, data=b"", words=512, mark=0):
+    def __init__(self, record, call, id=0, address=0, bytes=0, type=0, data=b"", records=0, words=512, mark=0):
         self.record = record
         self.call = call
-        self.id, self.address, self.bytes, self.type, self.data = id, address, bytes, type, data
+        self.id, self.address, self.bytes, self.type = id, address, bytes, type
+        self.data, self.records = data, records
         self.words, self.mark = words, mark
 
     def named(self, name, *known, marks=None, runs=()):
@@ -77,8 +80,8 @@ class Case:
 
     def packed(self):
         call = (self.words, self.mark, CALLS.index(self.call), self.id, self.address, self.bytes, self.type)
-        fields = struct.pack("<HQBHQQBH", *call, len(self.data)) + self.data
-        return (self.record.packed() + fields).ljust(CASE_BYTES, b"\0")
+        fields = struct.pack("<HQBHQQBH", *call, len(self.data)) + self.data.ljust(MOST_DATA, b"\0")
+        return (self.record.packed() + fields + struct.pack("<H", self.records)).ljust(CASE_BYTES, b"\0")
 
     def readable(self):
         yield f"case: {self.name}"
@@ -86,6 +89,8 @@ class Case:
         yield f"marks: {self.words} words of {self.mark:#x}"
         yield (f"call: {self.call}, id {self.id}, address {self.address}, bytes {self.bytes}, type {self.type}, "
                f"{len(self.data)} lent bytes {self.data.hex()}")
+        if self.call == "batch":
+            yield f"batch: {self.records} records, row after row of {list(ROW.iter_unpack(self.data))}"
         if self.known:
             numbers = ", ".join(f"{name} {number}" for name, number in zip(NUMBERS, self.known))
             marks = "".join(f", mark word {word} {mark:#x}" for word, mark in self.known_marks.items())
@@ -100,10 +105,15 @@ def structure(granularity, ranges, version=0, count=None, reserved=0):
     return header + b"".join(struct.pack("<QI", *one) for one in ranges)
 
 
+def batch(*rows, records=None):
+    """The fields of a batch with these rows (id, address, bytes), each once unless the number of records is said."""
+    return {"data": b"".join(ROW.pack(*one) for one in rows), "records": len(rows) if records is None else records}
+
+
 # ---- An answer
 
-NUMBERS = ["refusal", "row", "count", "suspended", "more", "granularity", "runs"]
-PACKED_NUMBERS = struct.Struct("<BBQBBBQ")
+NUMBERS = ["refusal", "row", "count", "suspended", "more", "granularity", "runs", "notes done", "cut"]
+PACKED_NUMBERS = struct.Struct("<BBQBBBQQB")
 ROW_RULES = (19, 20, 21)  # a start that is refused with one of these answers its row; every other row is 0
 
 
@@ -121,7 +131,7 @@ def record_fields():
 
 def answer_fields():
     """Name and width of each field of an answer, in their order."""
-    yield from zip(NUMBERS, [1, 1, 8, 1, 1, 1, 8])
+    yield from zip(NUMBERS, [1, 1, 8, 1, 1, 1, 8, 8, 1])
     at = 0
     for name, width in record_fields():
         yield f"record, byte {at}, {name}", width
@@ -133,6 +143,12 @@ def answer_fields():
 ANSWER_BYTES = sum(width for _, width in answer_fields())
 DATA_AT = ANSWER_BYTES - MOST_DATA
 MARKS_AT = DATA_AT - 8 * MOST_WORDS
+RECORD_AT = PACKED_NUMBERS.size
+
+
+def numbers_of(answer):
+    """An answer's first numbers, in the order of NUMBERS."""
+    return PACKED_NUMBERS.unpack_from(answer)
 
 
 def differences(one, other):
@@ -147,21 +163,32 @@ def differences(one, other):
 
 def asked_for(case, answer):
     """The answer that the documents ask for; of a random case as far as its number alone tells. Of a refused call all is
-    known: the number, the row, zeros, and what was given (of a fresh the closed device). Of a done one the first numbers
-    are known, at times some mark words and runs, and the rest is taken to be as answered."""
+    known: the number, the row, zeros, and what was given (of a fresh the closed device). So it is of a batch by hand whose
+    numbers are all known: what was given, save the mark words named. Of another done call the first numbers are known and
+    what it leaves as given, at times some mark words and runs, and the rest is taken to be as answered."""
     known = case.known or as_answered(case.call, *answer[:2])
-    if known[0]:
-        record = CLOSED if case.call == "fresh" else case.record.packed()
-        marks = struct.pack("<Q", case.mark) * case.words
-        return (PACKED_NUMBERS.pack(*known, 0, 0, 0, 0, 0) + record
-                + marks.ljust(8 * MOST_WORDS, b"\0") + case.data.ljust(MOST_DATA, b"\0"))
+    if known[0] or case.call == "batch" and len(known) == len(NUMBERS):
+        return given(case, known)
     asked = bytearray(answer)
-    PACKED_NUMBERS.pack_into(asked, 0, *known, *PACKED_NUMBERS.unpack_from(answer)[len(known):])
+    PACKED_NUMBERS.pack_into(asked, 0, *known, *numbers_of(answer)[len(known):])
+    if case.call in ("write", "batch", "receive"):
+        asked[RECORD_AT:MARKS_AT] = case.record.packed()
+    if case.call != "receive":
+        asked[DATA_AT:] = case.data.ljust(MOST_DATA, b"\0")
     for word, mark in case.known_marks.items():
         struct.pack_into("<Q", asked, MARKS_AT + 8 * word, mark)
     for row, (address, length) in enumerate(case.known_runs):
         struct.pack_into("<QII", asked, DATA_AT + 16 + 16 * row, address, length, 0)
     return bytes(asked)
+
+
+def given(case, known):
+    """These numbers, then zeros, and all that was given, save the mark words that are known to change."""
+    numbers = PACKED_NUMBERS.pack(*known, *[0] * (len(NUMBERS) - len(known)))
+    record = CLOSED if case.call == "fresh" else case.record.packed()
+    words = [case.known_marks.get(word, case.mark) for word in range(case.words)]
+    marks = struct.pack(f"<{case.words}Q", *words).ljust(8 * MOST_WORDS, b"\0")
+    return numbers + record + marks + case.data.ljust(MOST_DATA, b"\0")
 
 
 def as_answered(call, refusal, row):

@@ -3,9 +3,10 @@
 import random
 
 from bad_rows import with_bad_rows
+from batches import MOST_TAKEN, bad_note
 from overlap import beside_another, different_units
 from record_by_hand import WRONG_WORDS
-from record_case import ALL_ONES, CALLS, MEMORY, Case, Record, structure
+from record_case import ALL_ONES, CALLS, MEMORY, MOST_ROWS, Case, Record, batch, structure
 
 
 def cases(seed, count):
@@ -185,10 +186,8 @@ class Maker:
 
     def identifier(self, call):
         """Mostly one in use, and of these often one that the call isn't refused for."""
-        record, pick = self.record, self.random
         if self.chance(0.08):
-            return pick.choice([record.manager, pick.choice(record.identifiers), pick.randrange(65536)])
-        places = list(range(max(1, min(record.count, 8))))
+            return self.any_identifier()
         wanted = {
             "start": lambda one: not one.tracking and not one.suspended,
             "stop": lambda one: one.tracking and not one.suspended,
@@ -196,9 +195,17 @@ class Maker:
             "receive": lambda one: one.tracking,
             "resume": lambda one: one.suspended,
         }.get(call)
-        liked = [place for place in places if wanted and wanted(record.controllers[place])]
-        self.place = pick.choice(liked if liked and self.chance(0.9) else places)
-        return record.identifiers[self.place]
+        liked = self.used_places(wanted) if wanted else []
+        self.place = self.random.choice(liked if liked and self.chance(0.9) else self.used_places())
+        return self.record.identifiers[self.place]
+
+    def any_identifier(self):
+        record, pick = self.record, self.random
+        return pick.choice([record.manager, pick.choice(record.identifiers), pick.randrange(65536)])
+
+    def used_places(self, wanted=lambda one: True):
+        """The places in use with a controller that is wanted."""
+        return [place for place in range(max(1, min(self.record.count, 8))) if wanted(self.record.controllers[place])]
 
     def mark(self):
         pick = self.random
@@ -273,3 +280,25 @@ class Maker:
 
     def suspend_fields(self):
         return {"type": self.random.choice([0, 1, 1, 1, 2, 255])}
+
+    def batch_fields(self):
+        """Good notes, often with bad ones among them in any place; at times a record too many."""
+        pick = self.random
+        rows = [self.note() for _ in range(pick.choice([0, 1, 2, 3, 5, 8, 8, 20, 20, MOST_ROWS]))]
+        for row in pick.sample(range(len(rows)), min(len(rows), pick.choice([0, 0, 0, 1, 1, 2]))):
+            rows[row] = self.bad_note()
+        others = [pick.randrange(len(rows) + 1), 3 * len(rows) + 1, MOST_TAKEN, MOST_TAKEN + 1, MOST_TAKEN + 1]
+        return batch(*rows, records=pick.choice([len(rows)] * 12 + others))
+
+    def note(self):
+        """Of any controller that runs, if there is one, and mostly of a tracked one; never past 2^64."""
+        running = self.used_places(lambda one: not one.suspended) or self.used_places()
+        tracked = [place for place in running if self.record.controllers[place].tracking]
+        self.place = self.random.choice(tracked if tracked and self.chance(0.8) else running)
+        fields = self.write_fields()
+        return self.record.identifiers[self.place], fields["address"], min(fields["bytes"], MEMORY - fields["address"])
+
+    def bad_note(self):
+        record, note = self.record, self.note()
+        suspended = [record.identifiers[place] for place in self.used_places(lambda one: one.suspended)]
+        return bad_note(self.random, note, self.any_identifier(), self.random.choice(suspended or [note[0]]))

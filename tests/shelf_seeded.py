@@ -7,9 +7,9 @@ will be refused, in a random place. Listing K of seed N is always the same. A la
 import random
 
 import damaged
-from batches import MOST_BURST, MOST_BYTES, MOST_LISTED, MOST_TAKEN, batch_line, burst_line, line_of_bytes
+from batches import MOST_BURST, MOST_BYTES, MOST_LISTED, MOST_TAKEN, bad_note, batch_line, burst_line, line_of_bytes
 from case import Case
-from seeded import END, Maker, lines_of
+from seeded import Maker, lines_of
 
 FEW = [0, 1, 1, 2, 2, 3, 3, 4, 5, 8, 8, 13, 20, 40]
 ABOUT_THE_MOST = [MOST_TAKEN - 1, MOST_TAKEN, MOST_TAKEN, MOST_TAKEN + 1, MOST_TAKEN + 1, MOST_LISTED, MOST_LISTED + 1]
@@ -79,16 +79,10 @@ class ShelfMaker(Maker):
         return records
 
     def bad_note(self):
-        """A note that will be refused: of an unknown controller or a suspended one, past 2^64, or for two reasons."""
-        dice, (identifier, address, length) = self.dice, self.notes(1)[0]
-        unknown = dice.choice([self.manager, (identifier + 1) % 65536, 4])
-        suspended = dice.choice(sorted(self.suspended) or [identifier])
-        past = (max(2, address), END - max(2, address) + 1)
-        return dice.choice([
-            (unknown, address, length), (unknown, *past),
-            (suspended, address, length), (suspended, address, length), (suspended, *past),
-            (identifier, *past), (identifier, END - 1, 2), (identifier, END - 1, END - 1),
-        ])
+        dice, note = self.dice, self.notes(1)[0]
+        unknown = dice.choice([self.manager, (note[0] + 1) % 65536, 4])
+        suspended = dice.choice(sorted(self.suspended) or [note[0]])
+        return bad_note(dice, note, unknown, suspended)
 
     # ---- burst
 

@@ -68,7 +68,7 @@ pub struct Range {
 }
 
 /// A write record (W4): "each an identifier, address and byte length". The word record is the device's here.
-#[derive(Clone, Copy, Debug, PartialEq, Eq)]
+#[derive(Clone, Copy, Debug, Default, PartialEq, Eq)]
 pub struct Note {
     pub id: u64,
     pub address: u64,

@@ -201,13 +201,6 @@ fn put_batched(out: &mut Buffer, waiting: Waiting, b: Batched) -> Waiting {
     output::put_byte(out, w, b'\n')
 }
 
-// How many records of a list are handed over: a list that is too long is so with one more than a batch may have.
-fn handed(count: usize) -> usize
-    ensures { λ r. ⌜ r ≤ 1025 ⌝ }
-{
-    if count < 1025 { count } else { 1025 }
-}
-
 // Plays a line of a shelf listing, and puts its answer.
 pub fn play(
     d: Device,
@@ -221,7 +214,7 @@ pub fn play(
     match asked {
         Asked::Batch(count) => {
             let list = burst.list;
-            let batched = writes::batch_of(d, marks, list, handed(count));
+            let batched = tracker::batch_of(d, marks, list, count);
             let waiting = put_batched(out, waiting, batched);
             Played { device: d, waiting }
         }

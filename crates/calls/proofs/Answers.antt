@@ -13,3 +13,7 @@ leaves {A} c r r′ ws ws′ e f g = (f ∙ sym (ap (λ (x : Change A). x .answe
 -- the same where nothing changed
 pub leaves-unchanged : {A : Type 0} (c : Change A) (r : A) (ws : List ℕ) → c ≡ record { answer = r; marks = ws } → Leaves c r ws
 leaves-unchanged c r ws e = leaves c r r ws ws e refl refl
+
+-- the same where it names the same by other words
+pub leaves-as : {A : Type 0} (c c′ : Change A) (r : A) (ws : List ℕ) → c ≡ c′ → Leaves c′ r ws → Leaves c r ws
+leaves-as {A} c c′ r ws e l = leaves c (c′ .answer) r (c′ .marks) ws e (l .0) (l .1)

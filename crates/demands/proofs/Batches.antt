@@ -1,28 +1,36 @@
 -- W4: a batch is its tried notes as single calls, and a session with batches the session of its calls. Assumes nothing.
-use mathlib.Core.Path.{_≡_, refl, sym, ap, subst, _∙_}
-use mathlib.Core.Bool.{Bool, true, false, cond}
+use mathlib.Core.Path.{_≡_, refl, sym, ap, ap₂, subst, _∙_}
+use mathlib.Core.Logic.{_≢_, _↔_}
+use mathlib.Core.Option.{Option, none, some}
+use mathlib.Core.Bool.{Bool, true, false, cond, not}
 use mathlib.Core.List.{List, [], _∷_, _++_, map}
-use Prim.Native.Nat.{ℕ, zero, suc, _+_}
+use Prim.Native.Nat.{ℕ, zero, suc, _+_, _^_}
 use native.Mathlib.Omega.{arith}
-use lib.Dec.{eqb}
+use lib.Dec.{eqb, leb}
 use lib.ListN.{length}
-use borrow.Author.Tests.{le-leb, lt-leb, eq-eqb}
+use borrow.Author.Tests.{le-leb, lt-leb, leb-true, eq-eqb, ne-eqb}
+use Rattle.bits.proofs.Pack.{pack-length}
+use Rattle.rules.specs.Units.{Write}
+use Rattle.rules.specs.declared.Range.{Range}
+use Rattle.rules.specs.declared.Tracking.{Tracking}
+use Rattle.rules.specs.declared.Tracking.the-variants.{Off, On}
 use Rattle.rules.specs.Refusals.{Test, refusal}
-use Rattle.rules.proofs.RefusalLaws.{passes-Passed, refusal-none, verdict-done, verdict-passed, verdict-refused}
-use Rattle.rules.specs.Settings.{mostNotes}
-use Rattle.rules.specs.Order.{batchOrder}
+use Rattle.rules.proofs.RefusalLaws.{Passed, verdict-has, verdict-done}
+use Rattle.rules.specs.Settings.{mostNotes, shareAt, placeOf}
+use Rattle.rules.specs.Order.{writeOrder, batchOrder}
 use Rattle.rules.specs.Machine.{refused, wrote, Call, Event, countsIn}
 use Rattle.rules.specs.Demands.{sessionEnd}
 use Rattle.rules.specs.declared.Device.{Device}
-use Rattle.record.specs.Record.{soundWith}
+use Rattle.record.specs.Record.{soundWith, controllerAt, seenIn}
 use Rattle.calls.specs.declared.WriteRecord.{WriteRecord}
 use Rattle.calls.specs.declared.Batched.{Batched}
-use Rattle.calls.specs.Calls.{Change, writeNote, writeIn, batched, notesFrom, batchChange}
+use Rattle.calls.specs.Calls.{Change, withMarks, Note, noted, noteIn, writeDone, writeNote, writeIn, batched, notesFrom, batchChange}
 use Rattle.demands.specs.View.{run}
 use Rattle.demands.specs.Sessions.{Left, Step, one, batch, next, leftAfter, answersTo, stepped, leftBy, noteOf, tried, callsOf, expand, begun, callsIn, historyIn}
 use Rattle.demands.specs.Demand2.{Stands}
-use Rattle.demands.specs.Batches.{doneIn, newlyIn, lastNumber, IsNotes, Batches}
+use Rattle.demands.specs.Batches.{doneIn, newlyIn, lastNumber, IsNotes, ByNote, Batches}
 use Rattle.demands.proofs.AnswerLaws.{answers}
+use Rattle.demands.proofs.Demand1.{demand-1}
 use Rattle.demands.proofs.Demand2.{demand-2}
 use Rattle.demands.proofs.Demand3.{demand-3}
 
@@ -103,6 +111,106 @@ module _ (l : Left) (rs : List WriteRecord) where
           verdict-done (λ (c : Change Batched). c .answer .number) order (notesFrom (l .device) (l .marks) 0 0 rs) (λ n i. batched n 0 0 0 (l .marks)) (λ n i. refl)
           (omega arith, (omega arith, tt)) e .0
 
+-- ---- by its first note
+
+-- notes after k done and c units, from those after none
+shifted : (d : Device) (rs : List WriteRecord) (m : List ℕ) (k c : ℕ)
+    → let others = notesFrom d m 0 0 rs in
+    notesFrom d m k c rs ≡ record { answer = record { number = others .answer .number; done = k + others .answer .done; count = c + others .answer .count; refusal = others .answer .refusal }; marks = others .marks }
+shifted d rs m k c =
+    ap₂ {A = Batched} (λ (a : Batched) (w : List ℕ). record { answer = a; marks = w }) (some .says ∙ sym told) (ap (λ (q : Left). q .marks) (some .leaves ∙ sym (zero .leaves)))
+  where
+    l : Left
+    l = record { device = d; marks = m }
+
+    es : List Event
+    es = answersTo l (tried l rs)
+
+    some : Are l k c rs (notesFrom d m k c rs)
+    some = notes-are d rs m k c
+
+    zero : Are l 0 0 rs (notesFrom d m 0 0 rs)
+    zero = notes-are d rs m 0 0
+
+    told : record { number = notesFrom d m 0 0 rs .answer .number; done = k + notesFrom d m 0 0 rs .answer .done; count = c + notesFrom d m 0 0 rs .answer .count; refusal = notesFrom d m 0 0 rs .answer .refusal } ≡ summed k c es
+    told =
+        ap (λ (b : Batched). record { number = b .number; done = k + b .done; count = c + b .count; refusal = b .refusal }) (zero .says)
+        ∙ alike _ _ _ _ _ _ (omega arith) (omega arith) refl
+
+module _ (d : Device) (ws : List ℕ) where
+  -- a note leaves as many words
+  note-words : (id : ℕ) (w : Write) → length (writeNote d ws id w .marks) ≡ length ws
+  unfolding writeNote withMarks
+  note-words id w =
+      verdict-has (λ (n : Note). length (n .marks) ≡ length ws) (λ n i. noted n 0 ws) (λ n i. refl) (writeOrder (seenIn d (length ws) (placeOf (d .settings) id)) w) (writeDone d ws w (placeOf (d .settings) id))
+      (λ p. done (placeOf (d .settings) id))
+    where
+      in-share : (base : ℕ) (t : Tracking) (rs : List Range) → length (noteIn ws base t rs w .marks) ≡ length ws
+      in-share base Off rs = refl
+      in-share base (On g n) rs = pack-length (length ws) _
+
+      done : (p : Option ℕ) → length (writeDone d ws w p .marks) ≡ length ws
+      done none = refl
+      done (some i) = in-share (shareAt i) (controllerAt d (some i) .tracking) (controllerAt d (some i) .ranges)
+
+  -- a note is refused with 1 exactly where record and marks are unsound, and so is a batch
+  note-one : (id : ℕ) (w : Write) → soundWith d (length ws) ≡ false → writeNote d ws id w .answer .number ≡ 1
+  note-one id w e = demand-1 .write d ws id w .first ∙ rw e
+
+  note-other : (id : ℕ) (w : Write) → soundWith d (length ws) ≡ true → writeNote d ws id w .answer .number ≢ 1
+  note-other id w e = λ z. go (seenIn d (length ws) (placeOf (d .settings) id) .known) (not (seenIn d (length ws) (placeOf (d .settings) id) .suspended)) (leb (w .address + w .bytes) (2 ^ 64)) (sym (demand-1 .write d ws id w .first ∙ rw e) ∙ z)
+    where
+      go : (a b c : Bool) → _≢_ {A = ℕ} (cond a (cond b (cond c 0 14) 4) 2) 1
+      go true true true = λ z. absurd (omega (arith, z))
+      go true true false = λ z. absurd (omega (arith, z))
+      go true false c = λ z. absurd (omega (arith, z))
+      go false b c = λ z. absurd (omega (arith, z))
+
+  batch-other : (rs : List WriteRecord) → soundWith d (length ws) ≡ true → batchChange d ws rs .answer .number ≢ 1
+  batch-other rs e = λ z. go (leb (length rs) mostNotes) (sym (is-notes (record { device = d; marks = ws }) rs .answers .first ∙ rw e) ∙ z)
+    where
+      go : (a : Bool) → _≢_ {A = ℕ} (cond a 0 22) 1
+      go true = λ z. absurd (omega (arith, z))
+      go false = λ z. absurd (omega (arith, z))
+
+  as-one : (rs : List WriteRecord) (id : ℕ) (w : Write) → (batchChange d ws rs .answer .number ≡ 1) ↔ (writeNote d ws id w .answer .number ≡ 1)
+  as-one rs id w = go (soundWith d (length ws)) refl
+    where
+      go : (b : Bool) → soundWith d (length ws) ≡ b → (batchChange d ws rs .answer .number ≡ 1) ↔ (writeNote d ws id w .answer .number ≡ 1)
+      go true e = (λ z. absurd (batch-other rs e z), λ z. absurd (note-other id w e z))
+      go false e = (λ z. note-one id w e, λ z. is-notes (record { device = d; marks = ws }) rs .unsound e)
+
+  -- a done batch is its notes, on a sound record, and there are few
+  done-is : (rs : List WriteRecord) → batchChange d ws rs .answer .number ≡ 0 → (batchChange d ws rs ≡ notesFrom d ws 0 0 rs) × Passed (order (record { device = d; marks = ws }) rs)
+  unfolding batchChange
+  done-is rs e =
+      verdict-done (λ (c : Change Batched). c .answer .number) (order (record { device = d; marks = ws }) rs) (notesFrom d ws 0 0 rs) (λ n i. batched n 0 0 0 ws) (λ n i. refl)
+      (omega arith, (omega arith, tt)) e
+
+passed-is : (d : Device) (ws : List ℕ) (rs : List WriteRecord) → soundWith d (length ws) ≡ true → leb (length rs) mostNotes ≡ true → batchChange d ws rs ≡ notesFrom d ws 0 0 rs
+unfolding batchChange
+passed-is d ws rs e f = rw (e, f)
+
+by-first : (l : Left) → ByNote l
+by-first l =
+    record {
+      unsound = as-one (l .device) (l .marks);
+      none = λ e. done-is (l .device) (l .marks) [] e .0;
+      cut = λ r rs e z.
+          done-is (l .device) (l .marks) (r ∷ rs) e .0
+          ∙ rw (ne-eqb (writeNote (l .device) (l .marks) (r .id) (writeIn r) .answer .number) 0 z, demand-1 .write (l .device) (l .marks) (r .id) (writeIn r) .refused z .1);
+      goes-on = λ r rs e z.
+          let n = writeNote (l .device) (l .marks) (r .id) (writeIn r) in
+          let p = done-is (l .device) (l .marks) (r ∷ rs) e in
+          let so : batchChange (l .device) (n .marks) rs ≡ notesFrom (l .device) (n .marks) 0 0 rs =
+          passed-is (l .device) (n .marks) rs (rw (note-words (l .device) (l .marks) (r .id) (writeIn r)) (p .1 .0)) (le-leb (length rs) mostNotes (omega (arith, leb-true (length (r ∷ rs)) mostNotes (p .1 .1 .0)))) in
+          p .0 ∙ rw (eq-eqb (n .answer .number) 0 z, so) (shifted (l .device) rs (n .marks) (0 + 1) (0 + n .answer .count) ∙ alike-change _ _ _ _ _ _ _ (omega arith) (omega arith));
+    }
+  where
+    alike-change : (x a a′ b b′ y : ℕ) (w : List ℕ) → a ≡ a′ → b ≡ b′
+        → _≡_ {A = Change Batched} (record { answer = record { number = x; done = a; count = b; refusal = y }; marks = w }) (record { answer = record { number = x; done = a′; count = b′; refusal = y }; marks = w })
+    alike-change x a a′ b b′ y w p q = rw (p, q)
+
 -- ---- sessions
 
 left-append : (ks js : List Call) (l : Left) → leftAfter l (ks ++ js) ≡ leftAfter (leftAfter l ks) js
@@ -116,12 +224,11 @@ step-left l (batch rs) = go (batchChange (l .device) (l .marks) rs .answer .numb
   where
     go : (n : ℕ) → batchChange (l .device) (l .marks) rs .answer .number ≡ n → stepped l (batch rs) ≡ leftAfter l (callsOf l (batch rs))
     go zero e =
-        is-notes l rs .leaves e
-        ∙ sym (ap (leftAfter l) (verdict-passed (order l rs) (tried l rs) (λ n i. [])
-        (passes-Passed (order l rs) (sym (refusal-none (order l rs) (omega arith, (omega arith, tt))) ∙ eq-eqb (refusal (order l rs)) 0 (sym (is-notes l rs .answers .first) ∙ e)))))
+        let calls : callsOf l (batch rs) ≡ tried l rs = rw e in
+        is-notes l rs .leaves e ∙ ap (leftAfter l) (sym calls)
     go (suc n) e =
-        ap (λ m. record { device = l .device; marks = m }) (is-notes l rs .answers .refused (λ z. absurd (omega (arith, z, e))) .3)
-        ∙ sym (ap (leftAfter l) (verdict-refused (order l rs) (tried l rs) (λ n i. []) (λ z. absurd (omega (arith, z, e, is-notes l rs .answers .first)))))
+        let calls : callsOf l (batch rs) ≡ [] = rw (ne-eqb (batchChange (l .device) (l .marks) rs .answer .number) 0 (λ z. absurd (omega (arith, z, e)))) in
+        ap (λ m. record { device = l .device; marks = m }) (is-notes l rs .answers .refused (λ z. absurd (omega (arith, z, e))) .3) ∙ ap (leftAfter l) (sym calls)
 
 left-by : (xs : List Step) (l : Left) → leftBy l xs ≡ leftAfter l (expand l xs)
 left-by [] l = refl
@@ -136,6 +243,7 @@ pub batches : Batches
 batches =
     record {
       notes = is-notes;
+      by-note = by-first;
       session = λ s ws xs. left-by xs (begun s ws);
       calls = λ s ws ks. only-calls ks (begun s ws);
       rules = λ s a ws xs eight. demand-2 .rules s a ws (callsIn s ws xs) eight;

@@ -1,6 +1,9 @@
 -- Each public function's contract is what the demands speak of: the contracts say so word for word. Assumes nothing.
 use mathlib.Core.Path.{refl}
-use Rattle.demands.specs.Contracts.{AsksNothing, CallsAre, BatchIs, StructuresAre, ReaderIs, Contracts}
+use mathlib.Core.List.{[], _∷_}
+use mir.Syntax.{w16, w64}
+use mir.Val.{vint, vstruct, ofList}
+use Rattle.demands.specs.Contracts.{AsksNothing, CallsAre, BatchIs, HasRoom, StructuresAre, ReaderIs, Contracts}
 
 asks : AsksNothing
 asks =
@@ -9,6 +12,7 @@ asks =
       start = λ κs a. tt;
       stop = λ κs a. tt;
       write = λ κs a. tt;
+      batch-of = λ κs a. tt;
       receive = λ κs a. tt;
       suspend = λ κs a. tt;
       resume = λ κs a. tt;
@@ -36,6 +40,7 @@ calls =
       start = λ κs a r e p. p;
       stop = λ κs a r e p. p;
       write = λ κs a r e p. p;
+      batch-of = λ κs a r e p. p;
       receive = λ κs a r e p. p;
       suspend = λ κs a r e p. p;
       resume = λ κs a r e p. p;
@@ -43,6 +48,12 @@ calls =
 
 batch : BatchIs
 batch = record { asks = λ 𝓤 H A mem run κs a g. refl; says = λ 𝓤 H A mem run κs a g r e. refl }
+
+room : HasRoom
+room r i a b = (
+  (vint w16 (r .id) ∷ [], (vint w64 (r .address) ∷ [], (vstruct (ofList (vint w64 (r .bytes .0) ∷ [])) ∷ [], tt))),
+  (refl, ((refl, i), ((refl, a), (((vint w64 (r .bytes .0) ∷ [], tt), (refl, ((refl, b), tt))), tt)))),
+)
 
 structures : StructuresAre
 structures =
@@ -69,4 +80,4 @@ reader =
     }
 
 pub contracts : Contracts
-contracts = record { asks = asks; calls = calls; batch = batch; structures = structures; reader = reader; line = λ κs a r e p. p }
+contracts = record { asks = asks; calls = calls; batch = batch; room = room; structures = structures; reader = reader; line = λ κs a r e p. p }

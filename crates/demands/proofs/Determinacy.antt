@@ -10,6 +10,7 @@ calls =
       stop = λ κs a r r′ e e′ p q. (p .0 ∙ sym (q .0), p .1 ∙ sym (q .1));
       write = λ κs a r r′ e e′ p q. (p .0 ∙ sym (q .0), p .1 ∙ sym (q .1));
       batch = λ d ws rs r r′ l l′ p q. (p .0 ∙ sym (q .0), p .1 ∙ sym (q .1));
+      batch-of = λ κs a r r′ e e′ p q. (p .0 ∙ sym (q .0), p .1 ∙ sym (q .1));
       receive = λ κs a r r′ e e′ p q. (p .0 ∙ sym (q .0), p .1 ∙ sym (q .1), p .2 ∙ sym (q .2));
       suspend = λ κs a r r′ e e′ p q. p ∙ sym q;
       resume = λ κs a r r′ e e′ p q. p ∙ sym q;

@@ -1,10 +1,12 @@
 -- W4, as statements: a batch of write notes is its tried notes as single calls, and demands 2 and 3 are read over those.
-use Prim.Native.Nat.{ℕ, _≤_, _<_}
+use Prim.Native.Nat.{ℕ, _+_, _≤_, _<_}
 use mathlib.Core.Path.{_≡_}
+use mathlib.Core.Logic.{_≢_, _↔_}
 use mathlib.Core.Bool.{true, false, cond}
 use mathlib.Core.List.{List, [], _∷_, map}
 use lib.ListN.{length}
 use Rattle.rules.specs.Lists.{sum}
+use Rattle.rules.specs.Units.{Write}
 use Rattle.rules.specs.Order.{batchOrder}
 use Rattle.rules.specs.Machine.{Call, Event, countsIn, numberOf, newlyOf}
 use Rattle.rules.specs.History.{only, isAccepted}
@@ -12,7 +14,7 @@ use Rattle.rules.specs.Demands.{sessionEnd, unhindered}
 use Rattle.rules.specs.declared.Settings.{Settings}
 use Rattle.record.specs.Record.{soundWith}
 use Rattle.calls.specs.declared.WriteRecord.{WriteRecord}
-use Rattle.calls.specs.Calls.{freshChange, batchChange}
+use Rattle.calls.specs.Calls.{freshChange, writeNote, batchChange}
 use Rattle.demands.specs.Sessions.{Left, Step, one, leftAfter, answersTo, tried, endOf, endBy, callsIn, historyIn}
 use Rattle.demands.specs.Demand1.{Answers}
 use Rattle.demands.specs.Demand2.{Equals, Stands}
@@ -53,10 +55,34 @@ pub record IsNotes (l : Left) (rs : List WriteRecord) : Type 0 where
       let es = answersTo l (tried l rs) in
       c .answer .number ≡ 0 → (c .answer .done ≡ doneIn es) × (c .answer .count ≡ newlyIn es) × (c .answer .refusal ≡ lastNumber es)
 
+-- the same by the single note itself, with no definition between: what a batch on l answers and leaves, from what its first note answers and leaves, and the
+-- batch of the others on that
+pub record ByNote (l : Left) : Type 0 where
+  -- 1 exactly where any single note is refused with 1
+  pub unsound : (rs : List WriteRecord) (id : ℕ) (w : Write)
+      → (batchChange (l .device) (l .marks) rs .answer .number ≡ 1) ↔ (writeNote (l .device) (l .marks) id w .answer .number ≡ 1)
+  pub none : let c = batchChange (l .device) (l .marks) [] in
+      c .answer .number ≡ 0 → c ≡ record { answer = record { number = 0; done = 0; count = 0; refusal = 0 }; marks = l .marks }
+  pub cut : (r : WriteRecord) (rs : List WriteRecord)
+      → let n = writeNote (l .device) (l .marks) (r .id) (record { address = r .address; bytes = r .bytes .0 }) in
+      let c = batchChange (l .device) (l .marks) (r ∷ rs) in
+      c .answer .number ≡ 0 → n .answer .number ≢ 0 → c ≡ record { answer = record { number = 0; done = 0; count = 0; refusal = n .answer .number }; marks = l .marks }
+  pub goes-on : (r : WriteRecord) (rs : List WriteRecord)
+      → let n = writeNote (l .device) (l .marks) (r .id) (record { address = r .address; bytes = r .bytes .0 }) in
+      let c = batchChange (l .device) (l .marks) (r ∷ rs) in
+      let others = batchChange (l .device) (n .marks) rs in
+      c .answer .number ≡ 0 → n .answer .number ≡ 0
+      → c
+      ≡ record {
+        answer = record { number = others .answer .number; done = 1 + others .answer .done; count = n .answer .count + others .answer .count; refusal = others .answer .refusal };
+        marks = others .marks;
+      }
+
 -- ---- sessions
 
 pub record Batches : Type 1 where
   pub notes : (l : Left) (rs : List WriteRecord) → IsNotes l rs
+  pub by-note : (l : Left) → ByNote l
   -- a session with batches leaves what the session of its calls leaves; one with none is its calls
   pub session : (s : Settings) (ws : List ℕ) (xs : List Step) → endBy s ws xs ≡ endOf s ws (callsIn s ws xs)
   pub calls : (s : Settings) (ws : List ℕ) (ks : List Call) → callsIn s ws (map one ks) ≡ ks

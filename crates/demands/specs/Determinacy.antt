@@ -13,6 +13,7 @@ use Rattle.fresh.proofs.fresh.Reads as fresh
 use Rattle.track_send.proofs.start.Reads as start
 use Rattle.track_send.proofs.stop.Reads as stop
 use Rattle.writes.proofs.write.Reads as write
+use Rattle.writes.proofs.batch_of.Reads as batch-of
 use Rattle.track_receive.proofs.receive.Reads as receive
 use Rattle.migration_send.proofs.suspend.Reads as suspend
 use Rattle.migration_send.proofs.resume.Reads as resume
@@ -39,6 +40,7 @@ pub record Calls : Type 1 where
   pub stop : (κs : _) (a : _) (r r′ : _) (e e′ : _) → stop.Post κs a r e → stop.Post κs a r′ e′ → (r ≡ r′) × (now (e .1 .0) ≡ now (e′ .1 .0))
   pub write : (κs : _) (a : _) (r r′ : _) (e e′ : _) → write.Post κs a r e → write.Post κs a r′ e′ → (r ≡ r′) × (now (e .1 .0) ≡ now (e′ .1 .0))
   pub batch : (d : Device) (ws : List ℕ) (rs : List WriteRecord) (r r′ : Batched) (l l′ : List ℕ) → Promised d ws rs r l → Promised d ws rs r′ l′ → (r ≡ r′) × (l ≡ l′)
+  pub batch-of : (κs : _) (a : _) (r r′ : _) (e e′ : _) → batch-of.Post κs a r e → batch-of.Post κs a r′ e′ → (r ≡ r′) × (now (e .1 .0) ≡ now (e′ .1 .0))
   -- and every byte of the buffer
   pub receive : (κs : _) (a : _) (r r′ : _) (e e′ : _) → receive.Post κs a r e → receive.Post κs a r′ e′
       → (r ≡ r′) × (now (e .1 .0) ≡ now (e′ .1 .0)) × (now (e .1 .1 .1 .0) ≡ now (e′ .1 .1 .1 .0))

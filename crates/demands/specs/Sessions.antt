@@ -3,16 +3,13 @@ use Prim.Native.Nat.{ℕ}
 use mathlib.Core.Bool.{cond}
 use mathlib.Core.List.{List, [], _∷_, _++_}
 use lib.Dec.{eqb}
-use lib.ListN.{length}
-use Rattle.rules.specs.Refusals.{verdict}
-use Rattle.rules.specs.Order.{write, batchOrder}
+use Rattle.rules.specs.Order.{write}
 use Rattle.rules.specs.Machine.{Call, Event}
 use Rattle.rules.specs.History.{Did, historyOf, isAccepted}
 use Rattle.rules.specs.declared.Settings.{Settings}
 use Rattle.rules.specs.declared.Device.{Device}
-use Rattle.record.specs.Record.{soundWith}
 use Rattle.calls.specs.declared.WriteRecord.{WriteRecord}
-use Rattle.calls.specs.Calls.{freshChange, writeIn, batchChange}
+use Rattle.calls.specs.Calls.{freshChange, batchChange}
 use Rattle.demands.specs.View.{Outcome, run}
 
 -- what a call leaves to the next
@@ -62,7 +59,7 @@ leftBy l (x ∷ xs) = leftBy (stepped l x) xs
 
 -- a record of a batch as the call that it is
 abbrev pub noteOf : WriteRecord → Call
-noteOf r = record { id = r .id; op = write (writeIn r) }
+noteOf r = record { id = r .id; op = write (record { address = r .address; bytes = r .bytes .0 }) }
 
 -- the notes of a list that are tried one after another, as single calls: up to the first that is refused, with that one
 abbrev pub tried : Left → List WriteRecord → List Call
@@ -72,7 +69,7 @@ tried l (r ∷ rs) = noteOf r ∷ cond (isAccepted (outcome l (noteOf r) .answer
 -- the calls that a step is: a call itself, a batch its tried notes, and a refused batch none
 abbrev pub callsOf : Left → Step → List Call
 callsOf l (one k) = k ∷ []
-callsOf l (batch rs) = verdict (batchOrder (soundWith (l .device) (length (l .marks))) (length rs)) (tried l rs) (λ n i. [])
+callsOf l (batch rs) = cond (eqb (batchChange (l .device) (l .marks) rs .answer .number) 0) (tried l rs) []
 
 abbrev pub expand : Left → List Step → List Call
 expand l [] = []

@@ -2,9 +2,10 @@
 // or not, with lent marks, lent bytes and one call. The calls are `tracker`'s; here stand only the bytes of a case and of its answer, little-endian.
 //
 // A case has 2944 bytes: the record (1599 bytes: settings, and from 31 on 8 controllers of 196 bytes), how many mark words are lent (2) and the value of
-// each (8), the call (1, at 1609), its identifier (2), address (8), length in bytes (8) and type (1), how many bytes are lent (2), these (1024), zeros.
-// An answer has 7444: the number (1), a start's row (1), a write's count (8), a receive's suspended, more and granularity (1 each) and runs (8), then the record (1599),
-// 600 mark words and 1024 lent bytes as they are after the call, with zeros past the lent ones.
+// each (8), the call (1, at 1609), its identifier (2), address (8), length in bytes (8) and type (1), how many bytes are lent (2), these (1024), how many
+// records a batch has (2), zeros. An answer has 7453: the number (1), a start's row (1), the count of a write or a batch (8), a receive's suspended, more and granularity
+// (1 each) and runs (8), how many notes a batch did (8) and what cut it (1), then the record (1599), 600 mark words and 1024 lent bytes as they are after the
+// call, with zeros past the lent ones.
 
 use libc::STDIN_FILENO;
 use output::Buffer;
@@ -17,6 +18,7 @@ use rules::Settings;
 use rules::Tracking;
 use tracker::Changed;
 use tracker::Received;
+use tracker::WriteRecord;
 ghost use Prim.Native.Nat.{_≤_};
 ghost use Rattle.io.specs.Counts.{Counts};
 
@@ -26,12 +28,14 @@ struct State {
     waiting: Waiting,
 }
 
-// What a call answers, and the record after it. The row is a start's, the count a write's, and what was received is a receive's: zeros, beside the number,
-// where it is none.
+// What a call answers, and the record after it. The row is a start's, the count a write's or a batch's, `done` and `cut` a batch's, and what was received is a
+// receive's: zeros, beside the number, where it is none.
 struct Answer {
     received: Received,
     row: u8,
     count: usize,
+    done: usize,
+    cut: u8,
     device: Device,
 }
 
@@ -313,7 +317,17 @@ fn put_answer(out: &mut Buffer, waiting: Waiting, a: Answer) -> Waiting {
     let c = output::put_byte(out, b, a.row);
     let e = put_number(out, c, 8, a.count as u64);
     let f = put_received(out, e, received);
-    put_device(out, f, device)
+    let g = put_number(out, f, 8, a.done as u64);
+    let h = output::put_byte(out, g, a.cut);
+    put_device(out, h, device)
+}
+
+// How many there are: as a case says, and no more than there is room for.
+fn lent_at(case: &[u8], at: usize, most: usize) -> usize
+    ensures { λ r. ⌜ r ≤ most ⌝ }
+{
+    let n = short_at(case, at) as usize;
+    if n < most { n } else { most }
 }
 
 // ---- the calls
@@ -337,6 +351,8 @@ fn changed(c: Changed) -> Answer {
         received,
         row: 0,
         count: 0,
+        done: 0,
+        cut: 0,
         device,
     }
 }
@@ -358,6 +374,8 @@ fn start(case: &[u8], marks: &mut [u64], lent: &[u8]) -> Answer {
         received,
         row: started.row,
         count: 0,
+        done: 0,
+        cut: 0,
         device,
     }
 }
@@ -381,6 +399,8 @@ fn write(case: &[u8], marks: &mut [u64]) -> Answer {
         received,
         row: 0,
         count: written.count,
+        done: 0,
+        cut: 0,
         device,
     }
 }
@@ -394,6 +414,8 @@ fn receive(case: &[u8], marks: &mut [u64], lent: &mut [u8]) -> Answer {
         received,
         row: 0,
         count: 0,
+        done: 0,
+        cut: 0,
         device,
     }
 }
@@ -413,6 +435,63 @@ fn resume(case: &[u8], marks: &[u64]) -> Answer {
     changed(tracker::resume(d, marks, id))
 }
 
+// ---- a batch: its records are rows of the lent bytes, again and again
+
+// The record that is the row from index `at` on.
+fn read_record(rows: &[u8], at: usize) -> WriteRecord
+    requires { ⌜ at ≤ 1024 ⌝ }
+{
+    let id = short_at(rows, at);
+    let address = long_at(rows, at + 2);
+    let bytes = Bytes(long_at(rows, at + 10));
+    WriteRecord { id, address, bytes }
+}
+
+// The row that comes after the one from index `at` on: the first again, where there is none.
+fn next_row(rows: &[u8], at: usize) -> usize
+    requires { ⌜ at ≤ 1024 ⌝ }
+    ensures { λ r. ⌜ r ≤ 1024 ⌝ }
+{
+    let next = at + 18;
+    if next < rows.len() {
+        if next <= 1024 {
+            return next;
+        }
+    }
+    0
+}
+
+// As many records as a batch can be handed.
+fn read_records(rows: &[u8]) -> [WriteRecord; 1025] {
+    let first = read_record(rows, 0);
+    let mut records = [first; 1025];
+    let mut at: usize = 0;
+    let mut i: usize = 0;
+    while i < 1025 {
+        records[i] = read_record(rows, at);
+        at = next_row(rows, at);
+        i = i + 1;
+    }
+    records
+}
+
+// Plays a batch: the record stays as given.
+fn batch(case: &[u8], marks: &mut [u64], lent: &[u8]) -> Answer {
+    let device = read_device(case);
+    let n = lent_at(case, 2655, 1025);
+    let records = read_records(lent);
+    let batched = tracker::batch_of(device, marks, records, n);
+    let received = not_received(batched.number);
+    Answer {
+        received,
+        row: 0,
+        count: batched.count,
+        done: batched.done,
+        cut: batched.refusal,
+        device,
+    }
+}
+
 // Plays a case's call on what is lent to it. A call past the form is taken for the last one.
 fn call(case: &[u8], marks: &mut [u64], lent: &mut [u8]) -> Answer {
     match byte_at(case, 1609) {
@@ -422,19 +501,12 @@ fn call(case: &[u8], marks: &mut [u64], lent: &mut [u8]) -> Answer {
         3 => write(case, marks),
         4 => receive(case, marks, lent),
         5 => suspend(case, marks),
-        _ => resume(case, marks),
+        6 => resume(case, marks),
+        _ => batch(case, marks, lent),
     }
 }
 
 // ---- what is lent
-
-// How much is lent: as a case says, and no more than there is room for.
-fn lent_at(case: &[u8], at: usize, most: usize) -> usize
-    ensures { λ r. ⌜ r ≤ most ⌝ }
-{
-    let n = short_at(case, at) as usize;
-    if n < most { n } else { most }
-}
 
 // Makes all words the same.
 fn fill(words: &mut [u64], value: u64) {

@@ -14,4 +14,5 @@ pub use track_receive::receive;
 pub use track_send::start;
 pub use track_send::stop;
 pub use writes::batch;
+pub use writes::batch_of;
 pub use writes::write;

@@ -2,10 +2,13 @@
 use mathlib.Core.Path.{_≡_, refl, sym, ap, _∙_}
 use mathlib.Core.Logic.{_≢_}
 use mathlib.Core.Bool.{Bool, true, false, _&&_, not, and-false}
-use mathlib.Core.List.{[], _∷_}
-use Prim.Native.Nat.{ℕ, _+_, _<_}
+use mathlib.Core.List.{List, [], _∷_}
+use Prim.Native.Nat.{ℕ, _+_, _<_, min}
+use native.Mathlib.Omega.{arith}
 use lib.Dec.{ltb, leb, eqb}
-use borrow.Author.Tests.{le-leb, lt-leb, eqb-true, eq-eqb, ne-eqb, ltb-true, ltb-false}
+use lib.ListN.{length, take}
+use lib.Seq.{take-all}
+use borrow.Author.Tests.{le-leb, lt-leb, leb-true, leb-false, eqb-true, eq-eqb, ne-eqb, ltb-true, ltb-false}
 use Rattle.rules.specs.Refusals.{_else_, refusal}
 use Rattle.rules.specs.Settings.{mostNotes}
 use Rattle.rules.specs.declared.Device.{Device}
@@ -77,3 +80,12 @@ module _ (b : Batched) (w : Written) where
   pub tally-done : w .number ≡ 0 → record { number = b .number; done = b .done + 1; count = b .count + w .count; refusal = b .refusal } ≡ tallyOf b w
   unfolding tallyOf
   tally-done h = rw (eq-eqb (w .number) 0 h)
+
+-- ---- the first n of some
+
+pub take-least : {A : Type 0} (n k : ℕ) (l : List A) → length l ≡ 1025 → k ≡ min n 1025 → take k l ≡ take n l
+take-least n k l h e = go (leb n 1025) refl
+  where
+    go : (b : Bool) → leb n 1025 ≡ b → take k l ≡ take n l
+    go true f = let m = leb-true n 1025 f in let same : k ≡ n = omega arith in ap (λ (j : ℕ). take j l) same
+    go false f = let m = leb-false n 1025 f in take-all k l (omega arith) ∙ sym (take-all n l (omega arith))

@@ -1,10 +1,10 @@
 -- What a noted write answers, case by case of its table; a written range of no bytes leaves every word as it was. Assumes nothing.
-use mathlib.Core.Path.{_≡_, refl, sym, ap, ap₂, _∙_}
+use mathlib.Core.Path.{_≡_, refl, sym, ap, ap₂, subst, _∙_}
 use mathlib.Core.Logic.{_≢_}
 use mathlib.Core.Bool.{Bool, true, false, or-false, and-true, and-false}
 use mathlib.Core.List.{List, [], _∷_}
 use mathlib.Core.Option.{Option, none, some}
-use Prim.Native.Nat.{ℕ, _+_, _-_, _^_, _≤_, _<_}
+use Prim.Native.Nat.{ℕ, _+_, _^_, _≤_, _<_}
 use native.Mathlib.Omega.{arith}
 use native.Mathlib.Nat.{zero-add}
 use lib.ListN.{length, getD, take, drop}
@@ -19,6 +19,7 @@ use Rattle.rules.specs.Settings.{markWords, shareAt, placeOf}
 use Rattle.rules.specs.Units.{Unit, Write, units, touches, mark, newly}
 use Rattle.rules.specs.Order.{writeOrder}
 use Rattle.rules.specs.Device.{soundDevice}
+use Rattle.rules.specs.declared.Controller.{Controller}
 use Rattle.rules.specs.declared.Device.{Device}
 use Rattle.rules.specs.declared.Tracking.{Tracking}
 use Rattle.rules.specs.declared.Tracking.the-variants.{Off, On}
@@ -26,9 +27,10 @@ use Rattle.record.specs.Record.{noController, whereIs, seenIn, soundWith, place
 use Rattle.settings.specs.Found.{foundAt}
 use Rattle.settings.specs.declared.Found.the-variants as found
 use Rattle.record.specs.declared.Place.the-variants.{At, Refused}
-use Rattle.record.proofs.RecordLaws.{Located, whereIs-at, whereIs-refused}
+use Rattle.record.proofs.RecordLaws.{whereIs-at, whereIs-refused}
 use Rattle.calls.specs.Calls.{withMarks, marksAt, noted, writeDone, writeNote}
-use Rattle.calls.proofs.PlaceLaws.{share-within}
+use Rattle.calls.proofs.PlaceLaws.{held-at, share-within}
+use Rattle.writes.specs.Inner.{Lies, MayNote, noteOn}
 
 -- ---- the place, on a record that is known to be sound
 
@@ -80,64 +82,98 @@ module _ (w : Write) (e : w .bytes ≡ 0) where
   newly-none (u ∷ us) [] = refl
   newly-none (u ∷ us) (b ∷ p) = rw (touches-none u) (zero-add (newly w us p) ∙ newly-none us p)
 
--- ---- the cases
+-- ---- the cases of a note to one controller
 
-module _ (d : Device) (ws : List ℕ) (id : ℕ) (w : Write) where
-  pub write-refused : (n : ℕ) → whereIs d (length ws) id ≡ Refused n → writeNote d ws id w ≡ noted n 0 ws
+module _ (c : Controller) (ws : List ℕ) (base : ℕ) (w : Write) where
+  pub on-suspended : c .suspended ≡ true → noteOn c ws base w ≡ noted 4 0 ws
+  unfolding noteOn
+  on-suspended f = rw f
+
+  module _ (f : c .suspended ≡ false) where
+    pub on-past : 2 ^ 64 < w .address + w .bytes → noteOn c ws base w ≡ noted 14 0 ws
+    unfolding noteOn
+    on-past h = rw (f, lt-leb (w .address + w .bytes) (2 ^ 64) h)
+
+    module _ (h : w .address + w .bytes ≤ 2 ^ 64) where
+      pub on-off : c .tracking ≡ Off → noteOn c ws base w ≡ noted 0 0 ws
+      unfolding noteOn
+      on-off t = rw (f, le-leb (w .address + w .bytes) (2 ^ 64) h, t)
+
+      module _ (g n : ℕ) (t : c .tracking ≡ On g n) where
+        abbrev us : List Unit
+        us = units g (take n (c .ranges))
+
+        abbrev p : List Bool
+        p = marksAt ws base (length us)
+
+        on-marks : noteOn c ws base w ≡ noted 0 (newly w us p) (withMarks ws base (mark w us p))
+        unfolding noteOn
+        on-marks = rw (f, le-leb (w .address + w .bytes) (2 ^ 64) h, t)
+
+        -- what marks the ranges' spans is the note
+        pub on-done : (ws′ : List ℕ) (count : ℕ) → Words ws′ → length ws′ ≡ length ws → count ≡ newly w us p → flat ws′ ≡ putShare (flat ws) base (mark w us p)
+            → noteOn c ws base w ≡ noted 0 count ws′
+        unfolding withMarks
+        on-done ws′ count h k e b = on-marks ∙ ap₂ (noted 0) (sym e) (sym (pack-only (length ws) ws′ (putShare (flat ws) base (mark w us p)) k h b))
+
+        on-empty-marks : Lies g n (c .ranges) ws base → Words ws → w .bytes ≡ 0 → noteOn c ws base w ≡ noted 0 0 ws
+        unfolding withMarks
+        on-empty-marks l k z =
+            let m : base + length us ≤ length (flat ws) = omega (arith, flat-length ws, l .within .within) in
+            on-marks
+            ∙ ap₂ (noted 0) (newly-none w z us p)
+            (ap (λ q. pack (length ws) (putShare (flat ws) base q)) (mark-none w z us p (getShare-length (flat ws) base (length us) m))
+            ∙ ap (pack (length ws)) (putShare-getShare (flat ws) base (length us) m)
+            ∙ pack-flat ws k)
+
+      pub on-empty : MayNote c ws base → Words ws → w .bytes ≡ 0 → noteOn c ws base w ≡ noted 0 0 ws
+      on-empty l k z = go (c .tracking) refl
+        where
+          go : (t : Tracking) → c .tracking ≡ t → noteOn c ws base w ≡ noted 0 0 ws
+          go Off t = on-off t
+          go (On g n) t = on-empty-marks g n t (l g n t) k z
+
+-- ---- the controller of a call
+
+-- a place that is none of the first seven is the last
+first : (i : ℕ) → i ≢ 0 → 1 ≤ i
+first i e = omega arith
+
+beyond : (k i : ℕ) → k ≤ i → i ≢ k → k + 1 ≤ i
+beyond k i h e = omega arith
+
+seventh : (i : ℕ) → 7 ≤ i → i < 8 → i ≡ 7
+seventh i h e = omega arith
+
+pub last-place : (i : ℕ) → i < 8 → i ≢ 0 → i ≢ 1 → i ≢ 2 → i ≢ 3 → i ≢ 4 → i ≢ 5 → i ≢ 6 → i ≡ 7
+last-place i h e0 e1 e2 e3 e4 e5 e6 =
+    seventh i (beyond 6 i (beyond 5 i (beyond 4 i (beyond 3 i (beyond 2 i (beyond 1 i (first i e0) e1) e2) e3) e4) e5) e6) h
+
+module _ (d : Device) (ws : List ℕ) (id : ℕ) where
+  -- where there is none
+  pub write-refused : (w : Write) (n : ℕ) → whereIs d (length ws) id ≡ Refused n → writeNote d ws id w ≡ noted n 0 ws
   unfolding writeNote
-  write-refused n e =
+  write-refused w n e =
       whereIs-refused d (length ws) id n e (drop 2 (writeOrder (seenIn d (length ws) (placeOf (d .settings) id)) w)) (writeDone d ws w (placeOf (d .settings) id)) (λ n i. noted n 0 ws)
 
-  module _ (i : ℕ) (e : whereIs d (length ws) id ≡ At i) where
-    l : Located d (length ws) id i
-    l = whereIs-at d (length ws) id i e
+  -- where it stands at place i, which is known by the number k: its note is the call's
+  module _ (i : ℕ) (e : whereIs d (length ws) id ≡ At i) (k : ℕ) (s : i ≡ k) where
+    pub write-on : (base : ℕ) → base ≡ shareAt i → (w : Write) → writeNote d ws id w ≡ noteOn (getD (d .controllers) k noController) ws base w
+    unfolding writeNote noteOn
+    write-on base b w = let l = whereIs-at d (length ws) id i e in rw (l .place, l .seen, b, sym s)
 
-    pub write-suspended : getD (d .controllers) i noController .suspended ≡ true → writeNote d ws id w ≡ noted 4 0 ws
-    unfolding writeNote
-    write-suspended f = rw (l .place, l .seen, f)
-
-    module _ (f : getD (d .controllers) i noController .suspended ≡ false) where
-      pub write-past : 2 ^ 64 < w .address + w .bytes → writeNote d ws id w ≡ noted 14 0 ws
-      unfolding writeNote
-      write-past h = rw (l .place, l .seen, f, lt-leb (w .address + w .bytes) (2 ^ 64) h)
-
-      module _ (h : w .address + w .bytes ≤ 2 ^ 64) where
-        pub write-off : getD (d .controllers) i noController .tracking ≡ Off → writeNote d ws id w ≡ noted 0 0 ws
-        unfolding writeNote
-        write-off t = rw (l .place, l .seen, f, le-leb (w .address + w .bytes) (2 ^ 64) h, t)
-
-        module _ (g n : ℕ) (t : getD (d .controllers) i noController .tracking ≡ On g n) where
-          abbrev us : List Unit
-          us = units g (take n (getD (d .controllers) i noController .ranges))
-
-          abbrev p : List Bool
-          p = marksAt ws (shareAt i) (length us)
-
-          write-on : writeNote d ws id w ≡ noted 0 (newly w us p) (withMarks ws (shareAt i) (mark w us p))
-          unfolding writeNote
-          write-on = rw (l .place, l .seen, f, le-leb (w .address + w .bytes) (2 ^ 64) h, t)
-
-          module _ (there : i < length (d .controllers)) where
-            -- what marks the ranges' spans is the note
-            pub write-done : (ws′ : List ℕ) (count : ℕ) → Words ws′ → length ws′ ≡ length ws → count ≡ newly w us p → flat ws′ ≡ putShare (flat ws) (shareAt i) (mark w us p)
-                → writeNote d ws id w ≡ noted 0 count ws′
-            unfolding withMarks
-            write-done ws′ count h k c b =
-                write-on ∙ ap₂ (noted 0) (sym c) (sym (pack-only (length ws) ws′ (putShare (flat ws) (shareAt i) (mark w us p)) k h b))
-
-            write-empty-on : Words ws → w .bytes ≡ 0 → writeNote d ws id w ≡ noted 0 0 ws
-            unfolding withMarks
-            write-empty-on h z =
-                let m : shareAt i + length us ≤ length (flat ws) = omega (arith, flat-length ws, l .whole, share-within d (length ws) id i e there g n t) in
-                write-on
-                ∙ ap₂ (noted 0) (newly-none w z us p)
-                (ap (λ q. pack (length ws) (putShare (flat ws) (shareAt i) q)) (mark-none w z us p (getShare-length (flat ws) (shareAt i) (length us) m))
-                ∙ ap (pack (length ws)) (putShare-getShare (flat ws) (shareAt i) (length us) m)
-                ∙ pack-flat ws h)
-
-        pub write-empty : i < length (d .controllers) → Words ws → w .bytes ≡ 0 → writeNote d ws id w ≡ noted 0 0 ws
-        write-empty there k z = go (getD (d .controllers) i noController .tracking) refl
-          where
-            go : (t : Tracking) → getD (d .controllers) i noController .tracking ≡ t → writeNote d ws id w ≡ noted 0 0 ws
-            go Off t = write-off t
-            go (On g n) t = write-empty-on g n t there k z
+    pub may-note : length (d .controllers) ≡ 8 → (base : ℕ) → base ≡ shareAt i → MayNote (getD (d .controllers) k noController) ws base
+    may-note h base b = subst (λ (j : ℕ). MayNote (getD (d .controllers) j noController) ws base) s go
+      where
+        go : MayNote (getD (d .controllers) i noController) ws base
+        go g n t =
+            let l = whereIs-at d (length ws) id i e in
+            let there : i < length (d .controllers) = omega (arith, l .below) in
+            let f = held-at d (length ws) id i e there g n t in
+            let fits = share-within d (length ws) id i e there g n t in
+            record {
+              small = f .small;
+              few = f .few;
+              rows = f .rows;
+              within = record { within = omega (arith, fits, l .whole); small = omega (arith, fits) };
+            }

@@ -5,6 +5,7 @@ use calls::Batched;
 use calls::WriteRecord;
 use calls::Written;
 use rules::Bytes;
+use rules::Controller;
 use rules::Device;
 use rules::MARK_WORDS;
 use rules::MOST_NOTES;
@@ -16,24 +17,16 @@ ghost use mathlib.Core.List.{[], _∷_};
 ghost use lib.ListN.{length, take};
 ghost use Rattle.rules.specs.Refusals.{_else_, refusal};
 ghost use Rattle.record.specs.Record.{soundWith};
-ghost use Prim.Native.Nat.{_+_, _<_, _≤_, _^_};
+ghost use Prim.Native.Nat.{_+_, _<_, _≤_, _^_, min};
 ghost use Rattle.calls.specs.Calls.{writeNote, batchChange};
-ghost use Rattle.writes.specs.Inner.{beginOf, isDue, tallyOf};
+ghost use Rattle.writes.specs.Inner.{MayNote, noteOn, beginOf, isDue, tallyOf};
 
-// Notes a write on a record that is known to be sound: the touched units of the controller's tracked ranges become pending. Refused, in this order: 2,
-// 4 suspended, 14 a written range that ends past 2^64.
-fn note(d: Device, marks: &mut [u64], id: u16, at: u64, bytes: Bytes) -> Written
-    requires { ⌜ soundWith d (length (now marks)) ≡ true ⌝ }
-    ensures { λ r. ⌜ (r ≡ writeNote d (now (marks .entry)) id (record { address = at; bytes = bytes .0 }) .answer)
-        × (now (marks .exit) ≡ writeNote d (now (marks .entry)) id (record { address = at; bytes = bytes .0 }) .marks) ⌝ }
+// Notes a write of one controller, whose marks stand from bit `base` on. Refused, in this order: 4 suspended, 14 a written range that ends past 2^64.
+fn note_on(c: Controller, marks: &mut [u64], base: usize, at: u64, bytes: Bytes) -> Written
+    requires { ⌜ MayNote c (now marks) base ⌝ }
+    ensures { λ r. ⌜ (r ≡ noteOn c (now (marks .entry)) base (record { address = at; bytes = bytes .0 }) .answer)
+        × (now (marks .exit) ≡ noteOn c (now (marks .entry)) base (record { address = at; bytes = bytes .0 }) .marks) ⌝ }
 {
-    let Found::At(i) = settings::find(d.settings, id) else {
-        return Written {
-            number: 2,
-            count: 0,
-        };
-    };
-    let c = d.controllers[i];
     if c.suspended {
         return Written {
             number: 4,
@@ -61,16 +54,34 @@ fn note(d: Device, marks: &mut [u64], id: u16, at: u64, bytes: Bytes) -> Written
         };
     };
     let ranges = c.ranges;
-    let count = marking::mark_ranges(
-        marks,
-        calls::share_at(i),
-        g,
-        n as usize,
-        ranges,
-        at,
-        at + (length - 1),
-    );
+    let count = marking::mark_ranges(marks, base, g, n as usize, ranges, at, at + (length - 1));
     Written { number: 0, count }
+}
+
+// Notes a write on a record that is known to be sound: the touched units of the controller's tracked ranges become pending. Refused, in this order: 2,
+// then as `note_on` says. A controller is taken from the record by a number that does not vary, as one that does would copy the record.
+fn note(d: Device, marks: &mut [u64], id: u16, at: u64, bytes: Bytes) -> Written
+    requires { ⌜ soundWith d (length (now marks)) ≡ true ⌝ }
+    ensures { λ r. ⌜ (r ≡ writeNote d (now (marks .entry)) id (record { address = at; bytes = bytes .0 }) .answer)
+        × (now (marks .exit) ≡ writeNote d (now (marks .entry)) id (record { address = at; bytes = bytes .0 }) .marks) ⌝ }
+{
+    let Found::At(i) = settings::find(d.settings, id) else {
+        return Written {
+            number: 2,
+            count: 0,
+        };
+    };
+    let base = calls::share_at(i);
+    match i {
+        0 => note_on(d.controllers[0], marks, base, at, bytes),
+        1 => note_on(d.controllers[1], marks, base, at, bytes),
+        2 => note_on(d.controllers[2], marks, base, at, bytes),
+        3 => note_on(d.controllers[3], marks, base, at, bytes),
+        4 => note_on(d.controllers[4], marks, base, at, bytes),
+        5 => note_on(d.controllers[5], marks, base, at, bytes),
+        6 => note_on(d.controllers[6], marks, base, at, bytes),
+        _ => note_on(d.controllers[7], marks, base, at, bytes),
+    }
 }
 
 // Whether the record is sound and the marks have their words.
@@ -177,11 +188,25 @@ pub fn batch(d: Device, marks: &mut [u64], list: &[WriteRecord]) -> Batched
     b
 }
 
-// A batch of the first n of some records, for a caller that holds them by value. There is room for one more than a batch may have, so that a list that is too
-// long is seen.
-pub fn batch_of(d: Device, marks: &mut [u64], list: [WriteRecord; 1025], n: usize) -> Batched
+// A batch of the first n of some records that are held by value.
+fn batch_front(d: Device, marks: &mut [u64], list: [WriteRecord; 1025], n: usize) -> Batched
     requires { ⌜ n ≤ 1025 ⌝ }
     ensures { λ r. ⌜ (r ≡ batchChange d (now (marks .entry)) (take n list) .answer) × (now (marks .exit) ≡ batchChange d (now (marks .entry)) (take n list) .marks) ⌝ }
 {
     batch(d, marks, &list[..n])
+}
+
+// How many of the 1,025 records are among the first n.
+fn listed(n: usize) -> usize
+    ensures { λ r. ⌜ r ≡ min n 1025 ⌝ }
+{
+    if n < 1025 { n } else { 1025 }
+}
+
+// A batch of the first n of some records, for a caller that holds them by value. There is room for one more than a batch may have, so that a list that is too
+// long is seen.
+pub fn batch_of(d: Device, marks: &mut [u64], list: [WriteRecord; 1025], n: usize) -> Batched
+    ensures { λ r. ⌜ (r ≡ batchChange d (now (marks .entry)) (take n list) .answer) × (now (marks .exit) ≡ batchChange d (now (marks .entry)) (take n list) .marks) ⌝ }
+{
+    batch_front(d, marks, list, listed(n))
 }

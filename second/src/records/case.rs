@@ -1,17 +1,21 @@
 //! The form of a case (tests/RECORDS.md), and the device record as bytes in that form.
 
 use crate::little_endian::{get, put};
-use crate::rules::{Controller, Range, Record, Settings, Tracking};
+use crate::rules::{Controller, Note, Range, Record, Settings, Tracking};
 
 /// A case is exactly so long; what stands after its last field is not looked at.
 pub const CASE_BYTES: usize = 2944;
 /// A case may lend more words or fewer than the 512 that document 01 wants, so that both are refused.
 pub const MOST_WORDS: usize = 600;
-/// As many bytes at most are lent for a start structure or a report.
+/// As many bytes at most are lent for a start structure, a report or a batch's rows.
 pub const MOST_DATA: usize = 1024;
+/// A row of a batch: identifier (2), address (8), bytes (8).
+const ROW_BYTES: usize = 18;
+/// One more than W4 lets a batch have, so that 22 can be met.
+const MOST_RECORDS: u64 = 1025;
 
-/// The seven calls of document 01, with the numbers that only one of them takes.
-#[derive(Clone, Copy, Debug, PartialEq, Eq)]
+/// The seven calls of document 01 and a batch (W4), with what only one of them takes.
+#[derive(Clone, Debug, PartialEq, Eq)]
 pub enum Call {
     Fresh,
     Start,
@@ -20,6 +24,7 @@ pub enum Call {
     Receive,
     Suspend { kind: u64 },
     Resume,
+    Batch(Vec<Note>),
 }
 
 /// A device record that may be unsound, lent marks and bytes, and one call to play on them.
@@ -47,7 +52,10 @@ pub fn read_case(bytes: &[u8]) -> Option<Case> {
     let address = fields.next(8)?;
     let written = fields.next(8)?;
     let kind = fields.next(1)?;
-    let data = fields.next_within(2, MOST_DATA as u64)?;
+    let lent = fields.next_within(2, MOST_DATA as u64)?;
+    let data = bytes.get(fields.at..fields.at + lent as usize)?.to_vec();
+    fields.at += MOST_DATA;
+    let records = fields.next_within(2, MOST_RECORDS)?;
     let call = match number {
         0 => Call::Fresh,
         1 => Call::Start,
@@ -56,9 +64,9 @@ pub fn read_case(bytes: &[u8]) -> Option<Case> {
         4 => Call::Receive,
         5 => Call::Suspend { kind },
         6 => Call::Resume,
+        7 => Call::Batch(read_notes(&data, records as usize)?),
         _ => return None,
     };
-    let data = bytes.get(fields.at..fields.at + data as usize)?.to_vec();
     Some(Case { record, words: vec![mark; words as usize], call, id, data })
 }
 
@@ -90,6 +98,19 @@ fn read_controller(fields: &mut Fields) -> Option<Controller> {
         *range = Range { start: fields.next(8)?, length: fields.next(4)? };
     }
     Some(controller)
+}
+
+/// "Record j of the batch is row j modulo the number of rows"; "with no row, all its records are zeros". Nothing for a
+/// row that isn't whole.
+fn read_notes(data: &[u8], records: usize) -> Option<Vec<Note>> {
+    let mut rows = Vec::new();
+    for row in data.chunks(ROW_BYTES) {
+        rows.push(Note { id: get(row, 0, 2)?, address: get(row, 2, 8)?, bytes: get(row, 10, 8)? });
+    }
+    if rows.is_empty() {
+        rows.push(Note::default());
+    }
+    Some(rows.into_iter().cycle().take(records).collect())
 }
 
 /// The record in the form of a case: the settings, then the controllers, unused places and all.

@@ -1,5 +1,5 @@
-//! Cases with device records of any kind, sound or not. No session listing leads to an unsound record or to marks that
-//! are not 512 words, so refusal 1 is tested here. tests/RECORDS.md has the form of a case and of its answer.
+//! Cases with device records of any kind, sound or not. No listing leads to an unsound record or to marks that are not
+//! 512 words, so refusal 1 is tested here. tests/RECORDS.md has the form of a case and of its answer.
 
 mod case;
 mod marks;
@@ -23,10 +23,13 @@ struct Outcome {
     refusal: Refusal,
     /// A refused start's row, 0 where it has none (W3).
     row: usize,
-    /// A write's count.
+    /// A write's or a batch's count.
     count: u64,
     /// A report's suspended, more, granularity and number of runs.
     report: [u64; 4],
+    /// How many notes of a batch were done, and the refusal that cut it, 0 where none did (W4).
+    notes_done: u64,
+    cut: Refusal,
     record: Record,
     words: Vec<u64>,
     data: Vec<u8>,
@@ -56,6 +59,8 @@ fn untouched(case: &Case) -> Outcome {
         row: 0,
         count: 0,
         report: [0; 4],
+        notes_done: 0,
+        cut: 0,
         record: case.record.clone(),
         words: case.words.clone(),
         data: case.data.clone(),
@@ -74,7 +79,7 @@ fn done(case: &Case) -> Result<Outcome, Reason> {
     }
     lent_512(&case.words)?;
     let mut device = Device { record: case.record.clone(), pending: pending_units(&case.record, &case.words) };
-    match case.call {
+    match &case.call {
         Call::Fresh => {}
         Call::Start => {
             device.start(case.id, &case.data)?;
@@ -84,13 +89,21 @@ fn done(case: &Case) -> Result<Outcome, Reason> {
             device.stop(case.id)?;
             clear_words(&device.record, case.id, &mut after.words);
         }
-        Call::Write { address, bytes } => after.count = device.write(&Note { id: case.id, address, bytes })?,
+        Call::Write { address, bytes } => {
+            after.count = device.write(&Note { id: case.id, address: *address, bytes: *bytes })?;
+        }
         Call::Receive => {
             device.receive(case.id, &mut after.data)?;
             after.report = report_numbers(&after.data);
         }
-        Call::Suspend { kind } => device.suspend(case.id, kind)?,
+        Call::Suspend { kind } => device.suspend(case.id, *kind)?,
         Call::Resume => device.resume(case.id)?,
+        Call::Batch(notes) => {
+            let batch = device.batch(notes)?;
+            after.count = batch.count as u64;
+            after.notes_done = batch.done as u64;
+            after.cut = batch.refusal.unwrap_or(0);
+        }
     }
     mark_pending(&device, &mut after.words);
     after.record = device.record;
@@ -126,6 +139,8 @@ fn answer(outcome: &Outcome) -> Vec<u8> {
     for (number, width) in outcome.report.iter().zip(&[1, 1, 1, 8]) {
         put(&mut bytes, u128::from(*number), *width);
     }
+    put(&mut bytes, u128::from(outcome.notes_done), 8);
+    put(&mut bytes, u128::from(outcome.cut), 1);
     bytes.extend_from_slice(&record_bytes(&outcome.record));
     let marks_end = bytes.len() + 8 * MOST_WORDS;
     for word in &outcome.words {

@@ -27,7 +27,12 @@ fn base(call: Call, id: u64) -> Case {
     Case { record, words: vec![0; 512], call, id, data: Vec::new() }
 }
 
-/// The base with each of the six calls that look at the record; each is done there.
+/// A batch of these notes: identifier, address and bytes.
+fn batch(notes: &[(u64, u64, u64)]) -> Call {
+    Call::Batch(notes.iter().map(|(id, address, bytes)| Note { id: *id, address: *address, bytes: *bytes }).collect())
+}
+
+/// The base with each of the seven calls that look at the record; each is done there.
 fn calls() -> Vec<Case> {
     let mut start = base(Call::Start, 6);
     start.data = structure_bytes(0, &[Range { start: 65536, length: 1 }]);
@@ -40,10 +45,11 @@ fn calls() -> Vec<Case> {
         receive,
         base(Call::Suspend { kind: 1 }, 5),
         base(Call::Resume, 7),
+        base(batch(&[(5, 69632, 1), (5, 65536, 1)]), 0),
     ]
 }
 
-/// What each of the six calls answers once the base's record is changed so. A refused one must leave all as it was.
+/// What each of the seven calls answers once the base's record is changed so. A refused one must leave all as it was.
 fn refusals(change: &dyn Fn(&mut Record)) -> Vec<Refusal> {
     let mut refusals = Vec::new();
     for mut case in calls() {
@@ -58,11 +64,11 @@ fn refusals(change: &dyn Fn(&mut Record)) -> Vec<Refusal> {
 }
 
 fn assert_unsound(change: &dyn Fn(&mut Record)) {
-    assert_eq!(refusals(change), [1; 6]);
+    assert_eq!(refusals(change), [1; 7]);
 }
 
 fn assert_sound(change: &dyn Fn(&mut Record)) {
-    assert_eq!(refusals(change), [0; 6]);
+    assert_eq!(refusals(change), [0; 7]);
 }
 
 /// Puts these ranges, and no others, into the first controller's places.
@@ -160,7 +166,7 @@ fn ranges_at_and_past_their_limits() {
 fn counts_together_at_and_past_the_limit() {
     // 2 and 1 are tracked, and the start asks for one more.
     assert_sound(&|record| record.settings.limit = 4);
-    assert_eq!(refusals(&|record| record.settings.limit = 3), [12, 0, 0, 0, 0, 0]);
+    assert_eq!(refusals(&|record| record.settings.limit = 3), [12, 0, 0, 0, 0, 0, 0]);
     assert_unsound(&|record| record.settings.limit = 2);
 }
 
@@ -208,7 +214,7 @@ fn start_with(ranges: &[(u64, u64)]) -> Case {
     case
 }
 
-/// This start is refused so, and leaves all as it was.
+/// This call is refused so, and leaves all as it was.
 fn assert_refused(case: &Case, refusal: Refusal, row: usize) {
     assert_eq!(outcome(case), Outcome { refusal, row, ..untouched(case) });
 }
@@ -278,6 +284,100 @@ fn no_other_call_has_a_row() {
         track(record, 0, &[(65536, 4); 16]);
         record.settings.limit = 128;
     });
+}
+
+// ---------------------------------------------------------------------------------------------------------------
+// Batches (W4)
+// ---------------------------------------------------------------------------------------------------------------
+
+/// The device of READINGS W4's worked numbers, with a batch: controllers 5 and 6, and 5 tracks 4 units from page 16 on.
+/// So 7 stands in an unused place.
+fn worked(notes: &[(u64, u64, u64)]) -> Case {
+    let mut case = base(batch(notes), 0);
+    case.record.settings.number = 2;
+    track(&mut case.record, 0, &[(65536, 4)]);
+    case
+}
+
+/// So many notes of this batch are done, so many units are new, and this refusal cuts it. Only these words change.
+fn assert_batch(case: &Case, notes_done: u64, count: u64, cut: Refusal, words: &[(usize, u64)]) {
+    let mut expected = Outcome { notes_done, count, cut, ..untouched(case) };
+    for (word, mark) in words {
+        expected.words[*word] = *mark;
+    }
+    assert_eq!(outcome(case), expected);
+}
+
+#[test]
+fn worked_batches() {
+    let list = [(5, 69632, 1), (5, 73727, 2), (6, 0, 5), (7, 0, 1), (5, 65536, 1)];
+    assert_batch(&worked(&list), 3, 2, 2, &[(0, 0b0110)]);
+    assert_batch(&worked(&[(7, 0, 1)]), 0, 0, 2, &[]);
+    assert_batch(&worked(&[]), 0, 0, 0, &[]);
+    assert_batch(&worked(&[(5, 65536, 1); 2]), 2, 1, 0, &[(0, 1)]);
+    assert_batch(&worked(&[(5, 65536, 1); 1024]), 1024, 1, 0, &[(0, 1)]);
+    assert_batch(&worked(&[(5, u64::MAX, 1), (5, u64::MAX, 2)]), 1, 0, 14, &[]);
+    let mut suspended = worked(&[(6, 0, 1), (5, 65536, 1), (6, 0, 1)]);
+    suspended.record.controllers[0].suspended = true;
+    assert_batch(&suspended, 1, 0, 4, &[]);
+    assert_batch(&worked(&[(7, 0, 0); 1024]), 0, 0, 2, &[]);
+    assert_refused(&worked(&[(7, 0, 0); 1025]), 22, 0);
+}
+
+#[test]
+fn refused_batches() {
+    // 1 before 22, for the record and for the words; 22 whatever the notes are.
+    for note in [(5, 65536, 1), (7, 0, 0), (5, u64::MAX, 2)].iter() {
+        for records in [0, 1, 1024, 1025].iter() {
+            let mut unsound = worked(&vec![*note; *records]);
+            unsound.words = vec![9; 512];
+            let mut short = unsound.clone();
+            unsound.record.controllers[0].ranges[0].length = 0;
+            assert_refused(&unsound, 1, 0);
+            short.words.pop();
+            assert_refused(&short, 1, 0);
+        }
+        assert_refused(&worked(&[*note; 1025]), 22, 0);
+    }
+}
+
+#[test]
+fn batches_keep_to_their_bits() {
+    // Page 0 is pending. Pages 17 and 18 and page 1 become so; 6 isn't tracked, and 7 is suspended.
+    let list = [(5, 73727, 2), (6, 0, u64::MAX), (5, 0, 8192), (7, 0, 1), (5, 65536, 1), (6, 0, 1)];
+    let mut case = base(batch(&list), 0);
+    rubbish(&mut case.record);
+    case.words = vec![0xffff_ffff_ffff_ffd0; 512];
+    assert_batch(&case, 3, 3, 4, &[(0, 0xffff_ffff_ffff_fff6)]);
+    case.call = batch(&list[4..]);
+    assert_batch(&case, 2, 1, 0, &[(0, 0xffff_ffff_ffff_ffd1)]);
+}
+
+#[test]
+fn batches_of_several_controllers() {
+    // Controller 6 tracks pages 0 and 1, in word 64; 7 runs, and its units of 1 MiB from 1 on are in word 128.
+    let list = [(7, 1048575, 2), (5, 0, 1), (6, 0, 1), (7, 2097152, 1), (6, 4095, 2), (5, 0, 4096)];
+    let mut case = base(batch(&list), 0);
+    case.record.controllers[1].tracking = Tracking::On { granularity: 0, count: 1 };
+    case.record.controllers[1].ranges[0] = Range { start: 0, length: 2 };
+    case.record.controllers[2].suspended = false;
+    assert_batch(&case, 6, 5, 0, &[(0, 16), (64, 3), (128, 3)]);
+    // Before the last two the manager, or an end past 2^64.
+    for (bad, cut) in [((1, 0, 1), 2), ((6, 2, u64::MAX), 14)].iter() {
+        let mut list = list.to_vec();
+        list.insert(4, *bad);
+        case.call = batch(&list);
+        assert_batch(&case, 4, 4, *cut, &[(0, 16), (64, 1), (128, 3)]);
+    }
+}
+
+#[test]
+fn batches_over_ranges_that_overlap() {
+    // Page 17, pages 16 and 17, page 14; then 9 is unknown, and what stands behind it would mark all.
+    let list = [(5, 69632, 1), (5, 65536, 8192), (5, 57344, 1), (9, 0, 1), (5, 0, u64::MAX)];
+    assert_batch(&shared(batch(&list), &[0; 512]), 3, 3, 2, &[(0, 0b010101)]);
+    assert_batch(&shared(batch(&list[..3]), &[1; 512]), 3, 2, 0, &[(0, 0b010101)]);
+    assert_batch(&shared(batch(&list[4..]), &[0b010101; 512]), 1, 3, 0, &[(0, 0b111111)]);
 }
 
 // ---------------------------------------------------------------------------------------------------------------
@@ -527,13 +627,54 @@ fn each_call_by_its_number() {
         bytes[1609] = number as u8;
         assert_eq!(read_case(&bytes).unwrap().call, *call);
     }
+    assert_eq!(read_case(&batch_bytes(0, 0)).unwrap().call, Call::Batch(Vec::new()));
+}
+
+/// A batch with this many records, and as many lent bytes of two rows.
+fn batch_bytes(records: u64, lent: u8) -> Vec<u8> {
+    let mut bytes = case_bytes();
+    bytes[1609] = 7;
+    bytes[1629] = lent;
+    bytes[1631..1667].copy_from_slice(&[
+        1, 2, 3, 0, 0, 0, 0, 0, 0, 4, 5, 0, 0, 0, 0, 0, 0, 6, // identifier, address, bytes
+        7, 8, 9, 0, 0, 0, 0, 0, 0, 10, 11, 0, 0, 0, 0, 0, 0, 12,
+    ]);
+    bytes[2655] = (records % 256) as u8;
+    bytes[2656] = (records / 256) as u8;
+    bytes
+}
+
+#[test]
+fn rows_of_a_batch() {
+    let call = |records, lent| read_case(&batch_bytes(records, lent)).unwrap().call;
+    let first = (513, high(3, 4), high(5, 6));
+    let second = (2055, high(9, 10), high(11, 12));
+    assert_eq!(call(2, 36), batch(&[first, second]));
+    // Record j is row j modulo the number of rows.
+    assert_eq!(call(5, 36), batch(&[first, second, first, second, first]));
+    assert_eq!(call(1, 36), batch(&[first]));
+    assert_eq!(call(3, 18), batch(&[first; 3]));
+    assert_eq!(call(1025, 18), batch(&[first; 1025]));
+    // No row.
+    assert_eq!(call(1025, 0), batch(&[(0, 0, 0); 1025]));
+    // The rows are lent bytes like any other.
+    assert_eq!(read_case(&batch_bytes(5, 36)).unwrap().data, batch_bytes(0, 0)[1631..1667].to_vec());
+}
+
+#[test]
+fn bytes_that_are_no_batch() {
+    // 1,026 records; rows that aren't whole.
+    assert_eq!(read_case(&batch_bytes(1026, 18)), None);
+    for lent in [1, 17, 19, 35].iter() {
+        assert_eq!(read_case(&batch_bytes(1, *lent)), None, "{}", lent);
+    }
 }
 
 #[test]
 fn bytes_that_are_no_case() {
-    // Rule 2, tracking 2, off with a granularity, suspended 2, 601 words, call 7, 1,025 lent bytes.
+    // Rule 2, tracking 2, off with a granularity, suspended 2, 601 words, call 8, 1,025 lent bytes.
     let damages: [&[(usize, u8)]; 7] =
-        [&[(4, 2)], &[(31, 2)], &[(31, 0)], &[(34, 2)], &[(1599, 89)], &[(1609, 7)], &[(1629, 1), (1630, 4)]];
+        [&[(4, 2)], &[(31, 2)], &[(31, 0)], &[(34, 2)], &[(1599, 89)], &[(1609, 8)], &[(1629, 1), (1630, 4)]];
     for damage in &damages {
         let mut bytes = case_bytes();
         for (at, byte) in damage.iter() {
@@ -551,23 +692,25 @@ fn bytes_that_are_no_case() {
 fn answers_at_their_offsets() {
     let case = read_case(&case_bytes()).unwrap();
     let report = [3, 4, 5, high(6, 7)];
-    let mut after = Outcome { refusal: 200, row: 201, count: high(1, 2), report, ..untouched(&case) };
+    let numbers = Outcome { refusal: 200, row: 201, count: high(1, 2), report, ..untouched(&case) };
+    let mut after = Outcome { notes_done: high(8, 9), cut: 10, ..numbers };
     after.words[512] = high(41, 42);
-    let mut expected = vec![0; 7444];
-    let fields: [(usize, &[u8]); 6] = [
+    let mut expected = vec![0; 7453];
+    let fields: [(usize, &[u8]); 7] = [
         (0, &[200, 201]),                    // refusal and row
         (2, &[1, 0, 0, 0, 0, 0, 0, 2]),      // count
         (10, &[3, 4, 5]),                    // suspended, more, granularity
         (13, &[6, 0, 0, 0, 0, 0, 0, 7]),     // number of runs
-        (5716, &[41, 0, 0, 0, 0, 0, 0, 42]), // the last of 513 words
-        (6420, &[34, 35, 36]),               // 3 lent bytes
+        (21, &[8, 0, 0, 0, 0, 0, 0, 9, 10]), // notes done, and the refusal that cut the batch
+        (5725, &[41, 0, 0, 0, 0, 0, 0, 42]), // the last of 513 words
+        (6429, &[34, 35, 36]),               // 3 lent bytes
     ];
     for (at, field) in &fields {
         expected[*at..*at + field.len()].copy_from_slice(field);
     }
-    expected[21..1620].copy_from_slice(&case_bytes()[..1599]);
+    expected[30..1629].copy_from_slice(&case_bytes()[..1599]);
     for word in 0..512 {
-        expected[1620 + 8 * word..1628 + 8 * word].copy_from_slice(&[25, 0, 0, 0, 0, 0, 0, 26]);
+        expected[1629 + 8 * word..1637 + 8 * word].copy_from_slice(&[25, 0, 0, 0, 0, 0, 0, 26]);
     }
     assert_eq!(answer(&after), expected);
 }
@@ -579,10 +722,10 @@ fn answer_to_a_case_that_lends_the_most() {
     case.words = vec![u64::MAX; 600];
     case.data = vec![170; 1024];
     let mut expected = vec![1];
-    expected.resize(21, 0);
+    expected.resize(30, 0);
     expected.extend_from_slice(&record_bytes(&case.record));
-    expected.resize(6420, 255);
-    expected.resize(7444, 170);
+    expected.resize(6429, 255);
+    expected.resize(7453, 170);
     assert_eq!(answer(&outcome(&case)), expected);
 }
 
@@ -591,15 +734,28 @@ fn answer_to_a_start_that_names_a_row() {
     // 32 bytes are lent: a header and two ranges, of which the second is unaligned. All words are 0.
     let case = start_with(&[(65536, 4), (4097, 1)]);
     let mut expected = vec![20, 1];
-    expected.resize(21, 0);
+    expected.resize(30, 0);
     expected.extend_from_slice(&record_bytes(&case.record));
-    expected.resize(6420, 0);
+    expected.resize(6429, 0);
     expected.extend_from_slice(&[
         0, 0, 0, 0, 2, 0, 0, 0, // version, reserved, granularity, count
         0, 0, 1, 0, 0, 0, 0, 0, 4, 0, 0, 0, // 65536, 4
         1, 16, 0, 0, 0, 0, 0, 0, 1, 0, 0, 0, // 4097, 1
     ]);
-    expected.resize(7444, 0);
+    expected.resize(7453, 0);
+    assert_eq!(answer(&outcome(&case)), expected);
+}
+
+#[test]
+fn answer_to_a_batch_that_is_cut() {
+    // READINGS W4: three notes are done and two units are new, pages 17 and 18; then 2.
+    let case = worked(&[(5, 69632, 1), (5, 73727, 2), (6, 0, 5), (7, 0, 1), (5, 65536, 1)]);
+    let mut expected = vec![0, 0, 2];
+    expected.resize(21, 0);
+    expected.extend_from_slice(&[3, 0, 0, 0, 0, 0, 0, 0, 2]);
+    expected.extend_from_slice(&record_bytes(&case.record));
+    expected.push(0b0110);
+    expected.resize(7453, 0);
     assert_eq!(answer(&outcome(&case)), expected);
 }
 
@@ -610,7 +766,7 @@ fn controller_that_is_off_answers_zeros() {
     for byte in &mut expected[31..227] {
         *byte = 0;
     }
-    assert_eq!(answer(&outcome(&base(Call::Stop, 5)))[21..1620].to_vec(), expected);
+    assert_eq!(answer(&outcome(&base(Call::Stop, 5)))[30..1629].to_vec(), expected);
 }
 
 #[test]
@@ -618,9 +774,9 @@ fn an_answer_for_each_case() {
     // Two cases of zeros: a fresh whose settings have no identifiers. It answers 16 and is closed; no words, no bytes.
     let mut output = Vec::new();
     play(&mut &vec![0; 2 * CASE_BYTES][..], &mut output).unwrap();
-    let mut expected = vec![0; 2 * 7444];
+    let mut expected = vec![0; 2 * 7453];
     expected[0] = 16;
-    expected[7444] = 16;
+    expected[7453] = 16;
     assert_eq!(output, expected);
     let mut output = Vec::new();
     play(&mut &[][..], &mut output).unwrap();

@@ -1,22 +1,15 @@
--- `writes::note` is right: it refuses in the order of its table, and marks the spans of touched units, which are the units that the rules mark.
--- Assumes nothing.
-use mathlib.Core.Path.{_≡_, sym, ap, _∙_}
-use Prim.Native.Nat.{ℕ, _+_, _-_, _*_, _<_, _≤_}
-use native.Mathlib.Omega.{arith}
+-- `writes::note` is right: it refuses an identifier that is not in the settings, and else is the note of the controller at its place. Assumes nothing.
+use mathlib.Core.Path.{_≡_, sym, _∙_}
+use Prim.Native.Nat.{_<_}
 use denote.Ref.{now}
-use lib.ListN.{length, getD, take}
+use lib.ListN.{length}
 use borrow.Author.Needs.{needs}
-use Rattle.rules.specs.Units.{units}
-use Rattle.rules.specs.Settings.{shareAt, markWords}
-use Rattle.record.specs.Record.{noController, whereIs}
+use Rattle.record.specs.Record.{whereIs}
 use Rattle.record.specs.declared.Place.the-variants.{At}
 use Rattle.record.proofs.RecordLaws.{whereIs-at}
 use Rattle.rules.proofs.LoopLaws.{length-mapped}
-use Rattle.ranges.proofs.RangeLaws.{HeldFacts}
-use Rattle.marking.specs.Note.{writeTo}
-use Rattle.calls.proofs.Answers.{leaves-unchanged}
-use Rattle.writes.proofs.WriteLaws.{sound-found, sound-nothing, write-refused, write-suspended, write-past, write-off, write-empty, write-done}
-use Rattle.calls.proofs.PlaceLaws.{held-at, share-within}
+use Rattle.calls.proofs.Answers.{leaves-unchanged, leaves-as}
+use Rattle.writes.proofs.WriteLaws.{sound-found, sound-nothing, write-refused, write-on, may-note, last-place}
 use Rattle.writes.proofs.note.Statement.{statement}
 use Rattle.writes.proofs.note.Tie as tie
 
@@ -30,24 +23,14 @@ below : (c : tie.After-known-told) → c .before .i .given .0 .0 < 8
 below c = whereIs-at _ _ _ _ (found c) .below
 
 -- the record has its eight controllers
-there : (c : tie.After-known-told) → c .before .i .given .0 .0 < length (c .before .before .before .before .before .before .args .t1 .controllers)
-there c =
-    let e : length (c .before .before .before .before .before .before .args .t1 .controllers) ≡ 8 = search (length-mapped, needs) in
-    omega (arith, below c)
+eight : (c : tie.After-known-told) → length (c .before .before .before .before .before .before .args .t1 .controllers) ≡ 8
+eight c = search (length-mapped, needs)
 
--- what a tracked controller of a sound record holds, and that its marks lie within the words
-held : (c : tie.After-known-told2)
-    → let a = c .before .before .before .before .before .before .before .before .before .before .before .before .before .args in
-    let r = getD (a .t1 .controllers) (c .before .before .before .before .before .before .before .before .i .given .0 .0) noController in
-    let n = c .before .t .given .0 .1 .0 in
-    HeldFacts (a .t1 .settings) (c .before .t .given .0 .0) n (take n (r .ranges))
-held c = held-at _ _ _ _ (found (c .before .before .before .before .before .before .before)) (there (c .before .before .before .before .before .before .before)) _ _ (c .before .t .given .1)
-
-fits : (c : tie.After-known-told2)
-    → let a = c .before .before .before .before .before .before .before .before .before .before .before .before .before .args in
-    let r = getD (a .t1 .controllers) (c .before .before .before .before .before .before .before .before .i .given .0 .0) noController in
-    shareAt (c .before .before .before .before .before .before .before .before .i .given .0 .0) + length (units (c .before .t .given .0 .0) (take (c .before .t .given .0 .1 .0) (r .ranges))) ≤ 64 * markWords
-fits c = share-within _ _ _ _ (found (c .before .before .before .before .before .before .before)) (there (c .before .before .before .before .before .before .before)) _ _ (c .before .t .given .1)
+-- the place that the last arm is left with
+last : (c : tie.At-match2-rest) → c .before .before .before .i .given .0 .0 ≡ 7
+last c =
+    let r = c .match2 .rest in
+    last-place _ (below (c .before .before)) (r .0 .0 .0 .0 .0 .0 .1) (r .0 .0 .0 .0 .0 .1) (r .0 .0 .0 .0 .1) (r .0 .0 .0 .1) (r .0 .0 .1) (r .0 .1) (r .1)
 
 find-requires : tie.Need-find-requires
 find-requires c κs = search needs
@@ -61,76 +44,144 @@ enum-told c = search needs
 returns : tie.Need-returns
 returns c = leaves-unchanged _ _ _ (write-refused _ _ _ _ _ (sound-nothing _ _ _ (c .before .before .before .before .before .pre) (sym (c .before .before .find .ensures) ∙ c .enum-told .given .1)))
 
-mul-c : tie.Need-mul-c
-mul-c c = omega (arith, below c)
-
-element-copy-out-c : tie.Need-element-copy-out-c
-element-copy-out-c c = below c
-
-returns-2 : tie.Need-returns-2
-returns-2 c = leaves-unchanged _ _ _ (write-suspended _ _ _ _ _ (found (c .before .before)) (c .if1 .taken))
-
-returns-3 : tie.Need-returns-3
-returns-3 c =
-    let k = c .before .before .before in
-    leaves-unchanged _ _ _ (write-empty _ _ _ _ _ (found k) (c .before .if1 .left) (omega arith) (there k) (λ i. k .before .before .before .before .before .slice-known .given i .fits) (c .if2 .taken))
-
-sub-if3 : tie.Need-sub-if3
-sub-if3 c = search needs
-
-sub-if3-2 : tie.Need-sub-if3-2
-sub-if3-2 c = search needs
-
-returns-4 : tie.Need-returns-4
-returns-4 c = leaves-unchanged _ _ _ (write-past _ _ _ _ _ (found (c .before .before .before .before)) (c .before .before .if1 .left) (omega arith))
-
-enum-known-t : tie.Need-enum-known-t
-enum-known-t c = search needs
-
-enum-told-2 : tie.Need-enum-told-2
-enum-told-2 c = search needs
-
-returns-5 : tie.Need-returns-5
-returns-5 c = leaves-unchanged _ _ _ (write-off _ _ _ _ _ (found (c .before .before .before .before .before .before)) (c .before .before .before .before .if1 .left) (omega arith) (c .enum-told2 .given .1))
-
 share-at-requires : tie.Need-share-at-requires
-share-at-requires c κs = below (c .before .before .before .before .before .before .before .before .before)
+share-at-requires c κs = below c
 
-cast-mark-ranges : tie.Need-cast-mark-ranges
-cast-mark-ranges c = search needs
+-- place 0
+element-copy-out-note-on : tie.Need-element-copy-out-note-on
+element-copy-out-note-on c = search (length-mapped, needs)
 
-sub-mark-ranges : tie.Need-sub-mark-ranges
-sub-mark-ranges c = search needs
+note-on-requires : tie.Need-note-on-requires
+note-on-requires c κs =
+    let k = c .before .before .before .before in
+    may-note _ _ _ _ (found k) 0 (c .before .before .match2 .keys1) (eight k) _ (c .before .before .before .share-at .ensures)
 
-add-mark-ranges : tie.Need-add-mark-ranges
-add-mark-ranges c = search needs
+-- place 1
+element-copy-out-note-on-2 : tie.Need-element-copy-out-note-on-2
+element-copy-out-note-on-2 c = search (length-mapped, needs)
 
-mark-ranges-requires : tie.Need-mark-ranges-requires
-mark-ranges-requires c κs =
-    let m = c .before .before .before in
-    let w = whereIs-at _ _ _ _ (found (m .before .before .before .before .before .before .before)) .whole in (
-      held m .small,
-      omega arith,
-      held m .few,
-      held m .rows,
-      record { within = omega (arith, fits m, w, c .share-at .ensures); small = omega (arith, fits m, c .share-at .ensures) },
-    )
+note-on-requires-2 : tie.Need-note-on-requires-2
+note-on-requires-2 c κs =
+    let k = c .before .before .before .before in
+    may-note _ _ _ _ (found k) 1 (c .before .before .match2 .keys2) (eight k) _ (c .before .before .before .share-at .ensures)
+
+-- place 2
+element-copy-out-note-on-3 : tie.Need-element-copy-out-note-on-3
+element-copy-out-note-on-3 c = search (length-mapped, needs)
+
+note-on-requires-3 : tie.Need-note-on-requires-3
+note-on-requires-3 c κs =
+    let k = c .before .before .before .before in
+    may-note _ _ _ _ (found k) 2 (c .before .before .match2 .keys3) (eight k) _ (c .before .before .before .share-at .ensures)
+
+-- place 3
+element-copy-out-note-on-4 : tie.Need-element-copy-out-note-on-4
+element-copy-out-note-on-4 c = search (length-mapped, needs)
+
+note-on-requires-4 : tie.Need-note-on-requires-4
+note-on-requires-4 c κs =
+    let k = c .before .before .before .before in
+    may-note _ _ _ _ (found k) 3 (c .before .before .match2 .keys4) (eight k) _ (c .before .before .before .share-at .ensures)
+
+-- place 4
+element-copy-out-note-on-5 : tie.Need-element-copy-out-note-on-5
+element-copy-out-note-on-5 c = search (length-mapped, needs)
+
+note-on-requires-5 : tie.Need-note-on-requires-5
+note-on-requires-5 c κs =
+    let k = c .before .before .before .before in
+    may-note _ _ _ _ (found k) 4 (c .before .before .match2 .keys5) (eight k) _ (c .before .before .before .share-at .ensures)
+
+-- place 5
+element-copy-out-note-on-6 : tie.Need-element-copy-out-note-on-6
+element-copy-out-note-on-6 c = search (length-mapped, needs)
+
+note-on-requires-6 : tie.Need-note-on-requires-6
+note-on-requires-6 c κs =
+    let k = c .before .before .before .before in
+    may-note _ _ _ _ (found k) 5 (c .before .before .match2 .keys6) (eight k) _ (c .before .before .before .share-at .ensures)
+
+-- place 6
+element-copy-out-note-on-7 : tie.Need-element-copy-out-note-on-7
+element-copy-out-note-on-7 c = search (length-mapped, needs)
+
+note-on-requires-7 : tie.Need-note-on-requires-7
+note-on-requires-7 c κs =
+    let k = c .before .before .before .before in
+    may-note _ _ _ _ (found k) 6 (c .before .before .match2 .keys7) (eight k) _ (c .before .before .before .share-at .ensures)
+
+-- place 7
+element-copy-out-note-on-8 : tie.Need-element-copy-out-note-on-8
+element-copy-out-note-on-8 c = search (length-mapped, needs)
+
+note-on-requires-8 : tie.Need-note-on-requires-8
+note-on-requires-8 c κs =
+    let k = c .before .before .before .before in
+    may-note _ _ _ _ (found k) 7 (last (c .before .before)) (eight k) _ (c .before .before .before .share-at .ensures)
 
 same-length : tie.Need-same-length
 same-length c = search needs
 
+returns-2 : tie.Need-returns-2
+returns-2 c =
+    let k = c .before .before .before .before .before .before .before in
+    leaves-as _ _ _ _ (write-on _ _ _ _ (found k) 0 (c .before .before .before .before .before .match2 .keys1) _ (c .before .before .before .before .before .before .share-at .ensures) _) (c .before .before .note-on .ensures)
+
+same-length-2 : tie.Need-same-length-2
+same-length-2 c = search needs
+
+returns-3 : tie.Need-returns-3
+returns-3 c =
+    let k = c .before .before .before .before .before .before .before in
+    leaves-as _ _ _ _ (write-on _ _ _ _ (found k) 1 (c .before .before .before .before .before .match2 .keys2) _ (c .before .before .before .before .before .before .share-at .ensures) _) (c .before .before .note-on2 .ensures)
+
+same-length-3 : tie.Need-same-length-3
+same-length-3 c = search needs
+
+returns-4 : tie.Need-returns-4
+returns-4 c =
+    let k = c .before .before .before .before .before .before .before in
+    leaves-as _ _ _ _ (write-on _ _ _ _ (found k) 2 (c .before .before .before .before .before .match2 .keys3) _ (c .before .before .before .before .before .before .share-at .ensures) _) (c .before .before .note-on3 .ensures)
+
+same-length-4 : tie.Need-same-length-4
+same-length-4 c = search needs
+
+returns-5 : tie.Need-returns-5
+returns-5 c =
+    let k = c .before .before .before .before .before .before .before in
+    leaves-as _ _ _ _ (write-on _ _ _ _ (found k) 3 (c .before .before .before .before .before .match2 .keys4) _ (c .before .before .before .before .before .before .share-at .ensures) _) (c .before .before .note-on4 .ensures)
+
+same-length-5 : tie.Need-same-length-5
+same-length-5 c = search needs
+
 returns-6 : tie.Need-returns-6
 returns-6 c =
-    let m = c .before .before .before .before .before .before in
-    let k = m .before .before .before .before .before .before .before in
-    let a = k .before .before .before .before .before .before .args in
-    let w : writeTo (a .at) (a .at + (a .bytes .0 - 1)) ≡ record { address = a .at; bytes = a .bytes .0 } =
-    let e : a .at + (a .bytes .0 - 1) - a .at + 1 ≡ a .bytes .0 = omega arith in
-    ap (λ (b : ℕ). record { address = a .at; bytes = b }) e in
-    let r = c .before .before .mark-ranges in
-    let at = c .before .before .before .share-at .ensures in
-    leaves-unchanged _ _ _ (write-done (a .t1) (now (a .marks)) (a .id) _ _ (found k) (m .before .before .before .before .before .if1 .left) (omega arith) _ _ (m .before .t .given .1) (there k) _ _
-    (λ i. c .slice-known2 .given i .fits) (r .kept .0) (rw (w, at) at (r .ensures .0)) (rw (w, at) at (r .ensures .1)))
+    let k = c .before .before .before .before .before .before .before in
+    leaves-as _ _ _ _ (write-on _ _ _ _ (found k) 4 (c .before .before .before .before .before .match2 .keys5) _ (c .before .before .before .before .before .before .share-at .ensures) _) (c .before .before .note-on5 .ensures)
+
+same-length-6 : tie.Need-same-length-6
+same-length-6 c = search needs
+
+returns-7 : tie.Need-returns-7
+returns-7 c =
+    let k = c .before .before .before .before .before .before .before in
+    leaves-as _ _ _ _ (write-on _ _ _ _ (found k) 5 (c .before .before .before .before .before .match2 .keys6) _ (c .before .before .before .before .before .before .share-at .ensures) _) (c .before .before .note-on6 .ensures)
+
+same-length-7 : tie.Need-same-length-7
+same-length-7 c = search needs
+
+returns-8 : tie.Need-returns-8
+returns-8 c =
+    let k = c .before .before .before .before .before .before .before in
+    leaves-as _ _ _ _ (write-on _ _ _ _ (found k) 6 (c .before .before .before .before .before .match2 .keys7) _ (c .before .before .before .before .before .before .share-at .ensures) _) (c .before .before .note-on7 .ensures)
+
+same-length-8 : tie.Need-same-length-8
+same-length-8 c = search needs
+
+returns-9 : tie.Need-returns-9
+returns-9 c =
+    let k = c .before .before .before .before .before .before .before in
+    leaves-as _ _ _ _ (write-on _ _ _ _ (found k) 7 (last (c .before .before .before .before .before)) _ (c .before .before .before .before .before .before .share-at .ensures) _) (c .before .before .note-on8 .ensures)
 
 pub note-spec : {M : Type 1} → statement M
 note-spec =
@@ -140,20 +191,36 @@ note-spec =
     enum-known-i
     enum-told
     returns
-    mul-c
-    element-copy-out-c
-    returns-2
-    returns-3
-    sub-if3
-    sub-if3-2
-    returns-4
-    enum-known-t
-    enum-told-2
-    returns-5
     share-at-requires
-    cast-mark-ranges
-    sub-mark-ranges
-    add-mark-ranges
-    mark-ranges-requires
+    element-copy-out-note-on
+    note-on-requires
+    element-copy-out-note-on-2
+    note-on-requires-2
+    element-copy-out-note-on-3
+    note-on-requires-3
+    element-copy-out-note-on-4
+    note-on-requires-4
+    element-copy-out-note-on-5
+    note-on-requires-5
+    element-copy-out-note-on-6
+    note-on-requires-6
+    element-copy-out-note-on-7
+    note-on-requires-7
+    element-copy-out-note-on-8
+    note-on-requires-8
     same-length
-    returns-6)
+    returns-2
+    same-length-2
+    returns-3
+    same-length-3
+    returns-4
+    same-length-4
+    returns-5
+    same-length-5
+    returns-6
+    same-length-6
+    returns-7
+    same-length-7
+    returns-8
+    same-length-8
+    returns-9)
