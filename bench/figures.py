@@ -48,7 +48,7 @@ class Costs:
 CALLS = {
     "write, sparse: one unit": lambda costs, record: costs.write(record),
     "write, dense: 4,096 units": lambda costs, record: costs.write(record, "writes to all units"),
-    "report, sparse: up to 8 runs": lambda costs, record: costs.report(record, "sparse"),
+    "report, sparse: 0 to 8 runs": lambda costs, record: costs.report(record, "sparse"),
     "report, dense: 255 runs, mostly their text": lambda costs, record: costs.report(record, "dense"),
 }
 REST = {

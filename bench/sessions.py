@@ -49,9 +49,18 @@ def batches(writes):
     return [" ".join(["batch", *notes[at:at + BATCH]]) for at in range(0, len(notes), BATCH)]
 
 
+def far_apart(rng):
+    """Writes of one byte to 0 to 8 units, each in its own eighth of the units; every second time the last unit is among them."""
+    eighth = UNITS // 8
+    units = [eighth * at + rng.randrange(eighth) for at in rng.sample(range(8), rng.randrange(9))]
+    if units and rng.randrange(2):
+        units[-1] = UNITS - 1
+    return [write(unit, rng.randrange(UNIT)) for unit in units]
+
+
 def sparse(rng, reports):
-    """Eight writes, a report, and so on: a report goes over 4,096 units and finds up to eight runs."""
-    return [line for _ in range(reports) for line in few_writes(rng, 8) + [report()]]
+    """A few writes, a report, and so on: a report goes over 4,096 units and finds 0 to 8 runs."""
+    return [line for _ in range(reports) for line in far_apart(rng) + [report()]]
 
 
 def dense(rng, reports):
@@ -77,23 +86,28 @@ def bodies(seed, scale):
     rng = random.Random(seed)
     writes = few_writes(rng, 40 * BATCH * scale)
     all_units = [f"write {ID} {FIRST} {UNITS * UNIT}"] * (2_000 * scale)
-    few_runs, many_runs = sparse(rng, 1_000 * scale), dense(rng, 80 * scale)
+    many_runs = dense(rng, 80 * scale)
     return {
         "writes": Body(writes, len(writes)),
         "refused writes": Body(to_unknown(writes), len(writes)),
         BATCHES: Body(batches(writes), len(writes)),
         "writes to all units": Body(all_units, len(all_units)),
-        "sparse": Body(few_runs, 1_000 * scale),
-        "sparse, no reports": Body(without_reports(few_runs), 1_000 * scale),
+        **sparse_bodies(seed, scale),
         "dense": Body(many_runs, 80 * scale),
         "dense, no reports": Body(without_reports(many_runs), 80 * scale),
     }
 
 
-def listings(made):
+def sparse_bodies(seed, scale):
+    """The sparse session, and the same without its reports."""
+    lines = sparse(random.Random(seed), 1_000 * scale)
+    return {"sparse": Body(lines, 1_000 * scale), "sparse, no reports": Body(without_reports(lines), 1_000 * scale)}
+
+
+def listings(made, records=RECORDS):
     """Every listing to be timed: lines, by the names of record and body. One is empty: it costs what starting a program costs."""
     lines = {("nothing", "nothing"): []}
-    for record, setup in RECORDS.items():
+    for record, setup in records.items():
         for name, body in made.items():
             if record != "idle" or name in ("writes", "refused writes"):
                 lines[record, name] = setup + body.lines

@@ -667,6 +667,19 @@ ORDERS = [
           for place in (1, 27, 54, 55) for number, bad in A_BAD_NOTE.items()],
         ("batch", batch((5, 0, 2**23), (5, 0, ALL_ONES)), noted(2, 4096), EVERY_MARK),
     ]),
+    # 64 marks at a time (W5): marks past a controller's units decide nothing, and a run crosses words.
+    ("4 units", tracked(0, (65536, 4)), [
+        ("receive", dict(id=5, data=b"\xaa" * 32, mark=ALL_ONES - 15), [0, 0, 0, 0, 0, 0, 0], {0: ALL_ONES - 15}),
+        ("receive", dict(id=5, data=b"\xaa" * 32, mark=ALL_ONES - 7), [0, 0, 0, 0, 0, 0, 1], {0: ALL_ONES - 15}, [(77824, 1)]),
+    ]),
+    ("200 units", tracked(0, (0, 200)), [
+        ("receive", dict(id=5, data=b"\xaa" * 64, mark=2**63), [0, 0, 0, 0, 0, 0, 3], {0: 0, 1: 0, 2: 0, 3: 2**63},
+         [(258048, 1), (520192, 1), (782336, 1)]),
+        ("receive", dict(id=5, data=b"\xaa" * 80, mark=ALL_ONES - 1), [0, 0, 0, 0, 0, 0, 4], {0: 0, 1: 0, 2: 0, 3: ALL_ONES - 255},
+         [(4096, 63), (266240, 63), (528384, 63), (790528, 7)]),
+        ("receive", dict(id=5, data=b"\xaa" * 64, mark=2**63 + 1), [0, 0, 0, 0, 1, 0, 3], {0: 0, 1: 0, 2: 2**63, 3: 2**63 + 1},
+         [(0, 1), (258048, 2), (520192, 2)]),
+    ]),
     ("to 2^64", tracked(0, (MEMORY - 2**24, 4096)), [
         ("write", dict(id=5, address=ALL_ONES, bytes=1), [0, 0, 1]),
         ("write", dict(id=5, address=1, bytes=ALL_ONES), [0, 0, 4096]),

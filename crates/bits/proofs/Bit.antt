@@ -8,7 +8,7 @@ use native.Mathlib.Numerals.{one-add}
 use native.Mathlib.Omega.{arith}
 use lib.Arith.{digits-mod}
 use lib.Bits.{bitAnd, bitOr, and-step, or-step, and-shr, or-shr, shifted-half, shifted-even}
-use lib.Count.{ones, ones-step, ones-le}
+use lib.Count.{ones, ones-step, ones-le, trailingZeros, under}
 use lib.Dec.{eqb}
 use lib.ListN.{length, getD}
 use lib.Pow.{shr-shr, pow-pos}
@@ -21,7 +21,7 @@ unfoldable pub bit : ℕ → ℕ → Bool
 bit w zero = eqb (w % 2) 1
 bit w (suc j) = bit (w / 2) j
 
--- the code's `(w >> j) & 1 == 1`
+-- by a shift
 pub bit-at : (w j : ℕ) → bit w j ≡ eqb (w / 2 ^ j % 2) 1
 unfolding bit
 bit-at w zero = rw div-one
@@ -114,6 +114,28 @@ module _ (b n j : ℕ) where
 
   pub mask-above : b + n ≤ j → bit (maskOf b n) j ≡ false
   mask-above h = up (omega arith) ∙ bit-above n (2 ^ n - 1) (j - b) (omega (arith, pow-pos n)) (omega arith)
+
+-- ---- the count of trailing zeros: below it are zeros, and where it ends a one
+pub zeros-below : (n a j : ℕ) → j < trailingZeros n a → bit a j ≡ false
+unfolding bit trailingZeros
+zeros-below zero a j h = absurd (omega arith)
+zeros-below (suc n) a j h = go (a % 2) refl j h (zeros-below n (a / 2))
+  where
+    go : (d : ℕ) → a % 2 ≡ d → (i : ℕ) → i < under d (trailingZeros n (a / 2)) → ((k : ℕ) → k < trailingZeros n (a / 2) → bit (a / 2) k ≡ false) → bit a i ≡ false
+    go zero e zero g ih = rw e
+    go zero e (suc i) g ih = ih i (omega arith)
+    go (suc d) e i g ih = absurd (omega arith)
+
+pub zeros-end : (n a : ℕ) → trailingZeros n a < n → bit a (trailingZeros n a) ≡ true
+unfolding bit trailingZeros
+zeros-end zero a h = absurd (omega arith)
+zeros-end (suc n) a h = go (a % 2) refl (omega arith) h (zeros-end n (a / 2))
+  where
+    go : (d : ℕ) → a % 2 ≡ d → d < 2 → under d (trailingZeros n (a / 2)) < suc n → (trailingZeros n (a / 2) < n → bit (a / 2) (trailingZeros n (a / 2)) ≡ true)
+        → bit a (under d (trailingZeros n (a / 2))) ≡ true
+    go zero e l g ih = ih (omega arith)
+    go (suc zero) e l g ih = rw e
+    go (suc (suc d)) e l g ih = absurd (omega arith)
 
 -- ---- the list of a number's bits
 pub digits-length : (n w : ℕ) → length (digits n w) ≡ n

@@ -1,8 +1,9 @@
--- Laws about the definitions of specs/, in files of the same names. Bit and Word are the crate's own: what the code does to one word.
+-- Laws about the definitions of specs/, in files of the same names. Bit, Word and Low are the crate's own: what the code does to one word.
 pub mod Span
 pub mod Next
 pub mod Share
 pub mod Flat
 mod Bit
 mod Word
+mod Low
 pub mod Pack

@@ -1,4 +1,4 @@
--- One word under a mask: what the code's `w | m`, `w & !m`, `!w & m` and `(w >> b) & 1` are on the flat list. The crate's own.
+-- One word under a mask: what the code's `w | m`, `w & !m` and `!w & m` are on the flat list. The crate's own.
 -- Assumes nothing.
 use mathlib.Core.Path.{_≡_, refl, sym, ap, ap₂, _∙_}
 use mathlib.Core.Bool.{Bool, true, false, not, cond, _&&_, _||_}
@@ -7,9 +7,8 @@ use Prim.Native.Nat.{ℕ, _+_, _-_, _*_, _/_, _%_, _^_, _≤_, _<_}
 use native.Mathlib.Nat.{zero-add}
 use native.Mathlib.Decide.{decLt}
 use native.Mathlib.Omega.{arith}
-use lib.Bits.{bitAnd, bitOr, and-lt, and-mask}
+use lib.Bits.{bitAnd, bitOr, and-lt}
 use lib.Count.{ones}
-use lib.Dec.{eqb}
 use lib.ListN.{length, getD, set}
 use lib.Pow.{ones-split, high, shl-exact, ones-lt}
 use lib.Seq.{ext-getD}
@@ -19,11 +18,7 @@ use Rattle.bits.specs.Share.{putShare}
 use Rattle.bits.proofs.Bit.{bit, bit-and, bit-or, bit-not, maskOf, mask-below, mask-in, mask-above, digits-length, digits-at, ones-clears}
 use Rattle.bits.proofs.Span.{fill-length, fill-at-below, fill-at-in, fill-at-above, fill-turn, clears-add, clears-ext, clears-none, clears-turn}
 use Rattle.bits.proofs.Share.{fill-share, clears-share}
-use Rattle.bits.proofs.Flat.{flat-length, flat-at, flat-word, flat-set}
-
--- `(w >> b) & 1 == 1`
-pub flat-test : (ws : List ℕ) (k : ℕ) → eqb (bitAnd (getD ws (k / 64) 0 / 2 ^ (k % 64)) 1) 1 ≡ getD (flat ws) k false
-flat-test ws k = ap (λ (x : ℕ). eqb x 1) (and-mask (getD ws (k / 64) 0 / 2 ^ (k % 64)) 1) ∙ sym (flat-at ws k)
+use Rattle.bits.proofs.Flat.{flat-length, flat-word, flat-set}
 
 -- `(u64::MAX >> (64 - n)) << b`
 pub mask-is : (b n : ℕ) → b + n ≤ 64 → (2 ^ 64 - 1) / 2 ^ (64 - n) * 2 ^ b % 2 ^ 64 ≡ maskOf b n

@@ -4,51 +4,10 @@
 // The contracts cite specs/; the laws that a caller's proof needs are in proofs/, in files of the same names.
 ghost use mathlib.Core.Path.{_≡_};
 ghost use mathlib.Core.Bool.{true, false};
-ghost use lib.ListN.{getD};
-ghost use Rattle.bits.specs.Flat.{flat};
+ghost use Rattle.bits.specs.Flat.{digits, flat};
 ghost use Rattle.bits.specs.Span.{fill, clears};
 ghost use Rattle.bits.specs.Next.{next};
 ghost use Prim.Native.Nat.{_+_, _-_, _*_, _^_, _<_, _≤_, min};
-
-// Whether the unit at place k is pending. Past the words none is.
-fn is_set(words: &[u64], k: usize) -> bool
-    ensures { λ r. ⌜ r ≡ getD (flat (now (words .entry))) k false ⌝ }
-{
-    let i = k / 64;
-    if i < words.len() {
-        let w = words[i];
-        return (w >> (k % 64)) & 1 == 1;
-    }
-    false
-}
-
-// The least place from `from` below `to` that is pending, or `to` where none is. Past the words none is.
-pub fn next_set(words: &[u64], from: usize, to: usize) -> usize
-    ensures { λ r. ⌜ r ≡ next true (flat (now (words .entry))) from to ⌝ }
-{
-    let mut k = from;
-    while k < to {
-        if is_set(words, k) {
-            return k;
-        }
-        k += 1;
-    }
-    to
-}
-
-// The least place from `from` below `to` that is clear, or `to` where none is. Past the words all are.
-pub fn next_clear(words: &[u64], from: usize, to: usize) -> usize
-    ensures { λ r. ⌜ r ≡ next false (flat (now (words .entry))) from to ⌝ }
-{
-    let mut e = from;
-    while e < to {
-        if !is_set(words, e) {
-            return e;
-        }
-        e += 1;
-    }
-    to
-}
 
 // The lesser of a and b.
 fn least(a: usize, b: usize) -> usize
@@ -63,6 +22,58 @@ fn mask(b: usize, n: usize) -> u64
     ensures { λ r. ⌜ r ≡ (2 ^ n - 1) * 2 ^ b ⌝ }
 {
     (u64::MAX >> (64 - n)) << b
+}
+
+// The lowest bit of w from bit b up that is `want`, or 64 where none is.
+fn low_from(w: u64, want: bool, b: usize) -> usize
+    requires { ⌜ b < 64 ⌝ }
+    ensures { λ r. ⌜ r ≡ next want (digits 64 w) b 64 ⌝ }
+{
+    let m = mask(b, 64 - b);
+    if want {
+        return u64::trailing_zeros(w & m) as usize;
+    }
+    u64::trailing_zeros(!w & m) as usize
+}
+
+// The least place from `from` below `to` whose bit is `want`, or `to` where none is. Past the words all is clear. From the
+// word of `from` to that of the last place, each word is read once and its 64 marks are looked at together.
+fn search(words: &[u64], want: bool, from: usize, to: usize) -> usize
+    ensures { λ r. ⌜ r ≡ next want (flat (now (words .entry))) from to ⌝ }
+{
+    if to <= from {
+        return to;
+    }
+    let last = (to - 1) / 64;
+    let n = least(words.len(), last + 1);
+    let mut i = from / 64;
+    let mut b = from % 64;
+    while i < n {
+        let z = low_from(words[i], want, b);
+        if z != 64 {
+            return least(64 * i + z, to);
+        }
+        i += 1;
+        b = 0;
+    }
+    if want {
+        return to;
+    }
+    if last < i { to } else { 64 * i + b }
+}
+
+// The least place from `from` below `to` that is pending, or `to` where none is. Past the words none is.
+pub fn next_set(words: &[u64], from: usize, to: usize) -> usize
+    ensures { λ r. ⌜ r ≡ next true (flat (now (words .entry))) from to ⌝ }
+{
+    search(words, true, from, to)
+}
+
+// The least place from `from` below `to` that is clear, or `to` where none is. Past the words all are.
+pub fn next_clear(words: &[u64], from: usize, to: usize) -> usize
+    ensures { λ r. ⌜ r ≡ next false (flat (now (words .entry))) from to ⌝ }
+{
+    search(words, false, from, to)
 }
 
 // Makes the places from `from` below `to` pending, 64 at a time, and answers how many of them were clear before. No
