@@ -79,4 +79,11 @@ def share_left_out(programs, record, name):
 
 
 RATIOS = {**{name: ratio(cost) for name, cost in {**CALLS, **REST}.items()}, "a note in a batch of 1,024, to a C write": burst}
+AIMS = {
+    "write, sparse: one unit": "at most 6 and 16 of plain C, 3 of C with the test",
+    "report, sparse: 0 to 8 runs": "at most 0.4 of plain C",
+    "a line alone, no call": "at most 1.4",
+    "the whole sparse session": "at most 1.6 with 1 range",
+    "a note in a batch of 1,024, to a C write": "at most 2.5 of plain C",
+}
 SHARES = {**{name: share(cost) for name, cost in CALLS.items()}, "write, sparse, by leaving the test out": share_left_out}

@@ -40,13 +40,14 @@ static void print_header(const uint8_t *report, size_t size)
     printf("runs %u\n", tmc_report_count(report, size));
 }
 
+// Of a report that is not refused: then a run may be asked for by itself.
 static void print_runs(const uint8_t *report, size_t size)
 {
     unsigned long long unit = 4096ull << tmc_report_granularity(report, size);
     uint32_t count = tmc_report_count(report, size);
     for (uint32_t i = 0; i < count; i++) {
-        unsigned long long address = tmc_report_address(report, size, i);
-        uint32_t units = tmc_report_length(report, size, i);
+        unsigned long long address = tmc_report_run_address(report, size, i);
+        uint32_t units = tmc_report_run_length(report, size, i);
         printf("run %u: address %llu, %u units, %llu bytes\n", i, address, units, units * unit);
     }
 }

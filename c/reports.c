@@ -4,7 +4,7 @@
 
 #include "tmc_report.h"
 
-enum { CASE = 1088, REPORT_AT = 16, REPORT_ROOM = CASE - REPORT_AT, ANSWER = 32 };
+enum { CASE = 1088, REPORT_AT = 16, REPORT_ROOM = CASE - REPORT_AT, ANSWER = 44 };
 
 // The little-endian number in so many bytes.
 static uint64_t number(const uint8_t *bytes, int count)
@@ -33,6 +33,8 @@ static void ask(const uint8_t *report, size_t size, uint64_t index, uint8_t *ans
     put(answer + 19, 1, tmc_report_refusal_at(report, size, index));
     put(answer + 20, 8, tmc_report_address(report, size, index));
     put(answer + 28, 4, tmc_report_length(report, size, index));
+    put(answer + 32, 8, tmc_report_run_address(report, size, index));
+    put(answer + 40, 4, tmc_report_run_length(report, size, index));
 }
 
 static void play(uint8_t *bytes, uint8_t *answer)

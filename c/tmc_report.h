@@ -1,7 +1,8 @@
 // Reads a report of changed memory (NVMe: Tracked Memory Changed data structure). For C99 and C++; link target/staticlib/libreport_reader.a.
 //
 // Each function is given a report as a pointer to its first byte and the number of bytes that are there, and answers one number. Any bytes, any size and
-// any index are met with an answer; whatever is refused answers 0 to every question but those for its refusal and the index of its bad descriptor.
+// any index are met with an answer; whatever is refused answers 0 to every question but those for its refusal, the index of its bad descriptor and a run by
+// itself.
 //
 // A caller keeps this, and nothing else: from `report` on, `size` bytes can be read, and nobody changes them while a call runs. They need not be aligned.
 // Where `size` is 0 the pointer is not looked at and may be null. Nothing is written, and nothing is kept from one call to the next.
@@ -59,6 +60,24 @@ uint64_t tmc_report_address(const uint8_t *report, size_t size, uint64_t index);
 // The length of the run at this index, in units and not in bytes; 0 where that is refused.
 // In bytes it fits 64 bits; the address of the byte after the run may be 2^64, which does not.
 uint32_t tmc_report_length(const uint8_t *report, size_t size, uint64_t index);
+
+// ---- A run by itself, for a loop over the runs
+//
+// Each function above looks at the whole report. These two look at the header's count and at one descriptor, whatever else the report holds. Where it is not
+// refused they answer what tmc_report_address and tmc_report_length do, at every index; so a loop asks for the refusal once, of the bytes that it goes over:
+//
+//     if (tmc_report_refusal(report, size) == 0) {
+//         uint64_t unit = (uint64_t)4096 << tmc_report_granularity(report, size);
+//         uint32_t count = tmc_report_count(report, size);
+//         for (uint32_t i = 0; i < count; i++)
+//             copy(tmc_report_run_address(report, size, i), tmc_report_run_length(report, size, i) * unit);
+//     }
+
+// The address of the first byte of the run at this index; 0 where the header or this descriptor is not wholly there, or the index is not below the count.
+uint64_t tmc_report_run_address(const uint8_t *report, size_t size, uint64_t index);
+
+// The length of the run at this index, in units; 0 where its address is for these reasons.
+uint32_t tmc_report_run_length(const uint8_t *report, size_t size, uint64_t index);
 
 #ifdef __cplusplus
 }

@@ -16,7 +16,8 @@ def bad(first):
 # ---- Bytes
 
 # Reports byte by byte, with an index and the answer, so that the layout isn't believed of a writer of these tests.
-# Answer: refusal, first bad; suspended, more, identifier, granularity, count; refusal at the index, address, length.
+# Answer: refusal, first bad; suspended, more, identifier, granularity, count; refusal at the index, address, length;
+# the run by itself.
 BYTES = [
     ("none listed", "00 00 05 00 00 00 00 00 00 00 00 00 00 00 00 00", 0,
      Answer(0, 0, 0, 0, 5, 0, 0, 33, 0, 0)),
@@ -24,29 +25,38 @@ BYTES = [
      Answer(0, 0, 1, 0, 258, 8, 0, 33, 0, 0)),
     ("more of one", "00 01 ff ff 01 00 00 00 14 00 00 00 00 00 00 00"
                     "00 00 00 00 01 00 00 00 04 03 02 01 00 00 00 00", 0,
-     Answer(0, 0, 0, 1, 65535, 20, 1, 0, 2**32, 0x01020304)),
+     Answer(0, 0, 0, 1, 65535, 20, 1, 0, 2**32, 0x01020304, 2**32, 0x01020304)),
     ("the second of two", "00 03 00 80 02 00 00 00 00 00 00 00 00 00 00 00"
                           "00 00 01 00 00 00 00 00 04 00 00 00 00 00 00 00"
                           "00 70 06 05 04 03 02 01 09 00 00 00 00 00 00 00", 1,
-     Answer(0, 0, 1, 1, 32768, 0, 2, 0, 0x0102030405067000, 9)),
+     Answer(0, 0, 1, 1, 32768, 0, 2, 0, 0x0102030405067000, 9, 0x0102030405067000, 9)),
     ("past the second of two", "00 03 00 80 02 00 00 00 00 00 00 00 00 00 00 00"
                                "00 00 01 00 00 00 00 00 04 00 00 00 00 00 00 00"
                                "00 70 06 05 04 03 02 01 09 00 00 00 00 00 00 00", 2,
      Answer(0, 0, 1, 1, 32768, 0, 2, 33, 0, 0)),
     ("all that is reserved set", "00 fe 05 00 01 00 00 00 08 00 ff ff ff ff ff ff"
                                  "00 00 f0 ff ff ff ff ff 01 00 00 00 ff ff ff ff", 0,
-     Answer(0, 0, 1, 0, 5, 8, 1, 0, 2**64 - 2**20, 1)),
-    ("all bits set", "ff " * 32, 0, refused(6)),
-    ("all bits set but the version's", "00 " + "ff " * 31, 0, refused(7)),
+     Answer(0, 0, 1, 0, 5, 8, 1, 0, 2**64 - 2**20, 1, 2**64 - 2**20, 1)),
+    ("all bits set", "ff " * 32, 0, refused(6, run=(2**64 - 1, 2**32 - 1))),
+    ("all bits set but the version's", "00 " + "ff " * 31, 0, refused(7, run=(2**64 - 1, 2**32 - 1))),
     ("count in byte 7", "00 00 05 00 00 00 00 01 00 00 00 00 00 00 00 00", 0, refused(8)),
     ("granularity in byte 9", "00 00 05 00 00 00 00 00 00 01 00 00 00 00 00 00", 0, refused(7)),
     ("length in byte 11", "00 00 05 00 01 00 00 00 00 00 00 00 00 00 00 00"
                           "00 00 01 00 00 00 00 00 00 00 00 01 00 00 00 00", 0,
-     Answer(0, 0, 0, 0, 5, 0, 1, 0, 65536, 2**24)),
+     Answer(0, 0, 0, 0, 5, 0, 1, 0, 65536, 2**24, 65536, 2**24)),
     ("length in reserved bytes alone", "00 00 05 00 01 00 00 00 00 00 00 00 00 00 00 00"
-                                       "00 00 01 00 00 00 00 00 00 00 00 00 01 00 00 00", 0, refused(17, 0)),
+                                       "00 00 01 00 00 00 00 00 00 00 00 00 01 00 00 00", 0,
+     refused(17, 0, run=(65536, 0))),
     ("address in byte 1", "00 00 05 00 01 00 00 00 00 00 00 00 00 00 00 00"
-                          "00 08 01 00 00 00 00 00 01 00 00 00 00 00 00 00", 0, refused(17, 0)),
+                          "00 08 01 00 00 00 00 00 01 00 00 00 00 00 00 00", 0,
+     refused(17, 0, run=(67584, 1))),
+    ("the first of two, the second not wholly there", "00 03 00 80 02 00 00 00 00 00 00 00 00 00 00 00"
+                                                      "08 07 06 05 04 03 02 01 0c 0b 0a 09 00 00 00 00"
+                                                      "00 70 06 05 04 03 02 01 09 00 00 00 00 00 00", 0,
+     refused(8, run=(0x0102030405060708, 0x090a0b0c))),
+    ("the second of two, not wholly there", "00 03 00 80 02 00 00 00 00 00 00 00 00 00 00 00"
+                                            "08 07 06 05 04 03 02 01 0c 0b 0a 09 00 00 00 00"
+                                            "00 70 06 05 04 03 02 01 09 00 00 00 00 00 00", 1, refused(8)),
 ]
 
 
@@ -172,17 +182,22 @@ def fields():
 
 
 def one_case(name, report, refusal, index, reserved=zeros):
-    number, *first_bad = refusal if isinstance(refusal, tuple) else (refusal,)
-    answer = report.accepted(index) if refusal is DONE else refused(number, *first_bad)
-    return Case(name, report.packed(reserved), index, answer)
+    lent = report.packed(reserved)
+    number, first_bad = refusal if isinstance(refusal, tuple) else (refusal, 0)
+    answer = report.accepted(index) if refusal is DONE else report.refused(number, first_bad, index, len(lent))
+    return Case(name, lent, index, answer)
 
 
 def indexes():
-    """33 exactly from the count on, also where bytes after the last descriptor would be one."""
-    for name, report in (("none listed", Report()), ("three", Report(*PAGES)), ("66", with_bad(66)),
-                         ("three, 66 there", Report(*with_bad(66).descriptors, count=3))):
+    """33 exactly from the count on, also where bytes after the last descriptor would be one. Of refused reports, a run
+    by itself exactly where it is counted and there."""
+    for name, report, refusal in (
+            ("none listed", Report(), DONE), ("three", Report(*PAGES), DONE), ("66", with_bad(66), DONE),
+            ("three, 66 there", Report(*with_bad(66).descriptors, count=3), DONE),
+            ("three, the second bad, 66 there", Report(*with_bad(66, (1, PAST_MEMORY)).descriptors, count=3), bad(1)),
+            ("2^32 - 1, 66 there", Report(*with_bad(66).descriptors, count=2**32 - 1), 8)):
         for index in INDEXES:
-            yield one_case(f"{name}, at an index", report, DONE, index)
+            yield one_case(f"{name}, at an index", report, refusal, index)
 
 
 def lengths():
@@ -193,7 +208,7 @@ def lengths():
             report = Report(*with_bad(66).descriptors, count=count, suspended=1)
             index = max(0, count - 1)
             whole = size >= HEADER_BYTES + DESCRIPTOR_BYTES * count
-            answer = report.accepted(index) if whole else refused(8)
+            answer = report.accepted(index) if whole else report.refused(8, 0, index, size)
             yield Case(f"{count} listed, {size} bytes lent", report.packed(ones)[:size], index, answer)
 
 
@@ -247,11 +262,11 @@ def orders():
         report = Report(*descriptors, version=int(version), more=1, granularity=20 + granularity, count=count)
         lent = report.packed(ones)[:15 if cut else None]
         said = "; ".join(rule for rule in ORDER if rule in broken) or "no rule"
-        yield Case(f"{name}; breaks {said}", lent, index, first_broken(report, broken, index))
+        yield Case(f"{name}; breaks {said}", lent, index, first_broken(report, broken, index, len(lent)))
 
 
-def first_broken(report, broken, index):
+def first_broken(report, broken, index, size):
     first = next((rule for rule in ORDER if rule in broken), "33")
     if first == "33":
         return report.accepted(index)  # the report itself is accepted
-    return refused(int(first.split(",")[0]), 1 if first == "17" else 0)
+    return report.refused(int(first.split(",")[0]), 1 if first == "17" else 0, index, size)

@@ -27,12 +27,14 @@ class Answer(NamedTuple):
     refusal_at_index: int = 0
     address: int = 0
     length: int = 0
+    run_address: int = 0
+    run_length: int = 0
 
     def packed(self):
         return PACKED_ANSWER.pack(*self)
 
 
-PACKED_ANSWER = struct.Struct("<BQBBHHIBQI")
+PACKED_ANSWER = struct.Struct("<BQBBHHIBQIQI")
 ANSWER_BYTES = PACKED_ANSWER.size
 
 
@@ -40,9 +42,9 @@ def read_answer(data):
     return Answer(*PACKED_ANSWER.unpack(data))
 
 
-def refused(number, first_bad=0):
-    """An index of a refused report is refused as the report is, and all else is 0."""
-    return Answer(refusal=number, first_bad=first_bad, refusal_at_index=number)
+def refused(number, first_bad=0, run=(0, 0)):
+    """An index of a refused report is refused as the report is, and all else is 0 save a run by itself."""
+    return Answer(number, first_bad, refusal_at_index=number, run_address=run[0], run_length=run[1])
 
 
 # ---- A report
@@ -78,7 +80,13 @@ class Report:
         if index >= self.count:
             return header._replace(refusal_at_index=33)
         address, length = self.descriptors[index]
-        return header._replace(address=address, length=length)
+        return header._replace(address=address, length=length, run_address=address, run_length=length)
+
+    def refused(self, number, first_bad, index, size):
+        """The answer if a rule is broken, of the first so many bytes: a run by itself is there if it is counted and its
+        bytes are among them."""
+        there = index < self.count and size >= HEADER_BYTES + DESCRIPTOR_BYTES * (index + 1)
+        return refused(number, first_bad, self.descriptors[index] if there else (0, 0))
 
 
 # ---- A case

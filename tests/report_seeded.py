@@ -2,8 +2,8 @@
 
 import random
 
-from report_case import (DESCRIPTOR_BYTES, HEADER_BYTES, MEMORY, MOST_DESCRIPTORS, MOST_LENT, Case, Report, refused,
-                         unit_of, zeros)
+from report_case import (DESCRIPTOR_BYTES, HEADER_BYTES, MEMORY, MOST_DESCRIPTORS, MOST_LENT, Case, Report, unit_of,
+                         zeros)
 
 
 def cases(seed, count):
@@ -31,7 +31,7 @@ class Maker:
         lent = report.packed(self.random.getrandbits if self.chance(0.5) else zeros)
         if self.chance(0.25):
             lent = self.cut(lent)
-            name, known = name + ", cut short", known and refused(8)
+            name, known = name + ", cut short", known and report.refused(8, 0, index, len(lent))
         elif self.chance(0.3):
             lent = (lent + self.random.randbytes(self.random.choice([1, 15, 16, 17, 64, MOST_LENT])))[:MOST_LENT]
         return Case(name, lent, index, known)

@@ -5,7 +5,6 @@ use calls::WriteRecord;
 use fields::Number;
 use output::Buffer;
 use output::Waiting;
-use playing::Played;
 use rules::Bytes;
 use rules::Device;
 ghost use mathlib.Core.Path.{_≡_};
@@ -13,16 +12,10 @@ ghost use mathlib.Core.Bool.{true};
 ghost use Prim.Native.Nat.{_≤_, _<_};
 ghost use lib.ListN.{length};
 
-// What a line asks for: a batch of so many records, or none of these lines; or it is bad.
-enum Asked {
-    Batch(usize),
-    Other,
-    Bad,
-}
-
-// A line: what it asks for, and the records of its batch, as many as there is room for.
+// A line: how many records its batch has, and these, as many as there is room for; or it is bad.
 struct Burst {
-    asked: Asked,
+    ok: bool,
+    count: usize,
     list: [WriteRecord; 1025],
 }
 
@@ -115,11 +108,15 @@ fn read_record(line: &[u8], at: usize) -> Read
 
 // ---- lines
 
-// A line with no batch.
-fn none(asked: Asked) -> Burst {
+// A bad line.
+fn bad() -> Burst {
     let record = no_record();
     let list = [record; 1025];
-    Burst { asked, list }
+    Burst {
+        ok: false,
+        count: 0,
+        list,
+    }
 }
 
 // A `batch`, whose word ends at `end`: at most 1,100 records, of which there is room for one more than a batch may have.
@@ -133,10 +130,10 @@ fn batch_line(line: &[u8], end: usize) -> Burst
     while at < line.len() {
         let read = read_record(line, at);
         if !read.ok {
-            return none(Asked::Bad);
+            return bad();
         }
         if count >= 1100 {
-            return none(Asked::Bad);
+            return bad();
         }
         let record = read.record;
         if count < 1025 {
@@ -146,7 +143,8 @@ fn batch_line(line: &[u8], end: usize) -> Burst
         at = read.end;
     }
     Burst {
-        asked: Asked::Batch(count),
+        ok: true,
+        count,
         list,
     }
 }
@@ -158,36 +156,45 @@ fn burst_line(line: &[u8], end: usize) -> Burst
     let count = take(line, end, 2000);
     let read = read_record(line, count.end);
     if !count.ok {
-        return none(Asked::Bad);
+        return bad();
     }
     if !read.ok {
-        return none(Asked::Bad);
+        return bad();
     }
     if read.end < line.len() {
-        return none(Asked::Bad);
+        return bad();
     }
     let record = read.record;
     let list = [record; 1025];
-    let asked = Asked::Batch(count.value as usize);
-    Burst { asked, list }
+    Burst {
+        ok: true,
+        count: count.value as usize,
+        list,
+    }
 }
 
 // A line read.
 fn read_line(line: &[u8]) -> Burst {
     if line.len() > 16383 {
-        return none(Asked::Bad);
+        return bad();
     }
     let end = fields::field_end(line, 0);
     if fields::same(&line[..end], b"batch") {
         return batch_line(line, end);
     }
-    if fields::same(&line[..end], b"burst") {
-        return burst_line(line, end);
-    }
-    none(Asked::Other)
+    burst_line(line, end)
 }
 
 // ---- played
+
+// Whether a line begins with one of these words.
+pub fn asks(line: &[u8]) -> bool {
+    let end = fields::field_end(line, 0);
+    if fields::same(&line[..end], b"batch") {
+        return true;
+    }
+    fields::same(&line[..end], b"burst")
+}
 
 // Puts a batch's answer: a refused one's number alone.
 fn put_batched(out: &mut Buffer, waiting: Waiting, b: Batched) -> Waiting {
@@ -201,27 +208,19 @@ fn put_batched(out: &mut Buffer, waiting: Waiting, b: Batched) -> Waiting {
     output::put_byte(out, w, b'\n')
 }
 
-// Plays a line of a shelf listing, and puts its answer.
-pub fn play(
+// Plays a line that begins with one of these words, and puts its answer.
+pub fn answer(
     d: Device,
     marks: &mut [u64],
     line: &[u8],
     out: &mut Buffer,
     waiting: Waiting,
-) -> Played {
+) -> Waiting {
     let burst = read_line(line);
-    let asked = burst.asked;
-    match asked {
-        Asked::Batch(count) => {
-            let list = burst.list;
-            let batched = tracker::batch_of(d, marks, list, count);
-            let waiting = put_batched(out, waiting, batched);
-            Played { device: d, waiting }
-        }
-        Asked::Other => playing::play(d, marks, line, out, waiting),
-        Asked::Bad => {
-            let waiting = output::put_bytes(out, waiting, b"bad\n");
-            Played { device: d, waiting }
-        }
+    if !burst.ok {
+        return output::put_bytes(out, waiting, b"bad\n");
     }
+    let list = burst.list;
+    let batched = tracker::batch_of(d, marks, list, burst.count);
+    put_batched(out, waiting, batched)
 }

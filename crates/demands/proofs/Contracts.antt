@@ -30,6 +30,8 @@ asks =
       refusal-at = λ κs a. tt;
       address = λ κs a. tt;
       length = λ κs a. tt;
+      run-address = λ κs a. tt;
+      run-length = λ κs a. tt;
       read-line = λ κs a. tt;
     }
 
@@ -77,6 +79,8 @@ reader =
       refusal-at = λ κs a r e p. p;
       address = λ κs a r e p. p;
       length = λ κs a r e p. p;
+      run-address = λ κs a r e p. p;
+      run-length = λ κs a r e p. p;
     }
 
 pub contracts : Contracts

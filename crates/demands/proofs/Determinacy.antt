@@ -38,6 +38,8 @@ report-reader =
       refusal-at = λ κs a r r′ e e′ p q. p ∙ sym q;
       address = λ κs a r r′ e e′ p q. p ∙ sym q;
       length = λ κs a r r′ e e′ p q. p ∙ sym q;
+      run-address = λ κs a r r′ e e′ p q. p ∙ sym q;
+      run-length = λ κs a r r′ e e′ p q. p ∙ sym q;
     }
 
 pub determinacy : Determinacy

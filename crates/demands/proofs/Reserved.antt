@@ -17,7 +17,7 @@ use Rattle.demands.specs.Reserved.{AlikeStructure, AlikeReport, Ignored}
 
 -- ---- numbers and records are made of their own bytes
 
-numberAt-same : (x y : List ℕ) (w at : ℕ) → ((k : ℕ) → at ≤ k → k < at + w → getD x k 0 ≡ getD y k 0) → numberAt x at w ≡ numberAt y at w
+pub numberAt-same : (x y : List ℕ) (w at : ℕ) → ((k : ℕ) → at ≤ k → k < at + w → getD x k 0 ≡ getD y k 0) → numberAt x at w ≡ numberAt y at w
 unfolding numberAt
 numberAt-same x y zero at f = refl
 numberAt-same x y (suc w) at f =

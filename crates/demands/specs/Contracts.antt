@@ -17,7 +17,7 @@ use denote.Ref.{now}
 use lib.ListN.{length, take}
 use Rattle.rules.specs.Refusals.{refusal}
 use Rattle.rules.specs.StartData.{headerOf, startData, writeTests, startWritten}
-use Rattle.rules.specs.ReportReader.{reportRefusal, reportBadIndex, reportSuspended, reportMore, reportIdentifier, reportGranularity, reportCount, reportRefusalAt, reportAddress, reportLength}
+use Rattle.rules.specs.ReportReader.{reportRefusal, reportBadIndex, reportSuspended, reportMore, reportIdentifier, reportGranularity, reportCount, reportRefusalAt, reportAddress, reportLength, reportRunAddress, reportRunLength}
 use Rattle.start_data.specs.Answer.{rangesRead}
 use Rattle.listing.specs.Listing.{lineOf}
 use Rattle.rules.specs.declared.Device.{Device}
@@ -48,7 +48,9 @@ use Rattle.report_reader.proofs.tmc_report_granularity.Reads as granularity
 use Rattle.report_reader.proofs.tmc_report_count.Reads as count
 use Rattle.report_reader.proofs.tmc_report_refusal_at.Reads as refusal-at
 use Rattle.report_reader.proofs.tmc_report_address.Reads as address
-use Rattle.report_reader.proofs.tmc_report_length.Reads as run-length
+use Rattle.report_reader.proofs.tmc_report_length.Reads as length-of
+use Rattle.report_reader.proofs.tmc_report_run_address.Reads as run-address
+use Rattle.report_reader.proofs.tmc_report_run_length.Reads as run-length
 use Rattle.listing.proofs.read_line.Reads as read-line
 
 -- what each asks holds of any arguments
@@ -74,7 +76,9 @@ pub record AsksNothing : Type 1 where
   pub count : (κs : _) (a : _) → count.Pre κs a
   pub refusal-at : (κs : _) (a : _) → refusal-at.Pre κs a
   pub address : (κs : _) (a : _) → address.Pre κs a
-  pub length : (κs : _) (a : _) → run-length.Pre κs a
+  pub length : (κs : _) (a : _) → length-of.Pre κs a
+  pub run-address : (κs : _) (a : _) → run-address.Pre κs a
+  pub run-length : (κs : _) (a : _) → run-length.Pre κs a
   pub read-line : (κs : _) (a : _) → read-line.Pre κs a
 
 -- the calls of `tracker`: the answer, every word of the marks that were lent to be changed, and every byte of the buffer
@@ -136,7 +140,9 @@ pub record ReaderIs : Type 1 where
   pub count : (κs : _) (a : _) (r : _) (e : _) → count.Post κs a r e → r ≡ reportCount (now (a .0))
   pub refusal-at : (κs : _) (a : _) (r : _) (e : _) → refusal-at.Post κs a r e → r ≡ reportRefusalAt (now (a .0)) (a .1 .0)
   pub address : (κs : _) (a : _) (r : _) (e : _) → address.Post κs a r e → r ≡ reportAddress (now (a .0)) (a .1 .0)
-  pub length : (κs : _) (a : _) (r : _) (e : _) → run-length.Post κs a r e → r ≡ reportLength (now (a .0)) (a .1 .0)
+  pub length : (κs : _) (a : _) (r : _) (e : _) → length-of.Post κs a r e → r ≡ reportLength (now (a .0)) (a .1 .0)
+  pub run-address : (κs : _) (a : _) (r : _) (e : _) → run-address.Post κs a r e → r ≡ reportRunAddress (now (a .0)) (a .1 .0)
+  pub run-length : (κs : _) (a : _) (r : _) (e : _) → run-length.Post κs a r e → r ≡ reportRunLength (now (a .0)) (a .1 .0)
 
 pub record Contracts : Type 2 where
   pub asks : AsksNothing

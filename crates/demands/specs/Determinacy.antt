@@ -30,7 +30,9 @@ use Rattle.report_reader.proofs.tmc_report_granularity.Reads as granularity
 use Rattle.report_reader.proofs.tmc_report_count.Reads as count
 use Rattle.report_reader.proofs.tmc_report_refusal_at.Reads as refusal-at
 use Rattle.report_reader.proofs.tmc_report_address.Reads as address
-use Rattle.report_reader.proofs.tmc_report_length.Reads as run-length
+use Rattle.report_reader.proofs.tmc_report_length.Reads as length-of
+use Rattle.report_reader.proofs.tmc_report_run_address.Reads as run-address
+use Rattle.report_reader.proofs.tmc_report_run_length.Reads as run-length
 use Rattle.listing.proofs.read_line.Reads as read-line
 
 -- the calls: the answer, and every word of the marks that were lent to be changed
@@ -65,7 +67,9 @@ pub record ReportReader : Type 1 where
   pub count : Determinate count.Post
   pub refusal-at : Determinate refusal-at.Post
   pub address : Determinate address.Post
-  pub length : Determinate run-length.Post
+  pub length : Determinate length-of.Post
+  pub run-address : Determinate run-address.Post
+  pub run-length : Determinate run-length.Post
 
 pub record Determinacy : Type 1 where
   pub calls : Calls

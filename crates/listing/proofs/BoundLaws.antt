@@ -9,7 +9,7 @@ use lib.ListN.{length}
 use Rattle.rules.specs.Lists.{every}
 use Rattle.rules.proofs.ListLaws.{every-at}
 use Rattle.fields.specs.Fields.{firstField, laterFields, value}
-use Rattle.listing.specs.Listing.{wordOf, plainLine, places, callLine, lineRules, lineOf}
+use Rattle.listing.specs.Listing.{wordOf, plainLine, places, callLine, lineRules, lineOf, Bounded}
 use Rattle.listing.specs.Inner.{Taken}
 use Rattle.listing.specs.declared.Call.{Call}
 use Rattle.listing.specs.declared.Call.the-variants as call
@@ -18,17 +18,6 @@ use Rattle.listing.specs.declared.Word.{Word}
 use Rattle.listing.specs.declared.Word.the-variants as word
 use Rattle.listing.proofs.WordLaws.{start-most}
 use Rattle.listing.proofs.LineLaws.{places-taken}
-
--- a start has at most 16 pairs, a receive's buffer at most 4096 bytes
-abbrev Bounded : Call → Type 0
-Bounded call.Bad = Unit {0}
-Bounded (call.Dev manager least greatest powers limit n) = Unit {0}
-Bounded (call.Start id g n) = n ≤ 16
-Bounded (call.Stop id) = Unit {0}
-Bounded (call.Write id address bytes) = Unit {0}
-Bounded (call.Recv id n) = n ≤ 4096
-Bounded (call.Susp id kind) = Unit {0}
-Bounded (call.Resume id) = Unit {0}
 
 -- of numbers that a word takes
 callLine-bounded : (w : Word) (n : ℕ) (vs : List ℕ) → Taken w n vs → Bounded (callLine w n vs .call)
@@ -57,10 +46,13 @@ lineOf-bounded s = go (every (lineRules s w fs)) refl
     go true e = callLine-bounded w (length fs) (places (map value fs)) (places-taken w fs (every-at (lineRules s w fs) 1 e) (every-at (lineRules s w fs) 2 e))
     go false e = tt
 
--- the same of a line that was read
-module _ (s : List ℕ) (l : Line) (e : l ≡ lineOf s) where
-  pub start-few : (id g n : ℕ) → l .call ≡ call.Start id g n → n ≤ 16
-  start-few id g n f = subst Bounded f (rw e (lineOf-bounded s))
+-- of a line that was read
+pub read-bounded : (s : List ℕ) (l : Line) → l ≡ lineOf s → Bounded (l .call)
+read-bounded s l e = rw e (lineOf-bounded s)
 
-  pub recv-small : (id n : ℕ) → l .call ≡ call.Recv id n → n ≤ 4096
-  recv-small id n f = subst Bounded f (rw e (lineOf-bounded s))
+-- of its call, once that is known
+pub start-few : (c : Call) → Bounded c → (id g n : ℕ) → c ≡ call.Start id g n → n ≤ 16
+start-few c b id g n f = subst Bounded f b
+
+pub recv-small : (c : Call) → Bounded c → (id n : ℕ) → c ≡ call.Recv id n → n ≤ 4096
+recv-small c b id n f = subst Bounded f b

@@ -1,6 +1,6 @@
 -- Document 01, "Session listing": which call a line asks for, or that it is bad. A line is the list of its bytes, without the line feed.
 -- All of it is the library's interface. What a call answers is not said here.
-use Prim.Native.Nat.{ℕ, _+_, _-_, _/_, _%_}
+use Prim.Native.Nat.{ℕ, _+_, _-_, _/_, _%_, _≤_}
 use mathlib.Core.Bool.{Bool, true, false, _&&_, cond}
 use mathlib.Core.List.{List, [], _∷_, map}
 use lib.Dec.{leb, eqb}
@@ -106,3 +106,14 @@ lineOf s =
     cond (every (lineRules s (wordOf (firstField s)) (laterFields s)))
     (callLine (wordOf (firstField s)) (length (laterFields s)) (places (map value (laterFields s))))
     (plainLine call.Bad)
+
+-- a start has at most 16 pairs, a receive's buffer at most 4096 bytes
+abbrev pub Bounded : Call → Type 0
+Bounded call.Bad = Unit {0}
+Bounded (call.Dev manager least greatest powers limit n) = Unit {0}
+Bounded (call.Start id g n) = n ≤ 16
+Bounded (call.Stop id) = Unit {0}
+Bounded (call.Write id address bytes) = Unit {0}
+Bounded (call.Recv id n) = n ≤ 4096
+Bounded (call.Susp id kind) = Unit {0}
+Bounded (call.Resume id) = Unit {0}

@@ -3,7 +3,7 @@
 use mathlib.Core.Path.{_≡_, refl, sym, ap, ap₂, subst, _∙_}
 use mathlib.Core.Bool.{Bool, true, false, _&&_, _||_, not, cond, or-false, or-true}
 use mathlib.Core.List.{List, [], _∷_, _++_}
-use Prim.Native.Nat.{ℕ, zero, suc, _+_, _-_, _*_, _/_, _≤_, _<_, min}
+use Prim.Native.Nat.{ℕ, zero, suc, _+_, _-_, _*_, _/_, _^_, _≤_, _<_, min}
 use native.Mathlib.Omega.{arith}
 use native.Mathlib.Nat.{suc-add, zero-add, add-assoc, add-zero, div-lt-iff-lt-mul, suc-mul, lt-of-not-le}
 use native.Mathlib.Decide.{decLt, decLe}
@@ -11,17 +11,17 @@ use lib.Dec.{leb, ltb}
 use lib.ListN.{length, getD, take, drop, length-append, take-append-drop}
 use lib.Seq.{ext-getD, take-add, drop-drop}
 use borrow.Author.Tests.{le-leb, lt-leb, lt-ltb, le-ltb}
+use Rattle.bits.specs.Flat.{flat}
 use Rattle.bits.specs.Span.{fill, clears}
-use Rattle.bits.specs.Share.{getShare, putShare}
+use Rattle.bits.specs.Share.{Holds, getShare, putShare}
+use Rattle.bits.proofs.Flat.{flat-length}
 use Rattle.bits.proofs.Span.{fill-length, fill-at-below, fill-at-in, fill-at-above, clears-cons, clears-ext}
 use Rattle.bits.proofs.Share.{getShare-length, getShare-putShare-above, putShare-append, fill-share, clears-share}
-use Rattle.rules.specs.Units.{Unit, Write, unitsOfRow, unitsFrom, touches, mark, newly}
+use Rattle.rules.specs.Units.{Unit, Write, unitsOfRow, touches, mark, newly}
 use Rattle.rules.specs.declared.Range.{Range}
-use Rattle.rules.proofs.UnitLaws.{unitsOfRow-length, unitsOfRow-at, mark-length, mark-append, newly-append, mark-at}
-use Rattle.pieces.specs.Pieces.{unitOf, unitsLeft, PieceFound}
-use Rattle.pieces.specs.declared.Piece.{Piece}
-use Rattle.pieces.proofs.PieceLaws.{left-all, piece-left, piece-length}
-use Rattle.marking.specs.Note.{writeTo, Touched}
+use Rattle.rules.proofs.UnitLaws.{unitsOfRow-length, unitsOfRow-at, mark-length, mark-append, newly-append, newly-le, mark-at}
+use Rattle.pieces.specs.Pieces.{unitOf}
+use Rattle.marking.specs.Note.{writeTo, Touched, unitsOf, markIn, newlyIn}
 
 noUnit : Unit
 noUnit = record { row = 0; address = 0; size = 0 }
@@ -99,66 +99,92 @@ module _ (w : Write) where
 
   -- ---- one range
 
-  row-span : (row size : ℕ) (r : Range) (from to : ℕ) → Touched w size r from to → SpanTouched (unitsOfRow row size (r .start) (r .length)) from (to - from)
-  row-span row size r from to t j h =
-      let k : j < r .length = omega (arith, unitsOfRow-length row size (r .start) (r .length)) in
+  range-span : (size : ℕ) (r : Range) (from to : ℕ) → Touched w size r from to → SpanTouched (unitsOf size r) from (to - from)
+  range-span size r from to t j h =
+      let k : j < r .length = omega (arith, unitsOfRow-length 0 size (r .start) (r .length)) in
       let e : from + (to - from) ≡ to = omega (arith, t .order) in
-      ap (touches w) (unitsOfRow-at row size (r .start) (r .length) j noUnit k) ∙ t .exactly j k ∙ ap (λ x. among from x j) (sym e)
+      ap (touches w) (unitsOfRow-at 0 size (r .start) (r .length) j noUnit k) ∙ t .exactly j k ∙ ap (λ x. among from x j) (sym e)
 
-  -- ---- range after range: bits l, of which those from `off` on are marks of a row's units and then of the rest
-
-  module _ (l : List Bool) (off row size : ℕ) (r : Range) (rest : List Unit) (fits : off + (r .length + length rest) ≤ length l) (from to : ℕ) (t : Touched w size r from to) where
+  -- ---- one range: its span is marked, from bit off + from below off + to
+  module _ (l : List Bool) (off size : ℕ) (r : Range) (fits : off + r .length ≤ length l) (from to : ℕ) (t : Touched w size r from to) where
     abbrev us : List Unit
-    us = unitsOfRow row size (r .start) (r .length)
+    us = unitsOf size r
 
     sized : length us ≡ r .length
-    sized = unitsOfRow-length row size (r .start) (r .length)
+    sized = unitsOfRow-length 0 size (r .start) (r .length)
 
     abbrev share : List Bool
-    share = getShare l off (r .length)
+    share = getShare l off (length us)
 
-    share-length : length share ≡ r .length
-    share-length = getShare-length l off (r .length) (omega arith)
+    share-length : length share ≡ length us
+    share-length = getShare-length l off (length us) (omega (arith, sized))
 
-    -- the bits after the row's span is marked
-    marked-is : fill true l (off + from) (to - from) ≡ putShare l off (mark w us share)
-    marked-is =
-        fill-share l off (r .length) (omega arith) true from (to - from) (omega (arith, t .order, t .within))
-        ∙ ap (putShare l off) (sym (mark-span us share from (to - from) (share-length ∙ sym sized) (omega (arith, t .order, t .within, sized)) (row-span row size r from to t)))
+    span : off + to - (off + from) ≡ to - from
+    span = omega arith
 
-    counted-is : clears l (off + from) (to - from) ≡ newly w us share
-    counted-is =
-        clears-share l off (r .length) (omega arith) from (to - from) (omega (arith, t .order, t .within))
-        ∙ sym (newly-span us share from (to - from) (share-length ∙ sym sized) (omega (arith, t .order, t .within, sized)) (row-span row size r from to t))
+    pub range-bits : fill true l (off + from) (off + to - (off + from)) ≡ markIn w us l off
+    range-bits =
+        rw span
+        (fill-share l off (length us) (omega (arith, sized)) true from (to - from) (omega (arith, t .order, t .within, sized))
+        ∙ ap (putShare l off) (sym (mark-span us share from (to - from) share-length (omega (arith, t .order, t .within, sized)) (range-span size r from to t))))
 
-    both : getShare l off (length (us ++ rest)) ≡ share ++ getShare l (off + r .length) (length rest)
+    pub range-count : clears l (off + from) (off + to - (off + from)) ≡ newlyIn w us l off
+    range-count =
+        rw span
+        (clears-share l off (length us) (omega (arith, sized)) from (to - from) (omega (arith, t .order, t .within, sized))
+        ∙ sym (newly-span us share from (to - from) share-length (omega (arith, t .order, t .within, sized)) (range-span size r from to t)))
+
+  -- ---- some units after others: bits l, of which those from `off` on are their marks
+
+  module _ (l : List Bool) (off : ℕ) (us rest : List Unit) (fits : off + (length us + length rest) ≤ length l) where
+    abbrev firsts : List Bool
+    firsts = getShare l off (length us)
+
+    firsts-length : length firsts ≡ length us
+    firsts-length = getShare-length l off (length us) (omega arith)
+
+    both : getShare l off (length (us ++ rest)) ≡ firsts ++ getShare l (off + length us) (length rest)
     unfolding getShare
-    both = rw (length-append, sized, take-add, drop-drop)
+    both = rw (length-append, take-add, drop-drop)
 
-    abbrev after : List Bool
-    after = fill true l (off + from) (to - from)
+    marked-length : length (mark w us firsts) ≡ length us
+    marked-length = mark-length w us firsts firsts-length
 
-    put-length : off + length (mark w us share) ≤ length l
-    put-length = omega (arith, mark-length w us share (share-length ∙ sym sized), sized)
+    rest-same : getShare (markIn w us l off) (off + length us) (length rest) ≡ getShare l (off + length us) (length rest)
+    rest-same = getShare-putShare-above l off (mark w us firsts) (omega (arith, marked-length)) (off + length us) (length rest) (omega (arith, marked-length)) (omega arith)
 
-    rest-same : getShare after (off + r .length) (length rest) ≡ getShare l (off + r .length) (length rest)
-    rest-same =
-        ap (λ b. getShare b (off + r .length) (length rest)) marked-is
-        ∙ getShare-putShare-above l off (mark w us share) put-length (off + r .length) (length rest) (omega (arith, mark-length w us share (share-length ∙ sym sized), sized)) (omega arith)
-
-    -- the bits: what is left to mark after this row, on the bits as they are then, is all that was to be marked
-    pub note-bits : putShare after (off + r .length) (mark w rest (getShare after (off + r .length) (length rest))) ≡ putShare l off (mark w (us ++ rest) (getShare l off (length (us ++ rest))))
+    -- the bits: what is left to mark after the first, on the bits as they are then, is all that was to be marked
+    note-bits : markIn w rest (markIn w us l off) (off + length us) ≡ markIn w (us ++ rest) l off
     note-bits =
-        ap₂ (λ b p. putShare b (off + r .length) (mark w rest p)) marked-is rest-same
-        ∙ ap (λ n. putShare (putShare l off (mark w us share)) (off + n) (mark w rest (getShare l (off + r .length) (length rest)))) (sym (mark-length w us share (share-length ∙ sym sized) ∙ sized))
-        ∙ sym (putShare-append l off (mark w us share) (mark w rest (getShare l (off + r .length) (length rest))) put-length)
-        ∙ ap (putShare l off) (sym (ap (mark w (us ++ rest)) both ∙ mark-append w us rest share (getShare l (off + r .length) (length rest)) (share-length ∙ sym sized)))
+        ap (λ p. putShare (markIn w us l off) (off + length us) (mark w rest p)) rest-same
+        ∙ ap (λ n. putShare (markIn w us l off) (off + n) (mark w rest (getShare l (off + length us) (length rest)))) (sym marked-length)
+        ∙ sym (putShare-append l off (mark w us firsts) (mark w rest (getShare l (off + length us) (length rest))) (omega (arith, marked-length)))
+        ∙ ap (putShare l off) (sym (ap (mark w (us ++ rest)) both ∙ mark-append w us rest firsts (getShare l (off + length us) (length rest)) firsts-length))
 
     -- the count
-    pub note-count : clears l (off + from) (to - from) + newly w rest (getShare after (off + r .length) (length rest)) ≡ newly w (us ++ rest) (getShare l off (length (us ++ rest)))
+    note-count : newlyIn w us l off + newlyIn w rest (markIn w us l off) (off + length us) ≡ newlyIn w (us ++ rest) l off
     note-count =
-        ap₂ (λ a b. a + newly w rest b) counted-is rest-same
-        ∙ sym (ap (newly w (us ++ rest)) both ∙ newly-append w us rest share (getShare l (off + r .length) (length rest)) (share-length ∙ sym sized))
+        ap (λ p. newlyIn w us l off + newly w rest p) rest-same
+        ∙ sym (ap (newly w (us ++ rest)) both ∙ newly-append w us rest firsts (getShare l (off + length us) (length rest)) firsts-length)
+
+  -- ---- which row units are of does not matter
+
+  mark-row : (row size a n : ℕ) (p : List Bool) → mark w (unitsOfRow row size a n) p ≡ mark w (unitsOfRow 0 size a n) p
+  mark-row row size a zero p = refl
+  mark-row row size a (suc n) [] = refl
+  mark-row row size a (suc n) (b ∷ p) = rw (mark-row row size (a + size) n p)
+
+  newly-row : (row size a n : ℕ) (p : List Bool) → newly w (unitsOfRow row size a n) p ≡ newly w (unitsOfRow 0 size a n) p
+  newly-row row size a zero p = refl
+  newly-row row size a (suc n) [] = refl
+  newly-row row size a (suc n) (b ∷ p) = rw (newly-row row size (a + size) n p)
+
+  module _ (row size : ℕ) (r : Range) (l : List Bool) (off : ℕ) where
+    markIn-row : markIn w (unitsOfRow row size (r .start) (r .length)) l off ≡ markIn w (unitsOf size r) l off
+    markIn-row = rw (mark-row row size (r .start) (r .length), unitsOfRow-length row size (r .start) (r .length), unitsOfRow-length 0 size (r .start) (r .length))
+
+    newlyIn-row : newlyIn w (unitsOfRow row size (r .start) (r .length)) l off ≡ newlyIn w (unitsOf size r) l off
+    newlyIn-row = rw (newly-row row size (r .start) (r .length), unitsOfRow-length row size (r .start) (r .length), unitsOfRow-length 0 size (r .start) (r .length))
 
 -- ---- which units of a range a write touches
 
@@ -232,72 +258,73 @@ module _ (size : ℕ) (z : 0 < size) (r : Range) (at last : ℕ) (h : at ≤ las
           go j k (no a) (yes b) = touched-yes j (from-right j (omega arith)) (low-enough j b) ∙ sym (among-in from to j (omega arith) b)
           go j k (no a) (no b) = touched-not-right j (too-high j k (omega arith)) ∙ sym (among-above from to j (omega arith))
 
--- ---- the loop over the pieces of a controller's ranges
+-- ---- the loops over a controller's ranges and over their pieces
 
--- what is still to be marked from unit `unit` of a row on, whose marks stand from a bit on, makes of the bits and the count as they are now what they are
--- to be
-pub record Marking (w : Write) (size : ℕ) (rs : List Range) (l : List Bool) (from row unit count : ℕ) (bits : List Bool) (total : ℕ) : Type 0 where
-  pub fits : from + length (unitsLeft size rs row unit) ≤ length l
-  pub marked : putShare l from (mark w (unitsLeft size rs row unit) (getShare l from (length (unitsLeft size rs row unit)))) ≡ bits
-  pub counted : count + newly w (unitsLeft size rs row unit) (getShare l from (length (unitsLeft size rs row unit))) ≡ total
+-- what is still to be marked, units whose marks stand from a bit on, makes of the marks and the count as they are now what they are to be
+pub record Marking (w : Write) (us : List Unit) (words : List ℕ) (from count : ℕ) (bits : List Bool) (total : ℕ) : Type 0 where
+  pub held : Holds words from (length us)
+  pub marked : markIn w us (flat words) from ≡ bits
+  pub counted : count + newlyIn w us (flat words) from ≡ total
+  pub few : total < 2 ^ 64
 
-pub marking-start : (w : Write) (size : ℕ) (rs : List Range) (l : List Bool) (at : ℕ) → at + length (unitsFrom size 0 [] rs) ≤ length l
-    → Marking w size rs l at 0 0 0 (putShare l at (mark w (unitsFrom size 0 [] rs) (getShare l at (length (unitsFrom size 0 [] rs))))) (newly w (unitsFrom size 0 [] rs) (getShare l at (length (unitsFrom size 0 [] rs))))
-marking-start w size rs l at h =
-    record {
-      fits = subst (λ us. at + length us ≤ length l) (left-all size rs) h;
-      marked = ap (λ us. putShare l at (mark w us (getShare l at (length us)))) (sym (left-all size rs));
-      counted = zero-add _ ∙ ap (λ us. newly w us (getShare l at (length us))) (sym (left-all size rs));
-    }
+pub marking-start : (w : Write) (us : List Unit) (words : List ℕ) (base : ℕ) → Holds words base (length us)
+    → Marking w us words base 0 (markIn w us (flat words) base) (newlyIn w us (flat words) base)
+marking-start w us words base h =
+    record { held = h; marked = refl; counted = zero-add _; few = omega (arith, h .small, newly-le w us (getShare (flat words) base (length us))) }
 
-module _ (w : Write) (size : ℕ) (rs : List Range) (l : List Bool) (at row unit count : ℕ) (bits : List Bool) (total : ℕ) (m : Marking w size rs l at row unit count bits total) where
-  -- one piece more
-  module _ (p : Piece) (f : PieceFound size rs row unit p) (from to : ℕ) (t : Touched w size (p .range) from to) where
-    abbrev r : Range
-    r = p .range
+module _ (w : Write) (us : List Unit) (words : List ℕ) (at count : ℕ) (bits : List Bool) (total : ℕ) (m : Marking w us words at count bits total) where
+  -- the units of a range come first
+  module _ (row size : ℕ) (r : Range) (rest : List Unit) (first : us ≡ unitsOfRow row size (r .start) (r .length) ++ rest) where
+    abbrev own : List Unit
+    own = unitsOfRow row size (r .start) (r .length)
 
-    left : unitsLeft size rs row unit ≡ unitsOfRow (p .row) size (r .start) (r .length) ++ unitsLeft size rs (p .row) (p .next .0)
-    left = piece-left size rs row unit p f
+    own-length : length own ≡ r .length
+    own-length = unitsOfRow-length row size (r .start) (r .length)
 
-    marking-fits : at + (r .length + length (unitsLeft size rs (p .row) (p .next .0))) ≤ length l
-    marking-fits = omega (arith, m .fits, piece-length size rs row unit p f)
+    both-length : length us ≡ r .length + length rest
+    both-length = ap length first ∙ length-append own rest ∙ rw own-length
 
-    -- its span is marked, from bit at + from below at + to, and k of its units were clear
-    pub marking-next : (l′ : List Bool) (k : ℕ) → l′ ≡ fill true l (at + from) (at + to - (at + from)) → k ≡ clears l (at + from) (at + to - (at + from))
-        → Marking w size rs l′ (at + r .length) (p .row) (p .next .0) (count + k) bits total
-    marking-next l′ k e e′ =
+    pub range-held : Holds words at (r .length)
+    range-held = record { within = omega (arith, m .held .within, both-length); small = omega (arith, m .held .small, both-length) }
+
+    -- they are marked, and k of them were clear
+    pub marking-next : (words′ : List ℕ) (k : ℕ) → length words′ ≡ length words → flat words′ ≡ markIn w (unitsOf size r) (flat words) at → k ≡ newlyIn w (unitsOf size r) (flat words) at
+        → Marking w rest words′ (at + r .length) (count + k) bits total
+    marking-next words′ k same e e′ =
         record {
-          fits = omega (arith, marking-fits, ap length e, fill-length true l (at + from) (at + to - (at + from)));
+          held = record { within = omega (arith, m .held .within, both-length, same); small = omega (arith, m .held .small, both-length) };
           marked =
-              ap (λ b. putShare b (at + r .length) (mark w rest (getShare b (at + r .length) (length rest)))) (e ∙ rw span)
-              ∙ note-bits w l at (p .row) size r rest marking-fits from to t
-              ∙ subst (λ us. putShare l at (mark w us (getShare l at (length us))) ≡ bits) left (m .marked);
+              ap₂ (λ b n. markIn w rest b (at + n)) put (sym own-length)
+              ∙ note-bits w (flat words) at own rest fits
+              ∙ subst (λ us. markIn w us (flat words) at ≡ bits) first (m .marked);
           counted =
-              ap₂ (λ x b. count + x + newly w rest (getShare b (at + r .length) (length rest))) (e′ ∙ rw span) (e ∙ rw span)
-              ∙ add-assoc count (clears l (at + from) (to - from)) (newly w rest (getShare next (at + r .length) (length rest)))
-              ∙ ap (λ x. count + x) (note-count w l at (p .row) size r rest marking-fits from to t)
-              ∙ subst (λ us. count + newly w us (getShare l at (length us)) ≡ total) left (m .counted);
+              ap₂ (λ x b. count + x + newlyIn w rest b (at + r .length)) new put
+              ∙ ap (λ n. count + newlyIn w own (flat words) at + newlyIn w rest (markIn w own (flat words) at) (at + n)) (sym own-length)
+              ∙ add-assoc count (newlyIn w own (flat words) at) _
+              ∙ ap (λ x. count + x) (note-count w (flat words) at own rest fits)
+              ∙ subst (λ us. count + newlyIn w us (flat words) at ≡ total) first (m .counted);
+          few = m .few;
         }
       where
-        rest : List Unit
-        rest = unitsLeft size rs (p .row) (p .next .0)
+        fits : at + (length own + length rest) ≤ length (flat words)
+        fits = omega (arith, m .held .within, both-length, own-length, flat-length words)
 
-        next : List Bool
-        next = fill true l (at + from) (to - from)
+        put : flat words′ ≡ markIn w own (flat words) at
+        put = e ∙ sym (markIn-row w row size r (flat words) at)
 
-        span : at + to - (at + from) ≡ to - from
-        span = omega arith
+        new : k ≡ newlyIn w own (flat words) at
+        new = e′ ∙ sym (newlyIn-row w row size r (flat words) at)
+
+  -- all that is left is marked, and k of it was clear
+  pub marking-rest : (words′ : List ℕ) (k : ℕ) → flat words′ ≡ markIn w us (flat words) at → k ≡ newlyIn w us (flat words) at → (count + k ≡ total) × (flat words′ ≡ bits)
+  marking-rest words′ k e e′ = (ap (λ x. count + x) e′ ∙ m .counted, e ∙ m .marked)
 
   -- nothing is left
-  module _ (none : unitsLeft size rs row unit ≡ []) where
-    pub marking-bits : l ≡ bits
-    unfolding putShare
-    marking-bits =
-        let e : at + 0 ≡ at = omega arith in
-        sym (take-append-drop at l) ∙ ap (λ k. take at l ++ drop k l) (sym e)
-        ∙ subst (λ us. putShare l at (mark w us (getShare l at (length us))) ≡ bits) none (m .marked)
-
-    pub marking-count : count ≡ total
-    marking-count =
-        sym (add-zero count)
-        ∙ subst (λ us. count + newly w us (getShare l at (length us)) ≡ total) none (m .counted)
+  pub marking-end : us ≡ [] → (count ≡ total) × (flat words ≡ bits)
+  unfolding putShare
+  marking-end none =
+      let e : at + 0 ≡ at = omega arith in (
+        sym (add-zero count) ∙ subst (λ us. count + newlyIn w us (flat words) at ≡ total) none (m .counted),
+        sym (take-append-drop at (flat words)) ∙ ap (λ k. take at (flat words) ++ drop k (flat words)) (sym e)
+            ∙ subst (λ us. markIn w us (flat words) at ≡ bits) none (m .marked),
+      )

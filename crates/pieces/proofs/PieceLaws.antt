@@ -4,23 +4,25 @@ use mathlib.Core.Bool.{Bool, true, false, _&&_, _||_, not, and-false, or-true, t
 use mathlib.Core.List.{List, [], _∷_, _++_, append-assoc}
 use Prim.Native.Nat.{ℕ, zero, suc, _+_, _-_, _*_, _/_, _%_, _^_, _≤_, _<_, min}
 use native.Mathlib.Omega.{arith}
-use native.Mathlib.Nat.{zero-mul, suc-mul, add-mul, mul-le-mul-right, div-add-mod', one-mul, sub-zero}
+use native.Mathlib.Nat.{zero-mul, suc-mul, add-mul, mul-comm, mul-le-mul-right, div-add-mod', one-mul, sub-zero}
 use native.Mathlib.Decide.{decLe, decLt}
 use native.Mathlib.Numerals.{add-one}
 use lib.Dec.{leb, ltb}
-use lib.ListN.{length, take, drop, getD, length-append, drop-of-length-le, List·getD-eq-default}
+use lib.ListN.{length, take, drop, getD, length-append, length-take, drop-of-length-le, List·getD-eq-default}
 use lib.Seq.{drop-cons, take-suc, take-take, getD-take}
 use borrow.Author.Tests.{le-leb, lt-leb, lt-ltb, le-ltb, leb-true, ltb-true, ltb-false}
 use Rattle.rules.specs.Lists.{any, keep}
-use Rattle.rules.specs.Settings.{unitSize}
+use Rattle.rules.specs.Settings.{unitSize, wholeUnits}
 use Rattle.rules.specs.Units.{Unit, unitsOfRow, endOf, covers, uncovered, unitsFrom}
 use Rattle.rules.specs.Ranges.{rowsOk}
 use Rattle.rules.specs.StartData.{noRange}
+use Rattle.rules.specs.Demands.{Good}
 use Rattle.rules.specs.declared.Range.{Range}
-use Rattle.rules.proofs.ListLaws.{All-map, All-append, All-keep, and-left, and-right, and-intro, or-neither, or-intro-left, or-intro-right, bool-ext, any-snoc}
+use Rattle.rules.proofs.ListLaws.{All, All-map, All-append, All-keep, and-left, and-right, and-intro, or-neither, or-intro-left, or-intro-right, bool-ext, any-snoc}
 use Rattle.rules.proofs.UnitLaws.{unitsOfRow-row, unitsOfRow-length}
-use Rattle.rules.proofs.RowLaws.{rowsOk-at}
+use Rattle.rules.proofs.RowLaws.{rowsOk-at, rowsOk-front}
 use Rattle.rules.proofs.ScanLaws.{Beyond}
+use Rattle.measures.proofs.MeasureLaws.{unitSize-least}
 use Rattle.pieces.specs.Pieces.{rowOf, Overlaps, cutBefore, unitOf, StretchIs, unitsLeft, PieceFound}
 use Rattle.pieces.specs.declared.Piece.{Piece}
 
@@ -63,6 +65,12 @@ module _ (size : ℕ) (z : 0 < size) (r q : Range) (a b : ℕ) (e : a * size ≡
 -- a unit of a range that ends at most at 2^64 begins below it
 pub unit-below : (size start n j : ℕ) → 0 < size → j < n → start + n * size ≤ 2 ^ 64 → start + j * size < 2 ^ 64
 unit-below size start n j z h e = omega (arith, z, e, suc-mul j size, mul-le-mul-right {m = suc j} {n = n} size h)
+
+-- where a range ends that passes 19 to 21, in units counted from address 0, has a number of 64 bits
+pub end-small : (g : ℕ) (r : Range) → Good g r → wholeUnits g (r .start) + r .length < 2 ^ 64
+end-small g r good =
+    let first = wholeUnits g (r .start) in
+    omega (arith, good .within, whole (unitSize g) (r .start) (good .aligned), add-mul first (r .length) (unitSize g), mul-comm (unitSize g) (first + r .length), mul-le-mul-right {m = 4096} {n = unitSize g} (first + r .length) (unitSize-least g))
 
 -- ---- units of a row of which some are kept
 
@@ -371,3 +379,46 @@ piece-within g rs i j p ok f = within (unitSize g) (rowOf rs (p .row)) (p .range
     within size r q next l h e w =
         let d : next ≡ next - q .length + q .length = omega (arith, l) in
         omega (arith, e, w, ap (λ k. k * size) d, add-mul (next - q .length) (q .length) size, mul-le-mul-right {m = next} {n = r .length} size h)
+
+-- ---- rows that ascend and do not overlap
+
+-- some ranges end at or below an address, counted in units
+abbrev pub EndBy : ℕ → ℕ → List Range → Type 0
+EndBy size end rs = All (λ q. endOf size q ≤ end * size) rs
+
+-- they cover no unit of a range that begins there or further on
+past-covered : (size end : ℕ) (before : List Range) (r : Range) (j : ℕ) → EndBy size end before → end * size ≤ r .start → covered size before r j ≡ false
+past-covered size end [] r j a h = refl
+past-covered size end (q ∷ before) r j a h =
+    or-neither (covers size q (r .start + j * size)) (covered size before r j)
+    (rw (le-ltb (r .start + j * size) (endOf size q) (omega (arith, a .0, h))) (and-false (leb (q .start) (r .start + j * size))))
+    (past-covered size end before r j (a .1) h)
+
+-- all rows before one end at or below a unit, and it begins with that or a later one, its first
+module _ (size : ℕ) (rs : List Range) (i : ℕ) (h : i < length rs) (end first : ℕ) (a : EndBy size end (take i rs)) (e : first * size ≡ rowOf rs i .start) (l : end ≤ first) where
+  -- the whole row is one piece
+  left-whole : unitsLeft size rs i 0 ≡ unitsOfRow i size (rowOf rs i .start) (rowOf rs i .length) ++ unitsLeft size rs (i + 1) 0
+  left-whole =
+      let z : rowOf rs i .start + 0 * size ≡ rowOf rs i .start = omega (arith, zero-mul size) in
+      left-take size rs i 0 (rowOf rs i .length) (omega arith) (λ k b c. ap not (past-covered size end (take i rs) (rowOf rs i) k a (omega (arith, e, mul-le-mul-right {m = end} {n = first} size l))))
+      ∙ ap₂ (λ x us. unitsOfRow i size x (rowOf rs i .length) ++ us) z (left-step size rs i (0 + rowOf rs i .length) (omega arith))
+
+  -- where it ends, all rows up to it have ended
+  ends-next : EndBy size (first + rowOf rs i .length) (take (i + 1) rs)
+  ends-next =
+      let m = add-mul first (rowOf rs i .length) size in
+      rw (add-one, take-suc rs i noRange h)
+      (All-append (λ q. endOf size q ≤ (first + rowOf rs i .length) * size) (take i rs) (rowOf rs i ∷ [])
+      (All-map (λ q b. omega (arith, b, m, mul-le-mul-right {m = end} {n = first} size l)) (take i rs) a) (omega (arith, e, m), tt))
+
+-- the same of a row of the first n ranges, which pass 19 to 21: what a loop over them that carries the end knows of a row that begins at or past it
+pub row-whole : (g n : ℕ) (rs : List Range) (i end first : ℕ) → i < n → n ≤ length rs → rowsOk g (take n rs) ≡ true → EndBy (unitSize g) end (take i (take n rs))
+    → first ≡ wholeUnits g (rowOf rs i .start) → end ≤ first
+    → (unitsLeft (unitSize g) (take n rs) i 0 ≡ unitsOfRow i (unitSize g) (rowOf rs i .start) (rowOf rs i .length) ++ unitsLeft (unitSize g) (take n rs) (i + 1) 0)
+    × EndBy (unitSize g) (first + rowOf rs i .length) (take (i + 1) (take n rs))
+row-whole g n rs i end first h k ok a e l =
+    let in-front : i < length (take n rs) = omega (arith, length-take n rs) in
+    let same : rowOf (take n rs) i ≡ rowOf rs i = getD-take n rs i noRange h in
+    let begins : first * unitSize g ≡ rowOf (take n rs) i .start =
+    rw (e, same) (whole (unitSize g) (rowOf rs i .start) (rowsOk-front g rs n i ok h (omega arith) .aligned)) in
+    rw (sym same) (left-whole (unitSize g) (take n rs) i in-front end first a begins l, ends-next (unitSize g) (take n rs) i in-front end first a begins l)

@@ -1,6 +1,7 @@
 // A line of a listing, played on a device, and its answer as text. What a line asks for is said by `listing`, what a call answers by `tracker`.
 
 use listing::Call;
+use listing::Line;
 use output::Buffer;
 use output::Waiting;
 use rules::Bytes;
@@ -10,8 +11,9 @@ use rules::Settings;
 use tracker::Received;
 ghost use Prim.Native.Nat.{_+_, _*_, _≤_};
 ghost use lib.ListN.{length};
+ghost use Rattle.listing.specs.Listing.{Bounded};
 
-// After a line: the device, and the answers that wait.
+// After a line that may change the device: it, and the answers that wait.
 pub struct Played {
     pub device: Device,
     pub waiting: Waiting,
@@ -217,21 +219,30 @@ fn receive_into(
     receive(d, marks, id, &mut report[..size], out, waiting)
 }
 
-// Plays a line, and puts its answer.
-pub fn play(
+// ---- lines
+
+// Whether a call may change the record.
+pub fn changes(call: Call) -> bool {
+    match call {
+        Call::Bad => false,
+        Call::Write { id, address, bytes } => false,
+        Call::Recv { id, size } => false,
+        _ => true,
+    }
+}
+
+// Plays a line whose call may change the record.
+pub fn change(
     d: Device,
     marks: &mut [u64],
-    line: &[u8],
+    line: Line,
     out: &mut Buffer,
     waiting: Waiting,
-) -> Played {
-    let read = listing::read_line(line);
-    let call = read.call;
+) -> Played
+    requires { ⌜ Bounded (line .call) ⌝ }
+{
+    let call = line.call;
     match call {
-        Call::Bad => {
-            let waiting = output::put_bytes(out, waiting, b"bad\n");
-            Played { device: d, waiting }
-        }
         Call::Dev {
             manager,
             least,
@@ -240,7 +251,7 @@ pub fn play(
             limit,
             count,
         } => {
-            let identifiers = read.identifiers;
+            let identifiers = line.identifiers;
             let s = Settings {
                 manager,
                 least,
@@ -257,19 +268,29 @@ pub fn play(
             granularity,
             count,
         } => {
-            let ranges = read.ranges;
+            let ranges = line.ranges;
             start(d, marks, id, granularity, count, ranges, out, waiting)
         }
         Call::Stop(id) => stop(d, marks, id, out, waiting),
-        Call::Write { id, address, bytes } => {
-            let waiting = write(d, marks, id, address, bytes, out, waiting);
-            Played { device: d, waiting }
-        }
-        Call::Recv { id, size } => {
-            let waiting = receive_into(d, marks, id, size, out, waiting);
-            Played { device: d, waiting }
-        }
         Call::Susp { id, kind } => suspend(d, marks, id, kind, out, waiting),
         Call::Resume(id) => resume(d, marks, id, out, waiting),
+        _ => Played { device: d, waiting },
+    }
+}
+
+// Plays a line whose call leaves the record as it is.
+pub fn answer(
+    d: Device,
+    marks: &mut [u64],
+    call: Call,
+    out: &mut Buffer,
+    waiting: Waiting,
+) -> Waiting
+    requires { ⌜ Bounded call ⌝ }
+{
+    match call {
+        Call::Write { id, address, bytes } => write(d, marks, id, address, bytes, out, waiting),
+        Call::Recv { id, size } => receive_into(d, marks, id, size, out, waiting),
+        _ => output::put_bytes(out, waiting, b"bad\n"),
     }
 }

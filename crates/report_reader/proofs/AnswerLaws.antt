@@ -1,18 +1,19 @@
 -- What the reader answers of a refused and of an accepted report, and which bytes are there in an accepted one. Assumes nothing.
-use mathlib.Core.Path.{_≡_, sym, _∙_}
+use mathlib.Core.Path.{_≡_, refl, sym, _∙_}
 use mathlib.Core.Logic.{_≢_}
-use mathlib.Core.Bool.{true}
+use mathlib.Core.Bool.{true, false, cond, and-false}
 use mathlib.Core.List.{List, [], _∷_}
 use Prim.Native.Nat.{ℕ, suc, _+_, _*_, _%_, _≤_, _<_}
 use native.Mathlib.Omega.{arith}
-use native.Mathlib.Decide.{decLe}
-use lib.Dec.{ltb, eqb}
+use native.Mathlib.Decide.{decLe, decLt}
+use lib.Dec.{leb, ltb, eqb}
 use lib.ListN.{length}
-use borrow.Author.Tests.{leb-true, ltb-true, eq-eqb, le-ltb, lt-ltb}
+use borrow.Author.Tests.{leb-true, ltb-true, eq-eqb, le-leb, lt-leb, le-ltb, lt-ltb}
+use Rattle.little.specs.Little.{numberAt}
 use Rattle.rules.specs.Refusals.{Test, _else_, refusal, orZero, passes}
 use Rattle.rules.specs.Report.{Descriptor}
-use Rattle.rules.specs.ReportReader.{reportSize, countIn, granularityIn, descriptorsIn, descriptorTests, reportTests, indexTests, bit}
-use Rattle.rules.proofs.ListLaws.{All, All-append}
+use Rattle.rules.specs.ReportReader.{reportSize, countIn, granularityIn, descriptorsIn, descriptorTests, reportTests, indexTests, bit, runThere, reportRunLength}
+use Rattle.rules.proofs.ListLaws.{All, All-append, and-right}
 use Rattle.rules.proofs.RefusalLaws.{Passed, verdict-passed, verdict-refused, passes-Passed, Passed-left, Passed-right, refusal-none, verdict-first, verdict-rest}
 
 -- ---- every refusal has a number
@@ -95,3 +96,41 @@ module _ (x : List ℕ) (i : ℕ) (e : refusal (indexTests x i) ≡ 0) where
 
   pub index-answer : (v : ℕ) → v ≡ orZero (indexTests x i) v
   index-answer v = sym (verdict-passed (indexTests x i) v (λ k j. 0) there)
+
+-- ---- a run by itself
+
+module _ (x : List ℕ) (i : ℕ) where
+  pub run-cut : length x < reportSize (suc i) → false ≡ runThere x i
+  run-cut h = rw (lt-leb (reportSize (suc i)) (length x) h, and-false)
+
+  pub run-unlisted : countIn x ≤ i → false ≡ runThere x i
+  run-unlisted h = rw (le-ltb i (countIn x) h)
+
+  pub run-listed : i < countIn x → (n : ℕ) → n ≡ reportSize (suc i) → leb n (length x) ≡ runThere x i
+  run-listed h n e = rw (e, lt-ltb i (countIn x) h)
+
+  pub run-none : runThere x i ≡ false → (v : ℕ) → 0 ≡ cond (runThere x i) v 0
+  run-none e v = rw e
+
+  pub run-answer : runThere x i ≡ true → (v : ℕ) → v ≡ cond (runThere x i) v 0
+  run-answer e v = rw e
+
+  -- its length stands 8 bytes on
+  pub run-length : runThere x i ≡ true → (at : ℕ) → at ≡ 16 + 16 * i + 8 → numberAt x at 4 ≡ reportRunLength x i
+  run-length e at p = rw p (run-answer e (numberAt x (16 + 16 * i + 8) 4))
+
+  -- its 16 bytes are there
+  pub run-size : runThere x i ≡ true → 16 + 16 * i + 16 ≤ length x
+  run-size e = omega (arith, leb-true (reportSize (suc i)) (length x) (and-right (ltb i (countIn x)) (leb (reportSize (suc i)) (length x)) e))
+
+  -- of an accepted report it is what is answered with a look at all of it
+  pub run-accepted : refusal (reportTests x) ≡ 0 → (v : ℕ) → cond (runThere x i) v 0 ≡ orZero (indexTests x i) v
+  run-accepted e v = elim (decLt i (countIn x)) [ yes h ↦ within h | no h ↦ past (omega (arith, h)) ]
+    where
+      within : i < countIn x → cond (runThere x i) v 0 ≡ orZero (indexTests x i) v
+      within h =
+          let there : runThere x i ≡ true = sym (run-listed h (reportSize (suc i)) refl) ∙ le-leb (reportSize (suc i)) (length x) (omega (arith, h, accepted-size x e)) in
+          sym (run-answer there v) ∙ index-answer x i (sym (index-within x e i h)) v
+
+      past : countIn x ≤ i → cond (runThere x i) v 0 ≡ orZero (indexTests x i) v
+      past h = sym (run-none (sym (run-unlisted h)) v) ∙ index-zero x i v (λ z. omega (arith, index-past x e i h, z))

@@ -1,5 +1,5 @@
 // The host's reader of a report (document 02, W1), for C: each function is given the report's bytes, and where it says so an index, and answers one
-// number. Any bytes and any index are met with an answer. A refused report answers 0 to every question but that for its refusal.
+// number. Any bytes and any index are met with an answer. A refused report answers 0 to every question but those for its refusal and for a run by itself.
 
 use rules::Range;
 ghost use mathlib.Core.Path.{_≡_};
@@ -8,7 +8,7 @@ ghost use lib.ListN.{length};
 ghost use Rattle.little.specs.Little.{recordsAt};
 ghost use Rattle.rules.specs.Refusals.{verdict};
 ghost use Rattle.rules.specs.Report.{rangeOf};
-ghost use Rattle.rules.specs.ReportReader.{reportSize, countIn, granularityIn, descriptorAt, descriptorTests, moreOfNone, reportRefusal, reportBadIndex, reportSuspended, reportMore, reportIdentifier, reportGranularity, reportCount, reportRefusalAt, reportAddress, reportLength};
+ghost use Rattle.rules.specs.ReportReader.{reportSize, countIn, granularityIn, descriptorAt, descriptorTests, moreOfNone, reportRefusal, reportBadIndex, reportSuspended, reportMore, reportIdentifier, reportGranularity, reportCount, reportRefusalAt, reportAddress, reportLength, runThere, reportRunAddress, reportRunLength};
 
 // A report's refusal, and the index that it is about; zeros where it is accepted.
 pub struct Judged {
@@ -232,4 +232,44 @@ pub extern "C" fn tmc_report_length(report: &[u8], index: u64) -> u32
         return 0;
     }
     little::read_u32(report, 24 + 16 * (index as usize))
+}
+
+// ---- a run by itself, for a loop over the runs of a report that is not refused: no other descriptor is looked at, and the answers are those above
+
+// Whether the descriptor at an index is listed and wholly there.
+fn run_there(report: &[u8], index: u64) -> bool
+    ensures { λ r. ⌜ r ≡ runThere (now (report .entry)) index ⌝ }
+{
+    let size = report.len();
+    if size < 16 {
+        return false;
+    }
+    if index >= count_in(report) as u64 {
+        return false;
+    }
+    32 + 16 * (index as usize) <= size
+}
+
+// The first address of the run at an index; 0 where it is not listed or not wholly there.
+#[no_mangle]
+pub extern "C" fn tmc_report_run_address(report: &[u8], index: u64) -> u64
+    ensures { λ r. ⌜ r ≡ reportRunAddress (now (report .entry)) index ⌝ }
+{
+    if !run_there(report, index) {
+        return 0;
+    }
+    let at = 16 + 16 * (index as usize);
+    little::read_u64(report, at)
+}
+
+// The length of the run at an index, in units; 0 where it is not listed or not wholly there.
+#[no_mangle]
+pub extern "C" fn tmc_report_run_length(report: &[u8], index: u64) -> u32
+    ensures { λ r. ⌜ r ≡ reportRunLength (now (report .entry)) index ⌝ }
+{
+    if !run_there(report, index) {
+        return 0;
+    }
+    let at = 24 + 16 * (index as usize);
+    little::read_u32(report, at)
 }

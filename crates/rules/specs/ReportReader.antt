@@ -114,3 +114,15 @@ reportAddress x i = orZero (indexTests x i) (descriptorOf x i .address)
 
 abbrev pub reportLength : List ℕ → ℕ → ℕ
 reportLength x i = orZero (indexTests x i) (descriptorOf x i .length)
+
+-- ---- a run by itself, for a loop over the runs of a report that is not refused: the count and the descriptor's own bytes are looked at, and nothing else
+
+-- the descriptor with an index is listed, and the bytes that are there reach to its end
+abbrev pub runThere : List ℕ → ℕ → Bool
+runThere x i = ltb i (countIn x) && leb (reportSize (suc i)) (length x)
+
+abbrev pub reportRunAddress : List ℕ → ℕ → ℕ
+reportRunAddress x i = cond (runThere x i) (descriptorOf x i .address) 0
+
+abbrev pub reportRunLength : List ℕ → ℕ → ℕ
+reportRunLength x i = cond (runThere x i) (descriptorOf x i .length) 0

@@ -46,6 +46,11 @@ pub fn descriptor_at(report: &Report, index: u64) -> Result<Descriptor, Refusal>
     found.map(|(descriptor, _)| *descriptor).ok_or(PAST_THE_LAST)
 }
 
+/// The descriptor at this index by itself, whatever else is broken; nothing if it isn't listed or isn't wholly there.
+pub fn descriptor_alone(bytes: &[u8], index: u64) -> Option<Descriptor> {
+    descriptor_at(&taken_apart(bytes), index).ok()
+}
+
 /// What the bytes say as far as they go, broken or not: no more descriptors than the header lists, and of these the
 /// ones that are wholly there.
 fn taken_apart(bytes: &[u8]) -> Report {

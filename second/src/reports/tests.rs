@@ -261,11 +261,14 @@ fn fields_of_an_answer() {
         refusal_at: 201,
         address: 648518346341351433,
         length: 167772171,
+        run_address: 864691128455135244,
+        run_length: 218103822,
     };
     let expected = [
         200, 1, 0, 0, 0, 0, 0, 0, 2, // refusal, first bad index
         1, 1, 4, 3, 6, 5, 7, 0, 0, 8, // suspended, more, identifier, granularity, number
         201, 9, 0, 0, 0, 0, 0, 0, 9, 11, 0, 0, 10, // refusal at the index, address, length
+        12, 0, 0, 0, 0, 0, 0, 12, 14, 0, 0, 13, // the run by itself
     ];
     assert_eq!(answer_bytes(&answer), expected);
 }
@@ -275,15 +278,43 @@ fn answers_by_hand() {
     let page = bytes(3, 1, 0, &[(65536, 4)]);
     let header = Answer { suspended: true, more: true, identifier: 261, count: 1, ..Answer::default() };
     let lent = |lent: &[u8], index| answer(&Case { lent: lent.to_vec(), index });
-    assert_eq!(lent(&page, 0), Answer { address: 65536, length: 4, ..header });
+    let first = Answer { address: 65536, length: 4, run_address: 65536, run_length: 4, ..header };
+    assert_eq!(lent(&page, 0), first);
     assert_eq!(lent(&page, 1), Answer { refusal_at: 33, ..header });
-    // Of a refused report all else is 0, whatever the index.
-    let good_and_bad = bytes(3, 2, 0, &[(65536, 4), (65536, 0)]);
-    for index in &[0, 1, 2] {
-        let refused = Answer { refusal: 17, bad_index: 1, refusal_at: 17, ..Answer::default() };
+    // Of a refused report all else is 0, whatever the index, save a run by itself that is listed and wholly there.
+    let good_and_bad = bytes(3, 2, 0, &[(65536, 4), (69632, 0), (73728, 5)]);
+    for (index, run_address, run_length) in &[(0, 65536, 4), (1, 69632, 0), (2, 0, 0)] {
+        let (run_address, run_length) = (*run_address, *run_length);
+        let refused =
+            Answer { refusal: 17, bad_index: 1, refusal_at: 17, run_address, run_length, ..Answer::default() };
         assert_eq!(lent(&good_and_bad, *index), refused);
+    }
+    for index in &[0, 1, 2] {
         let refused = Answer { refusal: 8, refusal_at: 8, ..Answer::default() };
         assert_eq!(lent(&page[..31], *index), refused);
+    }
+}
+
+#[test]
+fn runs_by_themselves() {
+    let (first, second) = (Descriptor { address: 65536, length: 4 }, Descriptor { address: 1, length: 0 });
+    // Whatever is broken elsewhere: the version, the granularity, a descriptor, the rest of the list.
+    let mut report = bytes(1, 3, 65535, &[(65536, 4), (1, 0)]);
+    report[0] = 9;
+    assert_eq!(descriptor_alone(&report, 0), Some(first));
+    assert_eq!(descriptor_alone(&report, 1), Some(second));
+    assert_eq!(descriptor_alone(&report, 2), None);
+    // Each needs its own 16 bytes, the reserved ones too.
+    for length in 0..49 {
+        assert_eq!(descriptor_alone(&report[..length], 0), Some(first).filter(|_| length >= 32), "{}", length);
+        assert_eq!(descriptor_alone(&report[..length], 1), Some(second).filter(|_| length >= 48), "{}", length);
+    }
+    // It must be listed, by all four bytes of the count, and no index is cut.
+    assert_eq!(descriptor_alone(&bytes(0, 1, 0, &[(65536, 4), (1, 0)]), 1), None);
+    assert_eq!(descriptor_alone(&bytes(0, 0, 0, &[(65536, 4), (1, 0)]), 0), None);
+    assert_eq!(descriptor_alone(&bytes(0, 16777216, 0, &[(65536, 4), (1, 0)]), 1), Some(second));
+    for index in &[65536, 4294967296, 1152921504606846976, u64::MAX] {
+        assert_eq!(descriptor_alone(&bytes(0, 4294967295, 0, &[(65536, 4)]), *index), None, "{}", index);
     }
 }
 
@@ -293,10 +324,10 @@ fn an_answer_for_each_case() {
     let input = [case_bytes(&[], [0; 8]), case_bytes(&[0; 16], [0; 8])].concat();
     let mut output = Vec::new();
     play(&mut &input[..], &mut output).unwrap();
-    let mut expected = vec![0; 64];
+    let mut expected = vec![0; 88];
     expected[0] = 8;
     expected[19] = 8;
-    expected[32 + 19] = 33;
+    expected[44 + 19] = 33;
     assert_eq!(output, expected);
     assert!(play(&mut &input[..1089], &mut Vec::new()).is_err());
 }

@@ -7,8 +7,8 @@ use Rattle.bursts.proofs.BurstLaws.{field-within}
 use Rattle.bursts.proofs.read_line.Statement.{statement}
 use Rattle.bursts.proofs.read_line.Tie as tie
 
-none-requires : tie.Need-none-requires
-none-requires c κs = search needs
+bad-requires : tie.Need-bad-requires
+bad-requires c κs = search needs
 
 returns : tie.Need-returns
 returns c = search needs
@@ -31,32 +31,17 @@ batch-line-requires c κs = field-within _ _ _ (c .before .before .before .befor
 returns-2 : tie.Need-returns-2
 returns-2 c = search needs
 
-slice-aggregate-same-3 : tie.Need-slice-aggregate-same-3
-slice-aggregate-same-3 c = sym (length-take-le _ _ (field-within _ _ _ (c .before .before .before .before .before .field-end .ensures) (omega arith) .1))
-
-slice-aggregate-same-4 : tie.Need-slice-aggregate-same-4
-slice-aggregate-same-4 c = search needs
-
-same-requires-2 : tie.Need-same-requires-2
-same-requires-2 c κs = search needs
-
 burst-line-requires : tie.Need-burst-line-requires
-burst-line-requires c κs = field-within _ _ _ (c .before .before .before .before .before .before .before .before .field-end .ensures) (omega arith) .1
+burst-line-requires c κs = field-within _ _ _ (c .before .before .before .before .field-end .ensures) (omega arith) .1
 
 returns-3 : tie.Need-returns-3
 returns-3 c = search needs
-
-none-requires-2 : tie.Need-none-requires-2
-none-requires-2 c κs = search needs
-
-returns-4 : tie.Need-returns-4
-returns-4 c = search needs
 
 pub read-line-spec : {M : Type 1} → statement M
 read-line-spec =
     tie.close
     (tie.spec
-    none-requires
+    bad-requires
     returns
     field-end-requires
     slice-aggregate-same
@@ -64,10 +49,5 @@ read-line-spec =
     same-requires
     batch-line-requires
     returns-2
-    slice-aggregate-same-3
-    slice-aggregate-same-4
-    same-requires-2
     burst-line-requires
-    returns-3
-    none-requires-2
-    returns-4)
+    returns-3)

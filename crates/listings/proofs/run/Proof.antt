@@ -1,16 +1,21 @@
--- `listings::run` is safe and ends. The loop's invariant: the buffers keep their lengths, and the line lies in its buffer. The measure is the number of turns left.
+-- `listings::run` is safe and ends. The loop's invariant: the buffers keep their lengths, the line lies in its buffer, and the input that is left in its own. The measure
+-- is the number of turns left.
 use Prim.Native.Nat.{_≤_}
-use mathlib.Core.Path.{_≡_}
+use mathlib.Core.Path.{_≡_, sym}
+use native.Mathlib.Omega.{arith}
 use lib.ListN.{length}
+use lib.Seq.{length-take-le}
 use borrow.Author.Needs.{needs}
+use Rattle.listing.proofs.BoundLaws.{read-bounded}
 use Rattle.listings.proofs.run.Statement.{statement}
 use Rattle.listings.proofs.run.Tie as tie
 
 abbrev Inv-loop : tie.InvT-loop
-Inv-loop shelf marks₀ line₀ out₀ input₀ s₀ turns₀ marks line out input s turns = (length marks ≡ length marks₀) × (length line ≡ length line₀) × (length input ≡ length input₀) × (s .length ≤ length line)
+Inv-loop shelf marks₀ line₀ out₀ input₀ device₀ waiting₀ used₀ at₀ end₀ over₀ turns₀ marks line out input device waiting used at end over turns =
+    (length marks ≡ length marks₀) × (length line ≡ length line₀) × (length input ≡ length input₀) × (used ≤ length line) × (end ≤ length input)
 
 abbrev μ-loop : tie.MeasureT-loop
-μ-loop shelf marks₀ line₀ out₀ input₀ s₀ turns₀ marks line out input s turns = turns
+μ-loop shelf marks₀ line₀ out₀ input₀ device₀ waiting₀ used₀ at₀ end₀ over₀ turns₀ marks line out input device waiting used at end over turns = turns
 
 none-requires : tie.Need-none-requires Inv-loop μ-loop
 none-requires c κs = search needs
@@ -18,11 +23,11 @@ none-requires c κs = search needs
 loop-holds : tie.Need-loop-holds Inv-loop μ-loop
 loop-holds c = search needs
 
-read-some-requires : tie.Need-read-some-requires Inv-loop μ-loop
-read-some-requires c κs = search needs
+sub-turns : tie.Need-sub-turns Inv-loop μ-loop
+sub-turns c = search needs
 
-finish-requires : tie.Need-finish-requires Inv-loop μ-loop
-finish-requires c κs = search needs
+flush-requires : tie.Need-flush-requires Inv-loop μ-loop
+flush-requires c κs = search needs
 
 same-length : tie.Need-same-length Inv-loop μ-loop
 same-length c = search needs
@@ -36,17 +41,8 @@ same-length-3 c = search needs
 returns : tie.Need-returns Inv-loop μ-loop
 returns c = search needs
 
-slice-reshare-prefix-take-in : tie.Need-slice-reshare-prefix-take-in Inv-loop μ-loop
-slice-reshare-prefix-take-in c = search needs
-
-slice-aggregate-take-in : tie.Need-slice-aggregate-take-in Inv-loop μ-loop
-slice-aggregate-take-in c = search needs
-
-take-in-requires : tie.Need-take-in-requires Inv-loop μ-loop
-take-in-requires c κs = search needs
-
-flush-requires : tie.Need-flush-requires Inv-loop μ-loop
-flush-requires c κs = search needs
+refill-requires : tie.Need-refill-requires Inv-loop μ-loop
+refill-requires c κs = search needs
 
 failed-requires : tie.Need-failed-requires Inv-loop μ-loop
 failed-requires c κs = search needs
@@ -63,14 +59,90 @@ same-length-6 c = search needs
 returns-2 : tie.Need-returns-2 Inv-loop μ-loop
 returns-2 c = search needs
 
-sub-turns : tie.Need-sub-turns Inv-loop μ-loop
-sub-turns c = search needs
+slice-reshare-prefix-take-in : tie.Need-slice-reshare-prefix-take-in Inv-loop μ-loop
+slice-reshare-prefix-take-in c = search needs
+
+slice-aggregate-take-in : tie.Need-slice-aggregate-take-in Inv-loop μ-loop
+slice-aggregate-take-in c = sym (length-take-le _ _ (let r = c .before .before .before .before .before .before .refill in omega (arith, r .ensures, r .kept .0)))
+
+take-in-requires : tie.Need-take-in-requires Inv-loop μ-loop
+take-in-requires c κs = let l = c .before .before .before .before .before .before .before .before .before .before .before .loop in omega (arith, l .inv .3)
+
+slice-reshare-prefix-shelf-line : tie.Need-slice-reshare-prefix-shelf-line Inv-loop μ-loop
+slice-reshare-prefix-shelf-line c = search needs
+
+slice-aggregate-shelf-line : tie.Need-slice-aggregate-shelf-line Inv-loop μ-loop
+slice-aggregate-shelf-line c = sym (length-take-le _ _ (let t = c .before .before .before .before .take-in in omega (arith, t .ensures, t .kept .0)))
+
+shelf-line-requires : tie.Need-shelf-line-requires Inv-loop μ-loop
+shelf-line-requires c κs = search needs
+
+slice-reshare-prefix-answer : tie.Need-slice-reshare-prefix-answer Inv-loop μ-loop
+slice-reshare-prefix-answer c = search needs
+
+slice-aggregate-answer : tie.Need-slice-aggregate-answer Inv-loop μ-loop
+slice-aggregate-answer c = sym (length-take-le _ _ (let t = c .before .before .before .before .before .before .before .before .take-in in omega (arith, t .ensures, t .kept .0)))
+
+answer-requires : tie.Need-answer-requires Inv-loop μ-loop
+answer-requires c κs = search needs
 
 loop-less : tie.Need-loop-less Inv-loop μ-loop
 loop-less c = search needs
 
 loop-again : tie.Need-loop-again Inv-loop μ-loop
 loop-again c = search needs
+
+slice-reshare-prefix-read-line : tie.Need-slice-reshare-prefix-read-line Inv-loop μ-loop
+slice-reshare-prefix-read-line c = search needs
+
+slice-aggregate-read-line : tie.Need-slice-aggregate-read-line Inv-loop μ-loop
+slice-aggregate-read-line c = sym (length-take-le _ _ (let t = c .before .before .before .before .before .before .before .take-in in omega (arith, t .ensures, t .kept .0)))
+
+read-line-requires : tie.Need-read-line-requires Inv-loop μ-loop
+read-line-requires c κs = search needs
+
+changes-requires : tie.Need-changes-requires Inv-loop μ-loop
+changes-requires c κs = search needs
+
+change-requires : tie.Need-change-requires Inv-loop μ-loop
+change-requires c κs = read-bounded _ _ (c .before .before .before .before .read-line .ensures)
+
+loop-less-2 : tie.Need-loop-less-2 Inv-loop μ-loop
+loop-less-2 c = omega (arith, c .before .before .before .before .before .before .before .before .before .before .before .before .before .before .before .before .before .before .before .before .before .before .before .before .before .before .before .loop-test .taken)
+
+loop-again-2 : tie.Need-loop-again-2 Inv-loop μ-loop
+loop-again-2 c =
+    let inv = c .before .before .before .before .before .before .before .before .before .before .before .before .before .before .before .before .before .before .before .before .before .before .before .before .before .before .before .before .loop .inv in
+    let r = c .before .before .before .before .before .before .before .before .before .before .before .before .before .before .before .before .before .before .before .before .before .before .before .refill in (
+      omega (arith, c .before .before .before .change .kept .1, inv .0),
+      omega (arith, c .before .before .before .before .before .before .before .before .before .before .before .before .before .before .before .before .take-in .kept .0, inv .1),
+      omega (arith, r .kept .0, inv .2),
+      search needs,
+      omega (arith, r .kept .0, r .ensures),
+    )
+
+answer-requires-2 : tie.Need-answer-requires-2 Inv-loop μ-loop
+answer-requires-2 c κs = read-bounded _ _ (c .before .before .before .before .read-line .ensures)
+
+loop-less-3 : tie.Need-loop-less-3 Inv-loop μ-loop
+loop-less-3 c = omega (arith, c .before .before .before .before .before .before .before .before .before .before .before .before .before .before .before .before .before .before .before .before .before .before .before .before .before .before .loop-test .taken)
+
+loop-again-3 : tie.Need-loop-again-3 Inv-loop μ-loop
+loop-again-3 c =
+    let inv = c .before .before .before .before .before .before .before .before .before .before .before .before .before .before .before .before .before .before .before .before .before .before .before .before .before .before .before .loop .inv in
+    let r = c .before .before .before .before .before .before .before .before .before .before .before .before .before .before .before .before .before .before .before .before .before .before .refill in (
+      omega (arith, c .before .before .answer2 .kept .1, inv .0),
+      omega (arith, c .before .before .before .before .before .before .before .before .before .before .before .before .before .before .before .take-in .kept .0, inv .1),
+      omega (arith, r .kept .0, inv .2),
+      search needs,
+      omega (arith, r .kept .0, r .ensures),
+    )
+
+loop-less-4 : tie.Need-loop-less-4 Inv-loop μ-loop
+loop-less-4 c = search needs
+
+loop-again-4 : tie.Need-loop-again-4 Inv-loop μ-loop
+loop-again-4 c = search needs
 
 same-length-7 : tie.Need-same-length-7 Inv-loop μ-loop
 same-length-7 c = search needs
@@ -92,24 +164,41 @@ run-spec =
     μ-loop
     none-requires
     loop-holds
-    read-some-requires
-    finish-requires
+    sub-turns
+    flush-requires
     same-length
     same-length-2
     same-length-3
     returns
-    slice-reshare-prefix-take-in
-    slice-aggregate-take-in
-    take-in-requires
-    flush-requires
+    refill-requires
     failed-requires
     same-length-4
     same-length-5
     same-length-6
     returns-2
-    sub-turns
+    slice-reshare-prefix-take-in
+    slice-aggregate-take-in
+    take-in-requires
+    slice-reshare-prefix-shelf-line
+    slice-aggregate-shelf-line
+    shelf-line-requires
+    slice-reshare-prefix-answer
+    slice-aggregate-answer
+    answer-requires
     loop-less
     loop-again
+    slice-reshare-prefix-read-line
+    slice-aggregate-read-line
+    read-line-requires
+    changes-requires
+    change-requires
+    loop-less-2
+    loop-again-2
+    answer-requires-2
+    loop-less-3
+    loop-again-3
+    loop-less-4
+    loop-again-4
     same-length-7
     same-length-8
     same-length-9

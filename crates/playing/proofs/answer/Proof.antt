@@ -1,0 +1,54 @@
+-- `playing::answer` is safe: a line asks for no larger buffer than there is room for.
+use Rattle.listing.proofs.BoundLaws.{recv-small}
+use borrow.Author.Needs.{needs}
+use Rattle.playing.proofs.answer.Statement.{statement}
+use Rattle.playing.proofs.answer.Tie as tie
+
+enum-known-call : tie.Need-enum-known-call
+enum-known-call c = search needs
+
+write-requires : tie.Need-write-requires
+write-requires c κs = search needs
+
+enum-known-call-2 : tie.Need-enum-known-call-2
+enum-known-call-2 c = search needs
+
+receive-into-requires : tie.Need-receive-into-requires
+receive-into-requires c κs = recv-small _ (c .before .before .before .before .before .before .pre) _ _ (c .before .before .before .call2 .given .1)
+
+slice-aggregate-put-bytes : tie.Need-slice-aggregate-put-bytes
+slice-aggregate-put-bytes c = search needs
+
+put-bytes-requires : tie.Need-put-bytes-requires
+put-bytes-requires c κs = search needs
+
+same-length : tie.Need-same-length
+same-length c = search needs
+
+returns : tie.Need-returns
+returns c = search needs
+
+same-length-2 : tie.Need-same-length-2
+same-length-2 c = search needs
+
+returns-2 : tie.Need-returns-2
+returns-2 c = search needs
+
+returns-3 : tie.Need-returns-3
+returns-3 c = search needs
+
+pub answer-spec : {M : Type 1} → statement M
+answer-spec =
+    tie.close
+    (tie.spec
+    enum-known-call
+    write-requires
+    enum-known-call-2
+    receive-into-requires
+    slice-aggregate-put-bytes
+    put-bytes-requires
+    same-length
+    returns
+    same-length-2
+    returns-2
+    returns-3)
