@@ -20,30 +20,21 @@ fn line_end(input: &[u8], from: usize) -> usize
     i
 }
 
-// Puts a byte behind the `at` bytes of a line that are there, or drops it: a line that fills its buffer is too long already.
-fn keep_byte(line: &mut [u8], at: usize, b: u8) -> usize
-    requires { ⌜ at ≤ length (now line) ⌝ }
-    ensures { λ r. ⌜ r ≤ length (now (line .entry)) ⌝ }
-{
-    if at < line.len() {
-        line[at] = b;
-        return at + 1;
-    }
-    at
-}
-
-// Puts bytes behind the `used` bytes of a line that are there.
+// Puts bytes behind the `used` bytes of a line that are there, as many as there is room for: a line that fills its buffer is too long already.
 fn put_part(line: &mut [u8], used: usize, part: &[u8]) -> usize
     requires { ⌜ used ≤ length (now line) ⌝ }
     ensures { λ r. ⌜ r ≤ length (now (line .entry)) ⌝ }
 {
-    let mut at = used;
+    let mut n = line.len() - used;
+    if part.len() < n {
+        n = part.len();
+    }
     let mut i: usize = 0;
-    while i < part.len() {
-        at = keep_byte(line, at, part[i]);
+    while i < n {
+        line[used + i] = part[i];
         i = i + 1;
     }
-    at
+    used + n
 }
 
 // After a part of some input was taken in: the place behind it, how many bytes of a line are there, and whether they are a whole line.

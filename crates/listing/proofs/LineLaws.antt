@@ -17,7 +17,7 @@ use Rattle.listing.specs.declared.Numbers.{Numbers}
 use Rattle.listing.specs.declared.Word.{Word}
 use Rattle.fields.proofs.FieldLaws.{firstField-take, laterFields-skip}
 use Rattle.listing.proofs.WordLaws.{takes-few}
-use Rattle.listing.proofs.GatherLaws.{Gathered, allFit, tooMany, unfit, gathered-cases, fitting-at}
+use Rattle.listing.proofs.GatherLaws.{Leaves, Gathered, allFit, tooMany, unfit, gathered-cases, fitting-at}
 
 -- numbers that a word takes, each of which fits, stand in their places
 pub places-taken : (w : Word) (fs : List (List ℕ)) → takesCount w (length fs) ≡ true → fitting w 0 fs ≡ true → Taken w (length fs) (places (map value fs))
@@ -40,19 +40,16 @@ pub line-long : (s : List ℕ) → 1023 < length s → plainLine Bad ≡ lineOf 
 line-long s h = line-breaks s 0 (lt-leb (length s) 1023 h)
 
 -- what the code knows once it has read the word and the numbers
-module _ (s : List ℕ) (end : ℕ) (w : Word) (r : Numbers) (e : end ≡ 0 + length (firstField (drop 0 s))) (f : w ≡ wordOf (take end s))
-    (g : r ≡ gathered w 0 (replicate 34 0) (laterFields (drop end s))) where
+module _ (s : List ℕ) (end : ℕ) (w : Word) (r : Numbers) (vs : List ℕ) (e : end ≡ 0 + length (firstField (drop 0 s))) (f : w ≡ wordOf (take end s))
+    (g : Leaves r vs (gathered w 0 (replicate 34 0) (laterFields (drop end s)))) where
   end-is : end ≡ length (firstField s)
   end-is = omega arith
 
   word-is : w ≡ wordOf (firstField s)
   word-is = f ∙ rw (end-is, firstField-take s)
 
-  numbers-are : r ≡ gathered w 0 (replicate 34 0) (laterFields s)
-  numbers-are = g ∙ rw (end-is, ← laterFields-skip s)
-
-  known : Gathered w 0 (replicate 34 0) (laterFields s) r
-  known = rw numbers-are (gathered-cases w 0 (replicate 34 0) (laterFields s) (omega arith))
+  known : Gathered w 0 (replicate 34 0) (laterFields s) r vs
+  known = rw (g .0, g .1, end-is, ← laterFields-skip s) (gathered-cases w 0 (replicate 34 0) (laterFields s) (omega arith))
 
   -- the word's tests, of the word that was read
   untaken : takesCount w (length (laterFields s)) ≡ false → plainLine Bad ≡ lineOf s
@@ -61,8 +58,8 @@ module _ (s : List ℕ) (end : ℕ) (w : Word) (r : Numbers) (e : end ≡ 0 + le
   pub line-unread : r .ok ≡ false → plainLine Bad ≡ lineOf s
   line-unread no-numbers = go known
     where
-      go : Gathered w 0 (replicate 34 0) (laterFields s) r → plainLine Bad ≡ lineOf s
-      go (allFit few fit q) = absurd (true≢false (sym (ap (λ (x : Numbers). x .ok) q) ∙ no-numbers))
+      go : Gathered w 0 (replicate 34 0) (laterFields s) r vs → plainLine Bad ≡ lineOf s
+      go (allFit few fit q v) = absurd (true≢false (sym (ap (λ (x : Numbers). x .ok) q) ∙ no-numbers))
       go (tooMany many q) = untaken (false-intro (takesCount w (length (laterFields s))) (λ t. omega (arith, takes-few w (length (laterFields s)) t)))
       go (unfit bad q) = line-breaks s 2 (rw word-is at bad)
 
@@ -70,32 +67,32 @@ module _ (s : List ℕ) (end : ℕ) (w : Word) (r : Numbers) (e : end ≡ 0 + le
     -- the numbers are there
     record There : Type 0 where
       pub count : r .count ≡ length (laterFields s)
-      pub values : r .values ≡ places (map value (laterFields s))
+      pub values : vs ≡ places (map value (laterFields s))
       pub few : length (laterFields s) ≤ 34
       pub fit : fitting w 0 (laterFields s) ≡ true
 
     there : There
     there = go known
       where
-        go : Gathered w 0 (replicate 34 0) (laterFields s) r → There
-        go (allFit few fit q) =
+        go : Gathered w 0 (replicate 34 0) (laterFields s) r vs → There
+        go (allFit few fit q v) =
             record {
               count = ap (λ (x : Numbers). x .count) q ∙ zero-add (length (laterFields s));
-              values = ap (λ (x : Numbers). x .values) q;
+              values = v;
               few = omega arith;
               fit = fit;
             }
-        go (tooMany many q) = absurd (true≢false (sym ok ∙ ap (λ (x : Numbers). x .ok) q))
-        go (unfit bad q) = absurd (true≢false (sym ok ∙ ap (λ (x : Numbers). x .ok) q))
+        go (tooMany many q) = absurd (true≢false (sym ok ∙ q))
+        go (unfit bad q) = absurd (true≢false (sym ok ∙ q))
 
     pub line-untaken : takesCount w (r .count) ≡ false → plainLine Bad ≡ lineOf s
     line-untaken n = untaken (rw (there .count) at n)
 
     module _ (taken : takesCount w (r .count) ≡ true) where
-      pub line-taken : Taken w (r .count) (r .values)
+      pub line-taken : Taken w (r .count) vs
       line-taken = rw (there .count, there .values) (places-taken w (laterFields s) (rw (there .count) at taken) (there .fit))
 
-      pub line-read : length s ≤ 1023 → callLine w (r .count) (r .values) ≡ lineOf s
+      pub line-read : length s ≤ 1023 → callLine w (r .count) vs ≡ lineOf s
       unfolding lineOf
       line-read h =
           let t = rw (there .count) at taken in

@@ -11,7 +11,7 @@ ghost use Rattle.rules.specs.StartData.{placed};
 ghost use Rattle.listing.specs.declared.Word.the-variants as word;
 ghost use Rattle.fields.specs.Fields.{firstField, laterFields};
 ghost use Rattle.listing.specs.Listing.{wordOf, mostAt, takesCount, plainLine, pairAt, identifierAt, callLine, lineOf};
-ghost use Rattle.listing.specs.Inner.{noNumbers, gathered, Taken};
+ghost use Rattle.listing.specs.Inner.{gathered, Taken};
 
 // What a line asks for. `Dev` has its number of identifiers last, `Start` its number of pairs: they stand beside the call.
 pub enum Call {
@@ -65,11 +65,10 @@ pub enum Word {
     Other,
 }
 
-// The numbers after a line's word: whether there are none but such as fit, how many, and zeros in the places after them.
+// What was read of the numbers after a line's word: whether each field is one that fits, and how many were taken.
 pub struct Numbers {
     pub ok: bool,
     pub count: usize,
-    pub values: [u64; 34],
 }
 
 // ---- words
@@ -184,51 +183,42 @@ fn takes(word: Word, count: usize) -> bool
     }
 }
 
-// No numbers that a call could have.
-fn no_numbers() -> Numbers
-    ensures { λ r. ⌜ r ≡ noNumbers ⌝ }
-{
-    Numbers {
-        ok: false,
-        count: 0,
-        values: [0; 34],
-    }
-}
-
-// The numbers in the fields that follow the one that ends at `end`.
-fn read_numbers(line: &[u8], end: usize, word: Word) -> Numbers
+// Puts the numbers in the fields that follow the one that ends at `end` into `values`, up to the first that is none, or does not fit, or has no place.
+fn read_numbers(line: &[u8], end: usize, word: Word, values: &mut [u64; 34]) -> Numbers
     requires { ⌜ (end ≤ length (now line)) × (firstField (drop end (now line)) ≡ []) ⌝ }
-    ensures { λ r. ⌜ r ≡ gathered word 0 (replicate 34 0) (laterFields (drop end (now (line .entry)))) ⌝ }
+    ensures { λ r. ⌜ (r ≡ gathered word 0 (now (values .entry)) (laterFields (drop end (now (line .entry)))) .answer)
+        × (now (values .exit) ≡ gathered word 0 (now (values .entry)) (laterFields (drop end (now (line .entry)))) .values) ⌝ }
 {
-    let mut values = [0u64; 34];
     let mut i: usize = 0;
     let mut at = end;
     while at < line.len() {
         if i >= 34 {
-            return no_numbers();
+            return Numbers {
+                ok: false,
+                count: i,
+            };
         }
         let from = at + 1;
         let to = fields::field_end(line, from);
         let Number::Is(v) = fields::read_number(&line[from..to], greatest(word, i)) else {
-            return no_numbers();
+            return Numbers {
+                ok: false,
+                count: i,
+            };
         };
         values[i] = v;
         i = i + 1;
         at = to;
     }
-    Numbers {
-        ok: true,
-        count: i,
-        values,
-    }
+    Numbers { ok: true, count: i }
 }
 
 // ---- calls
 
 // The first `n` identifiers of a `dev`.
-fn identifiers_of(values: [u64; 34], n: usize) -> [u16; 8]
-    requires { ⌜ (n ≤ 8) × ((k : _) → k < n → getD values (5 + k) 0 ≤ 65535) ⌝ }
-    ensures { λ r. ⌜ r ≡ put (replicate 8 0) 0 (recordsAt identifierAt 1 values 5 n) ⌝ }
+fn identifiers_of(values: &[u64; 34], n: usize) -> [u16; 8]
+    requires { ⌜ (n ≤ 8) × ((k : _) → k < n → getD (now values) (5 + k) 0 ≤ 65535) ⌝ }
+    ensures { λ r. ⌜ r ≡ put (replicate 8 0) 0 (recordsAt identifierAt 1 (now (values .entry)) 5 n) ⌝ }
 {
     let mut a = [0u16; 8];
     let mut i: usize = 0;
@@ -240,9 +230,9 @@ fn identifiers_of(values: [u64; 34], n: usize) -> [u16; 8]
 }
 
 // The first `n` pairs of a `start`.
-fn ranges_of(values: [u64; 34], n: usize) -> [Range; 16]
-    requires { ⌜ (n ≤ 16) × ((k : _) → k < n → getD values (2 + 2 * k + 1) 0 ≤ 4294967295) ⌝ }
-    ensures { λ r. ⌜ r ≡ placed (recordsAt pairAt 2 values 2 n) ⌝ }
+fn ranges_of(values: &[u64; 34], n: usize) -> [Range; 16]
+    requires { ⌜ (n ≤ 16) × ((k : _) → k < n → getD (now values) (2 + 2 * k + 1) 0 ≤ 4294967295) ⌝ }
+    ensures { λ r. ⌜ r ≡ placed (recordsAt pairAt 2 (now (values .entry)) 2 n) ⌝ }
 {
     let mut a = rules::no_ranges();
     let mut i: usize = 0;
@@ -268,9 +258,9 @@ fn plain(call: Call) -> Line
 }
 
 // A `dev` with its numbers.
-fn dev_line(values: [u64; 34], count: usize) -> Line
-    requires { ⌜ Taken word.Dev count values ⌝ }
-    ensures { λ r. ⌜ r ≡ callLine word.Dev count values ⌝ }
+fn dev_line(values: &[u64; 34], count: usize) -> Line
+    requires { ⌜ Taken word.Dev count (now values) ⌝ }
+    ensures { λ r. ⌜ r ≡ callLine word.Dev count (now (values .entry)) ⌝ }
 {
     let n = count - 5;
     let identifiers = identifiers_of(values, n);
@@ -296,9 +286,9 @@ fn dev_line(values: [u64; 34], count: usize) -> Line
 }
 
 // A `start` with its numbers.
-fn start_line(values: [u64; 34], count: usize) -> Line
-    requires { ⌜ Taken word.Start count values ⌝ }
-    ensures { λ r. ⌜ r ≡ callLine word.Start count values ⌝ }
+fn start_line(values: &[u64; 34], count: usize) -> Line
+    requires { ⌜ Taken word.Start count (now values) ⌝ }
+    ensures { λ r. ⌜ r ≡ callLine word.Start count (now (values .entry)) ⌝ }
 {
     let n = (count - 2) / 2;
     let ranges = ranges_of(values, n);
@@ -317,9 +307,9 @@ fn start_line(values: [u64; 34], count: usize) -> Line
 }
 
 // The line of a word with its numbers.
-fn line_of(word: Word, count: usize, values: [u64; 34]) -> Line
-    requires { ⌜ Taken word count values ⌝ }
-    ensures { λ r. ⌜ r ≡ callLine word count values ⌝ }
+fn line_of(word: Word, count: usize, values: &[u64; 34]) -> Line
+    requires { ⌜ Taken word count (now values) ⌝ }
+    ensures { λ r. ⌜ r ≡ callLine word count (now (values .entry)) ⌝ }
 {
     match word {
         Word::Dev => dev_line(values, count),
@@ -362,7 +352,8 @@ pub fn read_line(line: &[u8]) -> Line
     }
     let end = fields::field_end(line, 0);
     let word = word_of(&line[..end]);
-    let read = read_numbers(line, end, word);
+    let mut values = [0u64; 34];
+    let read = read_numbers(line, end, word, &mut values);
     if !read.ok {
         return plain(Call::Bad);
     }
@@ -370,6 +361,5 @@ pub fn read_line(line: &[u8]) -> Line
     if !takes(word, count) {
         return plain(Call::Bad);
     }
-    let values = read.values;
-    line_of(word, count, values)
+    line_of(word, count, &values)
 }

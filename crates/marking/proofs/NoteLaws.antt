@@ -17,7 +17,9 @@ use Rattle.bits.specs.Share.{Holds, getShare, putShare}
 use Rattle.bits.proofs.Flat.{flat-length}
 use Rattle.bits.proofs.Span.{fill-length, fill-at-below, fill-at-in, fill-at-above, clears-cons, clears-ext}
 use Rattle.bits.proofs.Share.{getShare-length, getShare-putShare-above, putShare-append, fill-share, clears-share}
-use Rattle.rules.specs.Units.{Unit, Write, unitsOfRow, touches, mark, newly}
+use Rattle.rules.specs.Lists.{keep}
+use Rattle.rules.specs.Settings.{unitSize}
+use Rattle.rules.specs.Units.{Unit, Write, unitsOfRow, uncovered, units, touches, mark, newly}
 use Rattle.rules.specs.declared.Range.{Range}
 use Rattle.rules.proofs.UnitLaws.{unitsOfRow-length, unitsOfRow-at, mark-length, mark-append, newly-append, newly-le, mark-at}
 use Rattle.pieces.specs.Pieces.{unitOf}
@@ -328,3 +330,17 @@ module _ (w : Write) (us : List Unit) (words : List ℕ) (at count : ℕ) (bits 
         sym (take-append-drop at (flat words)) ∙ ap (λ k. take at (flat words) ++ drop k (flat words)) (sym e)
             ∙ subst (λ us. markIn w us (flat words) at ≡ bits) none (m .marked),
       )
+
+-- ---- a range that is listed alone
+
+-- no range covers a unit before it
+kept-whole : (size : ℕ) (us : List Unit) → keep (uncovered size []) us ++ [] ≡ us
+kept-whole size [] = refl
+kept-whole size (u ∷ us) = ap (λ l. u ∷ l) (kept-whole size us)
+
+pub units-alone : (g : ℕ) (r : Range) → units g (r ∷ []) ≡ unitsOf (unitSize g) r
+units-alone g r = kept-whole (unitSize g) (unitsOfRow 0 (unitSize g) (r .start) (r .length))
+
+pub alone-held : (ws : List ℕ) (base g : ℕ) (r : Range) → Holds ws base (length (units g (r ∷ []))) → Holds ws base (r .length)
+alone-held ws base g r h =
+    subst (Holds ws base) (ap length (units-alone g r) ∙ unitsOfRow-length 0 (unitSize g) (r .start) (r .length)) h

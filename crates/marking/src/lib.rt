@@ -8,6 +8,7 @@ use rules::Range;
 use rules::Units;
 ghost use mathlib.Core.Path.{_≡_};
 ghost use mathlib.Core.Bool.{true};
+ghost use mathlib.Core.List.{[], _∷_};
 ghost use Prim.Native.Nat.{_+_, _^_, _<_, _≤_, min};
 ghost use lib.ListN.{length, take};
 ghost use Rattle.bits.specs.Flat.{flat};
@@ -63,7 +64,16 @@ fn mark_range(marks: &mut [u64], from: usize, g: u8, r: Range, at: u64, last: u6
     bits::mark_span(marks, a, e)
 }
 
-// The same for the first n ranges from a row on, piece by piece, as they may overlap. The marks of that row stand from bit `from` on.
+// The same of a range that is listed alone: no other covers its units.
+pub fn mark_one(marks: &mut [u64], base: usize, g: u8, r: Range, at: u64, last: u64) -> usize
+    requires { ⌜ (g ≤ 20) × (at ≤ last) × Holds (now marks) base (length (units g (r ∷ []))) ⌝ }
+    ensures { λ k. ⌜ (k ≡ newlyIn (writeTo at last) (units g (r ∷ [])) (flat (now (marks .entry))) base)
+        × (flat (now (marks .exit)) ≡ markIn (writeTo at last) (units g (r ∷ [])) (flat (now (marks .entry))) base) ⌝ }
+{
+    mark_range(marks, base, g, r, at, last)
+}
+
+// The same as `mark_range` for the first n ranges from a row on, piece by piece, as they may overlap. The marks of that row stand from bit `from` on.
 fn mark_pieces(
     marks: &mut [u64],
     from: usize,

@@ -1,9 +1,9 @@
 -- Laws of the range rules (18 to 21, 10 and 11) as the code asks them: one range, the rows, the whole table; and what ranges that
 -- pass are known by (`HeldFacts`). All of it is the library's interface. Assumes nothing.
 use Prim.Native.Nat.{ℕ, suc, _+_, _-_, _%_, _^_, _<_, _≤_, min}
-use mathlib.Core.Path.{_≡_, sym, ap, _∙_}
+use mathlib.Core.Path.{_≡_, refl, sym, ap, _∙_}
 use mathlib.Core.Logic.{_≢_}
-use mathlib.Core.Bool.{true, false}
+use mathlib.Core.Bool.{Bool, true, false, not, _&&_, _||_, and-true, and-false, and-assoc}
 use mathlib.Core.List.{List, [], _∷_, _++_, map}
 use native.Mathlib.Numerals.{add-one}
 use native.Mathlib.Omega.{arith}
@@ -19,8 +19,8 @@ use Rattle.rules.specs.StartData.{noRange}
 use Rattle.rules.specs.declared.Range.{Range}
 use Rattle.rules.specs.declared.Refusal.{Refusal}
 use Rattle.rules.specs.declared.Settings.{Settings}
-use Rattle.rules.proofs.ListLaws.{All, All-append, front-at, front-end}
-use Rattle.rules.proofs.RefusalLaws.{Passed, Passed-left, Passed-right, refusal-none, refusalAt-is, verdict-first, verdict-rest, passes-all}
+use Rattle.rules.proofs.ListLaws.{All, All-append, and-left, front-at, front-end}
+use Rattle.rules.proofs.RefusalLaws.{Passed, Passed-left, Passed-right, refusal-none, refusalAt-is, verdict-first, verdict-rest, passes-all, passes-append}
 use Rattle.rules.proofs.RowLaws.{row-answers, rowsTests-passes}
 use Rattle.rules.proofs.UnitLaws.{unitsFrom-length}
 use Rattle.measures.proofs.MeasureLaws.{bytesOf-pos}
@@ -149,9 +149,66 @@ module _ (s : Settings) (g n : ℕ) (rs : List Range) where
   listTests-numbers =
       All-append (λ (t : Test). 1 ≤ t .number) (rangeTests g n rs) others (omega arith, (omega arith, rowsTests-numbers g 0 rs)) (omega arith, (omega arith, tt))
 
-  -- the answer 0 says that all are passed
-  pub listTests-none : (r : Refusal) → r ≡ refusalAt (listTests s g n rs) → eqb (r .number) 0 ≡ passes (listTests s g n rs)
-  listTests-none r e = rw (e, refusalAt-is (listTests s g n rs)) (refusal-none (listTests s g n rs) listTests-numbers)
+-- ---- 18 to 21, 10 and 11 in one pass
+
+-- what is asked of each range by itself: the rules of a row, and 10
+abbrev pub eachOk : Settings → ℕ → Range → Bool
+eachOk s g r = rowOk g r && powersOk s (r ∷ [])
+
+-- a range that breaks a rule of a row, and one that breaks none, where 10 is on or off
+module _ (s : Settings) (g : ℕ) (r : Range) (k : ℕ) (e : k ≡ refusal (rowTests g 0 r)) where
+  pub each-not : k ≢ 0 → eachOk s g r ≡ false
+  each-not h = rw (sym (row-none g r k e), ne-eqb k 0 h)
+
+  pub each-on : k ≡ 0 → s .powers ≡ true → eachOk s g r ≡ isPower (r .length)
+  each-on h f = rw (sym (row-none g r k e), eq-eqb k 0 h, powersOk-on s (r ∷ []) f) (and-true (isPower (r .length)))
+
+  pub each-off : k ≡ 0 → s .powers ≡ false → eachOk s g r ≡ true
+  each-off h f = rw (sym (row-none g r k e), eq-eqb k 0 h, powersOk-off s (r ∷ []) f)
+
+-- all ranges by themselves
+each-all : (s : Settings) (g : ℕ) (rs : List Range) → all (eachOk s g) rs ≡ (rowsOk g rs && powersOk s rs)
+unfolding powersOk
+each-all s g rs = go (s .powers) rs
+  where
+    step : (a b c d : Bool) → ((a && (b && true)) && (c && d)) ≡ ((a && c) && (b && d))
+    step true true c d = refl
+    step true false c d = sym (and-false c)
+    step false b c d = refl
+
+    go : (p : Bool) (rs : List Range)
+        → all (λ r. rowOk g r && (not p || all (λ (q : Range). isPower (q .length)) (r ∷ []))) rs ≡ (rowsOk g rs && (not p || all (λ (q : Range). isPower (q .length)) rs))
+    go true [] = refl
+    go false [] = refl
+    go true (r ∷ rs) = rw (go true rs) (step (rowOk g r) (isPower (r .length)) (rowsOk g rs) (all (λ (q : Range). isPower (q .length)) rs))
+    go false (r ∷ rs) = rw (go false rs) (step (rowOk g r) true (rowsOk g rs) true)
+
+-- where all pass, each breaks no rule of a row
+pub each-rows : (s : Settings) (g : ℕ) (rs : List Range) → all (eachOk s g) rs ≡ true → rowsOk g rs ≡ true
+each-rows s g rs e = and-left (rowsOk g rs) (powersOk s rs) (sym (each-all s g rs) ∙ e)
+
+module _ (s : Settings) (g n : ℕ) (rs : List Range) where
+  pub passes-empty : n < 1 → passes (listTests s g n rs) ≡ false
+  unfolding rangeTests
+  passes-empty h = rw (lt-leb 1 n h)
+
+  pub passes-many : 16 < n → passes (listTests s g n rs) ≡ false
+  unfolding rangeTests
+  passes-many h = rw (le-leb 1 n (omega arith), lt-leb n 16 h)
+
+  -- of 1 to 16 ranges each is asked by itself, and 11 of all
+  module _ (some : 1 ≤ n) (few : n ≤ 16) where
+    passes-each : passes (listTests s g n rs) ≡ (all (eachOk s g) rs && unitsOk g rs)
+    unfolding rangeTests
+    passes-each =
+        rw (le-leb 1 n some, le-leb n 16 few, passes-append (rowsTests g 0 rs) (others s g n rs), rowsTests-passes g 0 rs, each-all s g rs, and-true (unitsOk g rs))
+        (sym (and-assoc (rowsOk g rs) (powersOk s rs) (unitsOk g rs)))
+
+    pub passes-not : all (eachOk s g) rs ≡ false → passes (listTests s g n rs) ≡ false
+    passes-not e = passes-each ∙ rw e
+
+    pub passes-rest : all (eachOk s g) rs ≡ true → passes (listTests s g n rs) ≡ unitsOk g rs
+    passes-rest e = passes-each ∙ rw e
 
 -- ---- what ranges that pass all of it at a granularity that passes 7 are known by
 

@@ -7,12 +7,12 @@ use rules::Refusal;
 use rules::Settings;
 use rules::Units;
 ghost use mathlib.Core.Path.{_≡_};
-ghost use mathlib.Core.Bool.{true};
+ghost use mathlib.Core.Bool.{true, _&&_};
 ghost use Prim.Native.Nat.{_^_, _<_, _≤_};
 ghost use lib.ListN.{length, take};
-ghost use mathlib.Core.List.{map};
+ghost use mathlib.Core.List.{[], _∷_, map};
 ghost use Rattle.rules.specs.Lists.{sum};
-ghost use Rattle.rules.specs.Refusals.{refusal, refusalAt};
+ghost use Rattle.rules.specs.Refusals.{refusal, refusalAt, passes};
 ghost use Rattle.rules.specs.Units.{units};
 ghost use Rattle.rules.specs.Ranges.{rowTests, rowOk, rowsOk, rowsTests, isPower, powersOk, unitsOk, listTests};
 
@@ -155,4 +155,47 @@ pub fn list_refusal(s: Settings, g: u8, n: u8, ranges: [Range; 16]) -> Refusal
         return Refusal { number: 11, row: 0 };
     }
     Refusal { number: 0, row: 0 }
+}
+
+// Whether a range breaks no rule of a row and passes 10.
+fn row_ok(s: Settings, g: u8, r: Range) -> bool
+    requires { ⌜ g ≤ 20 ⌝ }
+    ensures { λ x. ⌜ x ≡ (rowOk g r && powersOk s (r ∷ [])) ⌝ }
+{
+    if row_number(g, r) != 0 {
+        return false;
+    }
+    if s.powers {
+        return is_power(r);
+    }
+    true
+}
+
+// Whether n listed ranges break no rule, 18 to 21, 10 and 11, in one pass: every call asks it of every controller. There are no more different units than the
+// lengths say, so these are mostly enough.
+pub fn list_ok(s: Settings, g: u8, n: u8, ranges: [Range; 16]) -> bool
+    requires { ⌜ g ≤ 20 ⌝ }
+    ensures { λ r. ⌜ r ≡ passes (listTests s g n (take n ranges)) ⌝ }
+{
+    let m = n as usize;
+    if m < 1 {
+        return false;
+    }
+    if m > 16 {
+        return false;
+    }
+    let mut total: u64 = 0;
+    for i in 0..m {
+        let r = ranges[i];
+        if !row_ok(s, g, r) {
+            return false;
+        }
+        let u = measures::length_of(r);
+        total += u.0;
+    }
+    if total <= MOST_UNITS {
+        return true;
+    }
+    let different = units_in(g, m, ranges);
+    different.0 <= MOST_UNITS
 }

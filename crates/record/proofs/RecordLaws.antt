@@ -1,14 +1,14 @@
--- Laws of the device record: its counts, what a sound one is known by, and what a call's place says of its table. All of it is the library's
+-- Laws of the device record: its weights, what a sound one is known by, and what a call's place says of its table. All of it is the library's
 -- interface. Assumes nothing.
-use Prim.Native.Nat.{ℕ, _+_, _<_, _≤_, min}
+use Prim.Native.Nat.{ℕ, zero, suc, _+_, _<_, _≤_}
 use mathlib.Core.Path.{_≡_, refl, ap, sym, _∙_}
-use mathlib.Core.Bool.{Bool, true, false, cond, and-true, and-false}
-use mathlib.Core.List.{List, _∷_, map}
+use mathlib.Core.Bool.{Bool, true, false, _&&_, cond, and-true, and-false, true≢false}
+use mathlib.Core.List.{List, [], _∷_, map}
 use mathlib.Core.Option.{Option, none, some}
 use native.Mathlib.Omega.{arith}
-use lib.ListN.{length, getD, take, drop, length-take}
+use lib.ListN.{length, getD, take, length-take}
 use lib.Dec.{leb, eqb}
-use borrow.Author.Tests.{eqb-true, eq-eqb, ne-eqb}
+use borrow.Author.Tests.{eqb-true, eq-eqb, ne-eqb, lt-leb}
 use Rattle.rules.specs.Lists.{all, sum, isSome}
 use Rattle.rules.specs.Refusals.{Test, _else_, verdict, passes}
 use Rattle.rules.specs.Settings.{markWords, identifiersOf, settingsOk, placeOf, granularityOk}
@@ -17,12 +17,13 @@ use Rattle.rules.specs.Device.{heldCount, heldIn, heldOf, heldOk, controllersOf
 use Rattle.rules.specs.declared.Range.{Range}
 use Rattle.rules.specs.declared.Tracking.{Tracking}
 use Rattle.rules.specs.declared.Tracking.the-variants.{Off, On}
+use Rattle.rules.specs.declared.Controller.{Controller}
 use Rattle.rules.specs.declared.Settings.{Settings}
 use Rattle.rules.specs.declared.Device.{Device}
-use Rattle.rules.proofs.ListLaws.{every-not, all-map, and-left, and-right, placeFrom-is, front-at, front-end}
+use Rattle.rules.proofs.ListLaws.{every-not, all-map, and-left, and-right, placeFrom-is}
 use Rattle.rules.proofs.RefusalLaws.{passes-Passed}
 use Rattle.rules.proofs.SoundLaws.{sound-settings, sound-held, sound-limit}
-use Rattle.record.specs.Record.{noController, countsOf, soundWith, placeAt, whereIs, seenIn}
+use Rattle.record.specs.Record.{noController, countsOf, weightOf, weightsOf, soundWith, placeAt, whereIs, seenIn}
 use Rattle.settings.specs.Found.{foundAt}
 use Rattle.settings.specs.declared.Found.the-variants as found
 use Rattle.settings.specs.declared.Found.the-variants.{Nothing}
@@ -30,16 +31,6 @@ use Rattle.record.specs.declared.Place.the-variants.{At, Refused}
 use Rattle.rules.proofs.LoopLaws.{all-front}
 use Rattle.settings.proofs.SettingsLaws.{settingsOk-count, settingsOk-greatest, settingsOk-limit}
 use Rattle.ranges.proofs.RangeLaws.{HeldFacts, listTests-facts}
-
--- ---- the counts: a loop over the controllers, at i
-
-module _ (d : Device) (i : ℕ) where
-  pub countsOf-next : i < d .settings .count → i < length (d .controllers)
-      → sum (map heldCount (map heldOf (drop i (controllersOf d)))) ≡ heldCount (heldOf (getD (d .controllers) i noController)) + sum (map heldCount (map heldOf (drop (i + 1) (controllersOf d))))
-  countsOf-next h k = rw (front-at (d .controllers) (d .settings .count) i noController h k)
-
-  pub countsOf-end : min (d .settings .count) (length (d .controllers)) ≤ i → sum (map heldCount (map heldOf (drop i (controllersOf d)))) ≡ 0
-  countsOf-end h = rw (front-end (d .controllers) (d .settings .count) i h)
 
 -- ---- what one controller holds, by its tracking and its ranges
 
@@ -57,6 +48,46 @@ module _ (s : Settings) (t : Tracking) (rs : List Range) where
   unfolding heldOk
   heldOk-on g n e f = rw (e, f)
 
+-- ---- the weights
+
+-- that of a controller that may not hold what it does, and that of one that may
+pub weightOf-not : (s : Settings) (c : Controller) → heldOk s (heldOf c) ≡ false → weightOf s c ≡ 65536
+weightOf-not s c e = rw e
+
+pub weightOf-count : (s : Settings) (c : Controller) → heldOk s (heldOf c) ≡ true → weightOf s c ≡ heldCount (heldOf c)
+weightOf-count s c e = rw e
+
+-- where each controller holds what it may they are the counts, and else more than every limit
+pub weights-counts : (s : Settings) (cs : List Controller) → all (λ c. heldOk s (heldOf c)) cs ≡ true → sum (map (weightOf s) cs) ≡ sum (map heldCount (map heldOf cs))
+weights-counts s [] e = refl
+weights-counts s (c ∷ cs) e =
+    rw (and-left (heldOk s (heldOf c)) (all (λ c. heldOk s (heldOf c)) cs) e, weights-counts s cs (and-right (heldOk s (heldOf c)) (all (λ c. heldOk s (heldOf c)) cs) e))
+
+pub weights-heavy : (s : Settings) (cs : List Controller) → all (λ c. heldOk s (heldOf c)) cs ≡ false → 65536 ≤ sum (map (weightOf s) cs)
+weights-heavy s [] e = absurd (true≢false e)
+weights-heavy s (c ∷ cs) e = go (heldOk s (heldOf c)) (weights-heavy s cs) e
+  where
+    go : (b : Bool) → (all (λ c. heldOk s (heldOf c)) cs ≡ false → 65536 ≤ sum (map (weightOf s) cs)) → (b && all (λ c. heldOk s (heldOf c)) cs) ≡ false
+        → 65536 ≤ cond b (heldCount (heldOf c)) 65536 + sum (map (weightOf s) cs)
+    go true ih f = omega (arith, ih f)
+    go false ih f = omega arith
+
+-- the weights of the first k controllers: those of the first k and that of the next one
+abbrev pub weightsTo : Device → ℕ → ℕ
+weightsTo d k = sum (map (weightOf (d .settings)) (take k (d .controllers)))
+
+sum-more : {A : Type 0} (f : A → ℕ) (xs : List A) (k : ℕ) (d : A) → k < length xs → sum (map f (take (suc k) xs)) ≡ sum (map f (take k xs)) + f (getD xs k d)
+sum-more f [] k d h = absurd (omega arith)
+sum-more f (x ∷ xs) zero d h = omega arith
+sum-more f (x ∷ xs) (suc k) d h = omega (arith, sum-more f xs k d (omega arith))
+
+pub weightsTo-next : (d : Device) (k total w : ℕ) → k < length (d .controllers) → total ≡ weightsTo d k → w ≡ weightOf (d .settings) (getD (d .controllers) k noController)
+    → total + w ≡ weightsTo d (suc k)
+weightsTo-next d k total w h e f = omega (arith, sum-more (weightOf (d .settings)) (d .controllers) k noController h)
+
+pub weightsTo-all : (d : Device) (k total : ℕ) → d .settings .count ≡ k → total ≡ weightsTo d k → total ≡ weightsOf d
+weightsTo-all d k total e f = f ∙ ap (weightsTo d) (sym e)
+
 -- ---- soundness, rule by rule
 
 module _ (d : Device) where
@@ -64,14 +95,17 @@ module _ (d : Device) where
   unfolding sound
   soundDevice-settings-not e = every-not (soundRules (d .settings) (map heldOf (controllersOf d))) 0 e
 
-  pub soundDevice-held-not : all (λ c. heldOk (d .settings) (heldOf c)) (controllersOf d) ≡ false → soundDevice d ≡ false
+  -- where they pass, it is left that the weights are within the limit: a controller that may not hold what it does weighs more than every limit
+  pub soundDevice-weights : settingsOk (d .settings) ≡ true → leb (weightsOf d) (d .settings .limit) ≡ soundDevice d
   unfolding sound
-  soundDevice-held-not e = every-not (soundRules (d .settings) (map heldOf (controllersOf d))) 1 (all-map (heldOk (d .settings)) heldOf (controllersOf d) ∙ e)
-
-  -- where the first two hold, it is left that the counts are within the limit
-  pub soundDevice-last : settingsOk (d .settings) ≡ true → all (λ c. heldOk (d .settings) (heldOf c)) (controllersOf d) ≡ true → soundDevice d ≡ leb (countsOf d) (d .settings .limit)
-  unfolding sound
-  soundDevice-last e f = rw (e, all-map (heldOk (d .settings)) heldOf (controllersOf d), f) (and-true (leb (countsOf d) (d .settings .limit)))
+  soundDevice-weights e =
+      rw (e, all-map (heldOk (d .settings)) heldOf (controllersOf d)) (go (all (λ c. heldOk (d .settings) (heldOf c)) (controllersOf d)) refl)
+    where
+      go : (b : Bool) → all (λ c. heldOk (d .settings) (heldOf c)) (controllersOf d) ≡ b
+          → leb (weightsOf d) (d .settings .limit) ≡ (b && (leb (countsOf d) (d .settings .limit) && true))
+      go true f = rw (weights-counts (d .settings) (controllersOf d) f) (sym (and-true (leb (countsOf d) (d .settings .limit))))
+      go false f =
+          lt-leb (weightsOf d) (d .settings .limit) (omega (arith, weights-heavy (d .settings) (controllersOf d) f, settingsOk-limit (d .settings) e))
 
 -- ---- what a sound record is known by
 
@@ -92,6 +126,12 @@ soundDevice-facts d e =
       limit = settingsOk-limit (d .settings) s;
       counts = sound-limit (d .settings) (map heldOf (controllersOf d)) e;
     }
+
+-- its weights are its counts
+pub soundDevice-counts : (d : Device) → soundDevice d ≡ true → weightsOf d ≡ countsOf d
+soundDevice-counts d e =
+    weights-counts (d .settings) (controllersOf d)
+    (sym (all-map (heldOk (d .settings)) heldOf (controllersOf d)) ∙ sound-held (d .settings) (map heldOf (controllersOf d)) e)
 
 -- and a controller of it that is on
 heldOk-facts : (s : Settings) (t : Tracking) (rs : List Range) (g n : ℕ) → s .greatest ≤ 20 → t ≡ On g n → heldOk s (heldIn t rs) ≡ true → HeldFacts s g n (take n rs)

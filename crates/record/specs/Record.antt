@@ -9,10 +9,11 @@ use lib.ListN.{getD, set}
 use Rattle.rules.specs.Lists.{sum, isSome}
 use Rattle.rules.specs.Settings.{markWords, placeOf}
 use Rattle.rules.specs.Order.{Seen}
-use Rattle.rules.specs.Device.{heldCount, heldOf, controllersOf, soundDevice}
+use Rattle.rules.specs.Device.{heldCount, heldOf, heldOk, controllersOf, soundDevice}
 use Rattle.rules.specs.declared.Tracking.{Tracking}
 use Rattle.rules.specs.declared.Tracking.the-variants.{Off, On}
 use Rattle.rules.specs.declared.Controller.{Controller}
+use Rattle.rules.specs.declared.Settings.{Settings}
 use Rattle.rules.specs.declared.Device.{Device}
 use Rattle.record.specs.declared.Place.{Place}
 use Rattle.record.specs.declared.Place.the-variants as place
@@ -49,6 +50,14 @@ isOn (On g n) = true
 -- the counts of all controllers now tracked
 abbrev pub countsOf : Device → ℕ
 countsOf d = sum (map heldCount (map heldOf (controllersOf d)))
+
+-- what a controller weighs: its count, or 65,536, above every limit, where it may not hold what it does
+abbrev pub weightOf : Settings → Controller → ℕ
+weightOf s c = cond (heldOk s (heldOf c)) (heldCount (heldOf c)) 65536
+
+-- the weights of all controllers in use
+abbrev pub weightsOf : Device → ℕ
+weightsOf d = sum (map (weightOf (d .settings)) (controllersOf d))
 
 -- what a call to a place sees of a record and so many mark words
 abbrev pub seenIn : Device → ℕ → Option ℕ → Seen

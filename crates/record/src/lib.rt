@@ -8,10 +8,11 @@ use rules::Settings;
 use rules::Tracking;
 use settings::Found;
 ghost use mathlib.Core.Path.{_≡_};
-ghost use Prim.Native.Nat.{_*_, _≤_};
-ghost use Rattle.rules.specs.Lists.{all};
-ghost use Rattle.rules.specs.Device.{heldOf, heldOk, heldCount, controllersOf, soundDevice};
-ghost use Rattle.record.specs.Record.{countsOf, whereIs};
+ghost use mathlib.Core.Bool.{true};
+ghost use Prim.Native.Nat.{_≤_};
+ghost use Rattle.rules.specs.Settings.{settingsOk};
+ghost use Rattle.rules.specs.Device.{heldOf, heldOk, heldCount, soundDevice};
+ghost use Rattle.record.specs.Record.{weightOf, weightsOf, whereIs};
 
 // Where a call finds its controller, or the refusal's number, 1 or 2.
 pub enum Place {
@@ -30,19 +31,6 @@ fn count_of(c: Controller) -> usize
     }
 }
 
-// The counts of all controllers now tracked, together. At most 8 are in use.
-pub fn counts(d: Device) -> usize
-    requires { ⌜ d .settings .count ≤ 8 ⌝ }
-    ensures { λ r. ⌜ (r ≡ countsOf d) × (r ≤ 8 * 255) ⌝ }
-{
-    let n = d.settings.count;
-    let mut total: usize = 0;
-    for i in 0..n {
-        total += count_of(d.controllers[i]);
-    }
-    total
-}
-
 // Whether a controller is off, or its granularity and ranges pass 7, 18 to 21, 10 and 11.
 fn controller_ok(s: Settings, c: Controller) -> bool
     requires { ⌜ s .greatest ≤ 20 ⌝ }
@@ -56,23 +44,57 @@ fn controller_ok(s: Settings, c: Controller) -> bool
         return false;
     }
     let ranges = c.ranges;
-    let refusal = ranges::list_refusal(s, g, n, ranges);
-    refusal.number == 0
+    ranges::list_ok(s, g, n, ranges)
 }
 
-// Whether each controller in use is off or holds what it may.
-fn controllers_ok(d: Device) -> bool
-    requires { ⌜ (d .settings .greatest ≤ 20) × (d .settings .count ≤ 8) ⌝ }
-    ensures { λ r. ⌜ r ≡ all (λ c. heldOk (d .settings) (heldOf c)) (controllersOf d) ⌝ }
+// How many ranges a controller holds, or 65,536 where it may not hold what it does, which is above every limit.
+fn weight(s: Settings, c: Controller) -> usize
+    requires { ⌜ s .greatest ≤ 20 ⌝ }
+    ensures { λ r. ⌜ (r ≡ weightOf s c) × (r ≤ 65536) ⌝ }
+{
+    if !controller_ok(s, c) {
+        return 65536;
+    }
+    count_of(c)
+}
+
+// The weights of all controllers in use, together. A controller is taken by a number that does not vary, as one that does would copy the record.
+pub fn weights(d: Device) -> usize
+    requires { ⌜ settingsOk (d .settings) ≡ true ⌝ }
+    ensures { λ r. ⌜ r ≡ weightsOf d ⌝ }
 {
     let s = d.settings;
     let n = s.count;
-    for i in 0..n {
-        if !controller_ok(s, d.controllers[i]) {
-            return false;
-        }
+    let mut total = weight(s, d.controllers[0]);
+    if n == 1 {
+        return total;
     }
-    true
+    total += weight(s, d.controllers[1]);
+    if n == 2 {
+        return total;
+    }
+    total += weight(s, d.controllers[2]);
+    if n == 3 {
+        return total;
+    }
+    total += weight(s, d.controllers[3]);
+    if n == 4 {
+        return total;
+    }
+    total += weight(s, d.controllers[4]);
+    if n == 5 {
+        return total;
+    }
+    total += weight(s, d.controllers[5]);
+    if n == 6 {
+        return total;
+    }
+    total += weight(s, d.controllers[6]);
+    if n == 7 {
+        return total;
+    }
+    total += weight(s, d.controllers[7]);
+    total
 }
 
 // Whether a record is sound: its settings pass 16, each controller in use is off or holds what it may, and their counts are within the limit.
@@ -84,10 +106,7 @@ pub fn sound(d: Device) -> bool
     if !settings::settings_ok(s) {
         return false;
     }
-    if !controllers_ok(d) {
-        return false;
-    }
-    counts(d) <= s.limit as usize
+    weights(d) <= s.limit as usize
 }
 
 // Where a call that lends so many words of marks finds its controller. Refused, in this order: 1 where there are not as many as marks have or the record is

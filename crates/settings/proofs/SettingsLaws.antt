@@ -41,6 +41,9 @@ settingsOk-last s a b c d e f =
     rw (le-leb 1 (s .count) a, le-leb (s .count) 8 b, f, le-leb (s .least) (s .greatest) c, le-leb (s .greatest) 20 d, le-leb (s .limit) 128 e)
     (and-true (different (identifiersOf s)))
 
+pub settingsOk-some : (s : Settings) → settingsOk s ≡ true → 1 ≤ s .count
+settingsOk-some s e = leb-true 1 (s .count) (settingsOk-at s 0 e)
+
 pub settingsOk-count : (s : Settings) → settingsOk s ≡ true → s .count ≤ 8
 settingsOk-count s e = leb-true (s .count) 8 (settingsOk-at s 1 e)
 

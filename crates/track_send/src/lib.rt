@@ -66,7 +66,7 @@ fn listed_refusal(d: Device, g: u8, n: u32, data: &[u8]) -> Refusal
     if refusal.number != 0 {
         return refusal;
     }
-    if count + record::counts(d) > s.limit as usize {
+    if count + record::weights(d) > s.limit as usize {
         return Refusal { number: 12, row: 0 };
     }
     Refusal { number: 0, row: 0 }

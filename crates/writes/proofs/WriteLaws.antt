@@ -1,36 +1,43 @@
 -- What a noted write answers, case by case of its table; a written range of no bytes leaves every word as it was. Assumes nothing.
 use mathlib.Core.Path.{_≡_, refl, sym, ap, ap₂, subst, _∙_}
 use mathlib.Core.Logic.{_≢_}
-use mathlib.Core.Bool.{Bool, true, false, or-false, and-true, and-false}
+use mathlib.Core.Bool.{Bool, true, false, cond, or-false, and-true, and-false}
 use mathlib.Core.List.{List, [], _∷_}
 use mathlib.Core.Option.{Option, none, some}
 use Prim.Native.Nat.{ℕ, _+_, _^_, _≤_, _<_}
 use native.Mathlib.Omega.{arith}
 use native.Mathlib.Nat.{zero-add}
 use lib.ListN.{length, getD, take, drop}
-use borrow.Author.Tests.{le-leb, lt-leb, eq-eqb, ne-eqb}
+use lib.Dec.{leb}
+use borrow.Author.Tests.{le-leb, lt-leb, leb-true, eq-eqb, ne-eqb, eqb-true}
 use Rattle.bits.specs.Flat.{flat, Words}
-use Rattle.bits.specs.Share.{putShare}
+use Rattle.bits.specs.Share.{Holds, putShare}
 use Rattle.bits.specs.Pack.{pack}
 use Rattle.bits.proofs.Flat.{flat-length}
 use Rattle.bits.proofs.Pack.{pack-only, pack-flat}
 use Rattle.bits.proofs.Share.{getShare-length, putShare-getShare}
 use Rattle.rules.specs.Settings.{markWords, shareAt, placeOf}
+use Rattle.rules.specs.Refusals.{refusal, verdict}
 use Rattle.rules.specs.Units.{Unit, Write, units, touches, mark, newly}
 use Rattle.rules.specs.Order.{writeOrder}
 use Rattle.rules.specs.Device.{soundDevice}
+use Rattle.rules.specs.StartData.{noRange}
+use Rattle.rules.specs.Ranges.{rowsOk}
+use Rattle.rules.specs.declared.Range.{Range}
 use Rattle.rules.specs.declared.Controller.{Controller}
 use Rattle.rules.specs.declared.Device.{Device}
 use Rattle.rules.specs.declared.Tracking.{Tracking}
 use Rattle.rules.specs.declared.Tracking.the-variants.{Off, On}
+use Rattle.rules.proofs.RefusalLaws.{verdict-refused}
 use Rattle.record.specs.Record.{noController, whereIs, seenIn, soundWith, placeAt}
 use Rattle.settings.specs.Found.{foundAt}
 use Rattle.settings.specs.declared.Found.the-variants as found
 use Rattle.record.specs.declared.Place.the-variants.{At, Refused}
 use Rattle.record.proofs.RecordLaws.{whereIs-at, whereIs-refused}
-use Rattle.calls.specs.Calls.{withMarks, marksAt, noted, writeDone, writeNote}
+use Rattle.calls.specs.Calls.{Note, withMarks, marksAt, noted, noteIn, writeDone, writeNote}
 use Rattle.calls.proofs.PlaceLaws.{held-at, share-within}
-use Rattle.writes.specs.Inner.{Lies, MayNote, noteOn}
+use Rattle.writes.specs.declared.Single.{Single}
+use Rattle.writes.specs.Inner.{Lies, MayNote, noteTests, noteOn, isOne, Fronts, alone}
 
 -- ---- the place, on a record that is known to be sound
 
@@ -82,56 +89,124 @@ module _ (w : Write) (e : w .bytes ≡ 0) where
   newly-none (u ∷ us) [] = refl
   newly-none (u ∷ us) (b ∷ p) = rw (touches-none u) (zero-add (newly w us p) ∙ newly-none us p)
 
+-- ---- the refusals of a note to one controller
+
+module _ (s : Bool) (w : Write) (f : s ≡ false) where
+  pub number-none : w .address + w .bytes ≤ 2 ^ 64 → 0 ≡ refusal (noteTests s w)
+  number-none h = rw (f, le-leb (w .address + w .bytes) (2 ^ 64) h)
+
+  pub number-past : 2 ^ 64 < w .address + w .bytes → 14 ≡ refusal (noteTests s w)
+  number-past h = rw (f, lt-leb (w .address + w .bytes) (2 ^ 64) h)
+
+-- where there is none
+pub note-passes : (s : Bool) (w : Write) → refusal (noteTests s w) ≡ 0 → (s ≡ false) × (w .address + w .bytes ≤ 2 ^ 64)
+note-passes true w e = absurd (omega arith)
+note-passes false w e = (refl, go (leb (w .address + w .bytes) (2 ^ 64)) refl e)
+  where
+    go : (b : Bool) → leb (w .address + w .bytes) (2 ^ 64) ≡ b → _≡_ {A = ℕ} (cond b 0 14) 0 → w .address + w .bytes ≤ 2 ^ 64
+    go true t z = leb-true (w .address + w .bytes) (2 ^ 64) t
+    go false t z = absurd (omega arith)
+
 -- ---- the cases of a note to one controller
 
-module _ (c : Controller) (ws : List ℕ) (base : ℕ) (w : Write) where
-  pub on-suspended : c .suspended ≡ true → noteOn c ws base w ≡ noted 4 0 ws
+module _ (c : Controller) (ws : List ℕ) (base : ℕ) (w : Write) (k : ℕ) (e : k ≡ refusal (noteTests (c .suspended) w)) where
+  pub on-refused : k ≢ 0 → noteOn c ws base w ≡ noted k 0 ws
   unfolding noteOn
-  on-suspended f = rw f
+  on-refused h = verdict-refused (noteTests (c .suspended) w) _ (λ n i. noted n 0 ws) (λ z. h (e ∙ z)) ∙ ap (λ j. noted j 0 ws) (sym e)
 
-  module _ (f : c .suspended ≡ false) where
-    pub on-past : 2 ^ 64 < w .address + w .bytes → noteOn c ws base w ≡ noted 14 0 ws
+  module _ (z : k ≡ 0) where
+    f : c .suspended ≡ false
+    f = note-passes (c .suspended) w (sym e ∙ z) .0
+
+    on-within : w .address + w .bytes ≤ 2 ^ 64
+    on-within = note-passes (c .suspended) w (sym e ∙ z) .1
+
+    pub on-off : c .tracking ≡ Off → noteOn c ws base w ≡ noted 0 0 ws
     unfolding noteOn
-    on-past h = rw (f, lt-leb (w .address + w .bytes) (2 ^ 64) h)
+    on-off t = rw (f, le-leb (w .address + w .bytes) (2 ^ 64) on-within, t)
 
-    module _ (h : w .address + w .bytes ≤ 2 ^ 64) where
-      pub on-off : c .tracking ≡ Off → noteOn c ws base w ≡ noted 0 0 ws
+    module _ (g n : ℕ) (t : c .tracking ≡ On g n) where
+      abbrev us : List Unit
+      us = units g (take n (c .ranges))
+
+      abbrev p : List Bool
+      p = marksAt ws base (length us)
+
+      on-marks : noteOn c ws base w ≡ noted 0 (newly w us p) (withMarks ws base (mark w us p))
       unfolding noteOn
-      on-off t = rw (f, le-leb (w .address + w .bytes) (2 ^ 64) h, t)
+      on-marks = rw (f, le-leb (w .address + w .bytes) (2 ^ 64) on-within, t)
 
-      module _ (g n : ℕ) (t : c .tracking ≡ On g n) where
-        abbrev us : List Unit
-        us = units g (take n (c .ranges))
+      -- what marks the ranges' spans is the note
+      pub on-done : (ws′ : List ℕ) (count : ℕ) → Words ws′ → length ws′ ≡ length ws → count ≡ newly w us p → flat ws′ ≡ putShare (flat ws) base (mark w us p)
+          → noteOn c ws base w ≡ noted 0 count ws′
+      unfolding withMarks
+      on-done ws′ count h k e b = on-marks ∙ ap₂ (noted 0) (sym e) (sym (pack-only (length ws) ws′ (putShare (flat ws) base (mark w us p)) k h b))
 
-        abbrev p : List Bool
-        p = marksAt ws base (length us)
+      on-empty-marks : Lies g n (c .ranges) ws base → Words ws → w .bytes ≡ 0 → noteOn c ws base w ≡ noted 0 0 ws
+      unfolding withMarks
+      on-empty-marks l k z =
+          let m : base + length us ≤ length (flat ws) = omega (arith, flat-length ws, l .within .within) in
+          on-marks
+          ∙ ap₂ (noted 0) (newly-none w z us p)
+          (ap (λ q. pack (length ws) (putShare (flat ws) base q)) (mark-none w z us p (getShare-length (flat ws) base (length us) m))
+          ∙ ap (pack (length ws)) (putShare-getShare (flat ws) base (length us) m)
+          ∙ pack-flat ws k)
 
-        on-marks : noteOn c ws base w ≡ noted 0 (newly w us p) (withMarks ws base (mark w us p))
-        unfolding noteOn
-        on-marks = rw (f, le-leb (w .address + w .bytes) (2 ^ 64) h, t)
+    pub on-empty : MayNote c ws base → Words ws → w .bytes ≡ 0 → noteOn c ws base w ≡ noted 0 0 ws
+    on-empty l k z = go (c .tracking) refl
+      where
+        go : (t : Tracking) → c .tracking ≡ t → noteOn c ws base w ≡ noted 0 0 ws
+        go Off t = on-off t
+        go (On g n) t = on-empty-marks g n t (l g n t) k z
 
-        -- what marks the ranges' spans is the note
-        pub on-done : (ws′ : List ℕ) (count : ℕ) → Words ws′ → length ws′ ≡ length ws → count ≡ newly w us p → flat ws′ ≡ putShare (flat ws) base (mark w us p)
-            → noteOn c ws base w ≡ noted 0 count ws′
-        unfolding withMarks
-        on-done ws′ count h k e b = on-marks ∙ ap₂ (noted 0) (sym e) (sym (pack-only (length ws) ws′ (putShare (flat ws) base (mark w us p)) k h b))
+-- ---- a controller that has one range or is not tracked
 
-        on-empty-marks : Lies g n (c .ranges) ws base → Words ws → w .bytes ≡ 0 → noteOn c ws base w ≡ noted 0 0 ws
-        unfolding withMarks
-        on-empty-marks l k z =
-            let m : base + length us ≤ length (flat ws) = omega (arith, flat-length ws, l .within .within) in
-            on-marks
-            ∙ ap₂ (noted 0) (newly-none w z us p)
-            (ap (λ q. pack (length ws) (putShare (flat ws) base q)) (mark-none w z us p (getShare-length (flat ws) base (length us) m))
-            ∙ ap (pack (length ws)) (putShare-getShare (flat ws) base (length us) m)
-            ∙ pack-flat ws k)
+pub one-on : (t : Tracking) (g n : ℕ) → t ≡ On g n → isOne t ≡ true → n ≡ 1
+one-on t g n e o = eqb-true n 1 (sym (ap isOne e) ∙ o)
 
-      pub on-empty : MayNote c ws base → Words ws → w .bytes ≡ 0 → noteOn c ws base w ≡ noted 0 0 ws
-      on-empty l k z = go (c .tracking) refl
-        where
-          go : (t : Tracking) → c .tracking ≡ t → noteOn c ws base w ≡ noted 0 0 ws
-          go Off t = on-off t
-          go (On g n) t = on-empty-marks g n t (l g n t) k z
+-- a place that is known by a number
+pub single-known : (cs : List Controller) (i k : ℕ) → i ≡ k → (s : Single) → Fronts s (getD cs k noController) → Fronts s (getD cs i noController)
+single-known cs i k e s h = rw e h
+
+-- its front says all that a note asks
+module _ (c : Controller) (s : Single) (f : Fronts s c) (o : isOne (s .tracking) ≡ true) where
+  front : take 1 (s .first ∷ []) ≡ take 1 (c .ranges)
+  front = rw (f .0) (go (c .ranges) (f .1))
+    where
+      go : (rs : List Range) → 1 ≤ length rs → take 1 (getD rs 0 noRange ∷ []) ≡ take 1 rs
+      go [] h = absurd (omega arith)
+      go (r ∷ rs) h = refl
+
+  -- so far as it is asked
+  same : (n : ℕ) → n ≡ 1 → take n (c .ranges) ≡ take n (s .first ∷ [])
+  same n z = rw z (sym front)
+
+  pub one-note : (ws : List ℕ) (base : ℕ) (w : Write) → noteOn c ws base w ≡ noteOn (alone s) ws base w
+  unfolding noteOn
+  one-note ws base w =
+      ap (λ (x : Single). verdict (noteTests (x .suspended) w) (noteIn ws base (x .tracking) (c .ranges) w) (λ n i. noted n 0 ws)) (sym (f .0)) ∙ go (s .tracking) o
+    where
+      markedIn : ℕ → List Range → Note
+      markedIn g rs =
+          noted 0 (newly w (units g rs) (marksAt ws base (length (units g rs)))) (withMarks ws base (mark w (units g rs) (marksAt ws base (length (units g rs)))))
+
+      go : (t : Tracking) → isOne t ≡ true
+          → verdict (noteTests (s .suspended) w) (noteIn ws base t (c .ranges) w) (λ n i. noted n 0 ws)
+          ≡ verdict (noteTests (s .suspended) w) (noteIn ws base t (s .first ∷ []) w) (λ n i. noted n 0 ws)
+      go Off o = refl
+      go (On g n) o =
+          ap (λ (rs : List Range). verdict (noteTests (s .suspended) w) (markedIn g rs) (λ n i. noted n 0 ws)) (same n (eqb-true n 1 o))
+
+  pub one-may : (ws : List ℕ) (base : ℕ) → MayNote c ws base → MayNote (alone s) ws base
+  one-may ws base m g n t =
+      let z : n ≡ 1 = one-on (s .tracking) g n t o in
+      let k = m g n (sym (ap (λ (x : Single). x .tracking) (f .0)) ∙ t) in
+      record {
+        small = k .small;
+        few = k .few;
+        rows = subst (λ (rs : List Range). rowsOk g rs ≡ true) (same n z) (k .rows);
+        within = subst (λ (rs : List Range). Holds ws base (length (units g rs))) (same n z) (k .within);
+      }
 
 -- ---- the controller of a call
 

@@ -4,20 +4,23 @@ use mathlib.Core.Path.{_≡_}
 use mathlib.Core.Bool.{Bool, true, not, _&&_, cond}
 use mathlib.Core.List.{List, [], _∷_}
 use lib.Dec.{leb, ltb, eqb}
-use lib.ListN.{length, take}
+use lib.ListN.{length, take, getD}
 use Rattle.bits.specs.Share.{Holds}
-use Rattle.rules.specs.Refusals.{_else_, verdict, refusal}
+use Rattle.rules.specs.Refusals.{Test, _else_, verdict, refusal}
 use Rattle.rules.specs.Units.{Write, units}
 use Rattle.rules.specs.Ranges.{rowsOk}
 use Rattle.rules.specs.Order.{batchOrder}
 use Rattle.rules.specs.declared.Range.{Range}
-use Rattle.rules.specs.declared.Tracking.the-variants.{On}
+use Rattle.rules.specs.StartData.{noRange}
+use Rattle.rules.specs.declared.Tracking.{Tracking}
+use Rattle.rules.specs.declared.Tracking.the-variants.{Off, On}
 use Rattle.rules.specs.declared.Controller.{Controller}
 use Rattle.rules.specs.declared.Device.{Device}
 use Rattle.record.specs.Record.{soundWith}
 use Rattle.calls.specs.Calls.{Note, noted, noteIn}
 use Rattle.calls.specs.declared.Written.{Written}
 use Rattle.calls.specs.declared.Batched.{Batched}
+use Rattle.writes.specs.declared.Single.{Single}
 
 -- ---- a note to one controller
 
@@ -31,12 +34,34 @@ pub record Lies (g n : ℕ) (rs : List Range) (ws : List ℕ) (base : ℕ) : Typ
 abbrev pub MayNote : Controller → List ℕ → ℕ → Type 0
 MayNote c ws base = (g n : ℕ) → c .tracking ≡ On g n → Lies g n (c .ranges) ws base
 
--- what it answers and leaves: 4, 14, or as the rules mark
+-- its refusals
+abbrev pub noteTests : Bool → Write → List Test
+noteTests suspended w = (not suspended else 4) ∷ (leb (w .address + w .bytes) (2 ^ 64) else 14) ∷ []
+
+-- what it answers and leaves: a refusal's number, or as the rules mark
 unfoldable pub noteOn : Controller → List ℕ → ℕ → Write → Note
 noteOn c ws base w =
-    verdict ((not (c .suspended) else 4) ∷ (leb (w .address + w .bytes) (2 ^ 64) else 14) ∷ [])
+    verdict (noteTests (c .suspended) w)
     (noteIn ws base (c .tracking) (c .ranges) w)
     (λ n i. noted n 0 ws)
+
+-- ---- a controller that has one range or is not tracked
+
+abbrev pub isOne : Tracking → Bool
+isOne Off = true
+isOne (On g n) = eqb n 1
+
+-- what a note asks of it
+abbrev pub singleOf : Controller → Single
+singleOf c = record { suspended = c .suspended; tracking = c .tracking; first = getD (c .ranges) 0 noRange }
+
+-- these are of a controller, which has its ranges
+abbrev pub Fronts : Single → Controller → Type 0
+Fronts s c = (s ≡ singleOf c) × (1 ≤ length (c .ranges))
+
+-- it, as far as that says
+abbrev pub alone : Single → Controller
+alone f = record { tracking = f .tracking; suspended = f .suspended; ranges = f .first ∷ [] }
 
 -- ---- a batch
 

@@ -9,40 +9,57 @@ use rules::Controller;
 use rules::Device;
 use rules::MARK_WORDS;
 use rules::MOST_NOTES;
+use rules::Range;
 use rules::Tracking;
 use settings::Found;
 ghost use mathlib.Core.Path.{_≡_};
 ghost use mathlib.Core.Bool.{true, not};
 ghost use mathlib.Core.List.{[], _∷_};
-ghost use lib.ListN.{length, take};
+ghost use lib.ListN.{length, take, getD};
 ghost use Rattle.rules.specs.Refusals.{_else_, refusal};
-ghost use Rattle.record.specs.Record.{soundWith};
+ghost use Rattle.record.specs.Record.{noController, soundWith};
 ghost use Prim.Native.Nat.{_+_, _<_, _≤_, _^_, min};
 ghost use Rattle.calls.specs.Calls.{writeNote, batchChange};
-ghost use Rattle.writes.specs.Inner.{MayNote, noteOn, beginOf, isDue, tallyOf};
+ghost use Rattle.writes.specs.Inner.{MayNote, noteTests, noteOn, isOne, Fronts, alone, beginOf, isDue, tallyOf};
 
-// Notes a write of one controller, whose marks stand from bit `base` on. Refused, in this order: 4 suspended, 14 a written range that ends past 2^64.
+// What a note asks of a controller that has one range or is not tracked: no more than this is copied for it.
+struct Single {
+    suspended: bool,
+    tracking: Tracking,
+    first: Range,
+}
+
+// The first refusal of a note to a controller, 4 suspended, 14 a written range that ends past 2^64, or 0.
+fn note_number(suspended: bool, at: u64, bytes: Bytes) -> u8
+    ensures { λ r. ⌜ r ≡ refusal (noteTests suspended (record { address = at; bytes = bytes .0 })) ⌝ }
+{
+    if suspended {
+        return 4;
+    }
+    let length = bytes.0;
+    if length == 0 {
+        return 0;
+    }
+    if u64::MAX - at < length - 1 {
+        return 14;
+    }
+    0
+}
+
+// Notes a write of one controller, whose marks stand from bit `base` on. Refused, in this order: 4, 14.
 fn note_on(c: Controller, marks: &mut [u64], base: usize, at: u64, bytes: Bytes) -> Written
     requires { ⌜ MayNote c (now marks) base ⌝ }
     ensures { λ r. ⌜ (r ≡ noteOn c (now (marks .entry)) base (record { address = at; bytes = bytes .0 }) .answer)
         × (now (marks .exit) ≡ noteOn c (now (marks .entry)) base (record { address = at; bytes = bytes .0 }) .marks) ⌝ }
 {
-    if c.suspended {
-        return Written {
-            number: 4,
-            count: 0,
-        };
+    let number = note_number(c.suspended, at, bytes);
+    if number != 0 {
+        return Written { number, count: 0 };
     }
     let length = bytes.0;
     if length == 0 {
         return Written {
             number: 0,
-            count: 0,
-        };
-    }
-    if u64::MAX - at < length - 1 {
-        return Written {
-            number: 14,
             count: 0,
         };
     }
@@ -58,8 +75,80 @@ fn note_on(c: Controller, marks: &mut [u64], base: usize, at: u64, bytes: Bytes)
     Written { number: 0, count }
 }
 
+// The same of one that has one range or is not tracked.
+fn note_one(c: Single, marks: &mut [u64], base: usize, at: u64, bytes: Bytes) -> Written
+    requires { ⌜ (isOne (c .tracking) ≡ true) × MayNote (alone c) (now marks) base ⌝ }
+    ensures { λ r. ⌜ (r ≡ noteOn (alone c) (now (marks .entry)) base (record { address = at; bytes = bytes .0 }) .answer)
+        × (now (marks .exit) ≡ noteOn (alone c) (now (marks .entry)) base (record { address = at; bytes = bytes .0 }) .marks) ⌝ }
+{
+    let number = note_number(c.suspended, at, bytes);
+    if number != 0 {
+        return Written { number, count: 0 };
+    }
+    let length = bytes.0;
+    if length == 0 {
+        return Written {
+            number: 0,
+            count: 0,
+        };
+    }
+    let t = c.tracking;
+    let Tracking::On(g, n) = t else {
+        return Written {
+            number: 0,
+            count: 0,
+        };
+    };
+    let first = c.first;
+    let new = marking::mark_one(marks, base, g, first, at, at + (length - 1));
+    Written {
+        number: 0,
+        count: new,
+    }
+}
+
+// Whether a controller has one range or is not tracked.
+fn is_one(t: Tracking) -> bool
+    ensures { λ r. ⌜ r ≡ isOne t ⌝ }
+{
+    match t {
+        Tracking::Off => true,
+        Tracking::On(_, n) => n == 1,
+    }
+}
+
+// What a note asks of a controller, if it has one range or is not tracked.
+fn single_of(c: Controller) -> Single
+    ensures { λ r. ⌜ Fronts r c ⌝ }
+{
+    let tracking = c.tracking;
+    let first = c.ranges[0];
+    Single {
+        suspended: c.suspended,
+        tracking,
+        first,
+    }
+}
+
+// The same of the controller at a place. A controller is taken from the record by a number that does not vary, as one that does would copy the record.
+fn single_at(d: Device, i: usize) -> Single
+    requires { ⌜ i < 8 ⌝ }
+    ensures { λ r. ⌜ Fronts r (getD (d .controllers) i noController) ⌝ }
+{
+    match i {
+        0 => single_of(d.controllers[0]),
+        1 => single_of(d.controllers[1]),
+        2 => single_of(d.controllers[2]),
+        3 => single_of(d.controllers[3]),
+        4 => single_of(d.controllers[4]),
+        5 => single_of(d.controllers[5]),
+        6 => single_of(d.controllers[6]),
+        _ => single_of(d.controllers[7]),
+    }
+}
+
 // Notes a write on a record that is known to be sound: the touched units of the controller's tracked ranges become pending. Refused, in this order: 2,
-// then as `note_on` says. A controller is taken from the record by a number that does not vary, as one that does would copy the record.
+// then as `note_on` says. The whole controller is copied only where it has several ranges.
 fn note(d: Device, marks: &mut [u64], id: u16, at: u64, bytes: Bytes) -> Written
     requires { ⌜ soundWith d (length (now marks)) ≡ true ⌝ }
     ensures { λ r. ⌜ (r ≡ writeNote d (now (marks .entry)) id (record { address = at; bytes = bytes .0 }) .answer)
@@ -72,6 +161,11 @@ fn note(d: Device, marks: &mut [u64], id: u16, at: u64, bytes: Bytes) -> Written
         };
     };
     let base = calls::share_at(i);
+    let c = single_at(d, i);
+    let t = c.tracking;
+    if is_one(t) {
+        return note_one(c, marks, base, at, bytes);
+    }
     match i {
         0 => note_on(d.controllers[0], marks, base, at, bytes),
         1 => note_on(d.controllers[1], marks, base, at, bytes),

@@ -1,25 +1,33 @@
--- `lines::put_part` is safe, ends, and stays in the line's buffer. The measure is the number of bytes left.
-use Prim.Native.Nat.{_≤_, _-_}
+-- `lines::put_part` is safe, ends, and stays in the line's buffer, because `n` is no more than its room and the part.
+-- The loop's invariant is that. The measure is the number of bytes left.
+use Prim.Native.Nat.{_+_, _-_, _≤_}
 use mathlib.Core.Path.{_≡_}
+use mathlib.Core.Logic.{⊎-elim}
 use borrow.Author.Needs.{needs}
 use lib.ListN.{length}
 use Rattle.lines.proofs.put_part.Statement.{statement}
 use Rattle.lines.proofs.put_part.Tie as tie
 
 abbrev Inv-loop : tie.InvT-loop
-Inv-loop line₀ used part at₀ i₀ line at i = (length line ≡ length line₀) × (at ≤ length line) × (i ≤ length part)
+Inv-loop line₀ used part n i₀ line i = (length line ≡ length line₀) × (used + n ≤ length line₀) × (n ≤ length part)
 
 abbrev μ-loop : tie.MeasureT-loop
-μ-loop line₀ used part at₀ i₀ line at i = length part - i
+μ-loop line₀ used part n i₀ line i = n - i
+
+sub-n : tie.Need-sub-n Inv-loop μ-loop
+sub-n c = search needs
 
 loop-holds : tie.Need-loop-holds Inv-loop μ-loop
-loop-holds c = search needs
+loop-holds c = ⊎-elim (λ few. search needs) (λ many. search needs) (c .if1 .came)
 
-shared-slice-read-keep-byte : tie.Need-shared-slice-read-keep-byte Inv-loop μ-loop
-shared-slice-read-keep-byte c = search needs
+shared-slice-read-line : tie.Need-shared-slice-read-line Inv-loop μ-loop
+shared-slice-read-line c = search needs
 
-keep-byte-requires : tie.Need-keep-byte-requires Inv-loop μ-loop
-keep-byte-requires c κs = search needs
+add-line : tie.Need-add-line Inv-loop μ-loop
+add-line c = search needs
+
+slice-write-line : tie.Need-slice-write-line Inv-loop μ-loop
+slice-write-line c = search needs
 
 add-i : tie.Need-add-i Inv-loop μ-loop
 add-i c = search needs
@@ -29,6 +37,9 @@ loop-less c = search needs
 
 loop-again : tie.Need-loop-again Inv-loop μ-loop
 loop-again c = search needs
+
+add-result : tie.Need-add-result Inv-loop μ-loop
+add-result c = search needs
 
 same-length : tie.Need-same-length Inv-loop μ-loop
 same-length c = search needs
@@ -42,11 +53,14 @@ put-part-spec =
     (tie.spec
     Inv-loop
     μ-loop
+    sub-n
     loop-holds
-    shared-slice-read-keep-byte
-    keep-byte-requires
+    shared-slice-read-line
+    add-line
+    slice-write-line
     add-i
     loop-less
     loop-again
+    add-result
     same-length
     returns)

@@ -13,39 +13,39 @@ sub-n c = omega (arith, dev-least _ _ (c .pre))
 identifiers-of-requires : tie.Need-identifiers-of-requires
 identifiers-of-requires c κs = (omega (arith, dev-most _ _ (c .pre)), dev-identifiers _ _ (c .pre))
 
-array-read-manager : tie.Need-array-read-manager
-array-read-manager c = search needs
+element-copy-out-manager : tie.Need-element-copy-out-manager
+element-copy-out-manager c = search needs
 
 cast-manager : tie.Need-cast-manager
-cast-manager c = omega (arith, small-dev _ _ (c .before .pre) .0)
+cast-manager c = omega (arith, small-dev _ _ (c .before .before .pre) .0)
 
-array-read-least : tie.Need-array-read-least
-array-read-least c = search needs
+element-copy-out-least : tie.Need-element-copy-out-least
+element-copy-out-least c = search needs
 
 cast-least : tie.Need-cast-least
-cast-least c = omega (arith, small-dev _ _ (c .before .pre) .1)
+cast-least c = omega (arith, small-dev _ _ (c .before .before .before .pre) .1)
 
-array-read-greatest : tie.Need-array-read-greatest
-array-read-greatest c = search needs
+element-copy-out-greatest : tie.Need-element-copy-out-greatest
+element-copy-out-greatest c = search needs
 
 cast-greatest : tie.Need-cast-greatest
-cast-greatest c = omega (arith, small-dev _ _ (c .before .pre) .2)
+cast-greatest c = omega (arith, small-dev _ _ (c .before .before .before .before .pre) .2)
 
-array-read-powers : tie.Need-array-read-powers
-array-read-powers c = search needs
+element-copy-out-powers : tie.Need-element-copy-out-powers
+element-copy-out-powers c = search needs
 
-array-read-limit : tie.Need-array-read-limit
-array-read-limit c = search needs
+element-copy-out-limit : tie.Need-element-copy-out-limit
+element-copy-out-limit c = search needs
 
 cast-limit : tie.Need-cast-limit
-cast-limit c = omega (arith, small-dev _ _ (c .before .pre) .3)
+cast-limit c = omega (arith, small-dev _ _ (c .before .before .before .before .before .before .pre) .3)
 
 no-ranges-requires : tie.Need-no-ranges-requires
 no-ranges-requires c κs = search needs
 
 returns : tie.Need-returns
 unfolding callLine
-returns c = rw (c .before .identifiers-of .ensures, c .no-ranges .ensures, put-nil)
+returns c = rw (c .before .before .before .before .before .before .identifiers-of .ensures, c .no-ranges .ensures, put-nil)
 
 pub dev-line-spec : {M : Type 1} → statement M
 dev-line-spec =
@@ -53,14 +53,14 @@ dev-line-spec =
     (tie.spec
     sub-n
     identifiers-of-requires
-    array-read-manager
+    element-copy-out-manager
     cast-manager
-    array-read-least
+    element-copy-out-least
     cast-least
-    array-read-greatest
+    element-copy-out-greatest
     cast-greatest
-    array-read-powers
-    array-read-limit
+    element-copy-out-powers
+    element-copy-out-limit
     cast-limit
     no-ranges-requires
     returns)

@@ -12,11 +12,11 @@ use Rattle.listing.proofs.identifiers_of.Statement.{statement}
 use Rattle.listing.proofs.identifiers_of.Tie as tie
 
 abbrev Inv-loop : tie.InvT-loop
-Inv-loop n values a₀ i₀ a i =
+Inv-loop values n a₀ i₀ a i =
     (length a ≡ 8) × (i ≤ n) × (put a i (recordsAt identifierAt 1 values (5 + 1 * i) (n - i)) ≡ put (replicate 8 0) 0 (recordsAt identifierAt 1 values 5 n))
 
 abbrev μ-loop : tie.MeasureT-loop
-μ-loop n values a₀ i₀ a i = n - i
+μ-loop values n a₀ i₀ a i = n - i
 
 loop-holds : tie.Need-loop-holds Inv-loop μ-loop
 loop-holds c = (search needs, search needs, recordsAt-start _ _ _ _ _ _)
@@ -27,11 +27,11 @@ add-a c = search needs
 mul-a : tie.Need-mul-a Inv-loop μ-loop
 mul-a c = search needs
 
-array-read-a : tie.Need-array-read-a Inv-loop μ-loop
-array-read-a c = search needs
+element-copy-out-a : tie.Need-element-copy-out-a Inv-loop μ-loop
+element-copy-out-a c = search needs
 
 cast-a : tie.Need-cast-a Inv-loop μ-loop
-cast-a c = omega (arith, c .before .before .pre .1 (c .before .loop .i) (omega arith))
+cast-a c = omega (arith, c .before .before .before .pre .1 (c .before .before .loop .i) (omega arith))
 
 mul-a-2 : tie.Need-mul-a-2 Inv-loop μ-loop
 mul-a-2 c = search needs
@@ -47,8 +47,8 @@ loop-less c = search needs
 
 loop-again : tie.Need-loop-again Inv-loop μ-loop
 loop-again c =
-    let e : 5 + 1 * c .before .loop .i ≡ 5 + c .before .loop .i = omega arith in
-    (simp length-set (c .before .loop .inv .0), search needs, recordsAt-again _ _ _ _ _ _ _ _ _ (omega arith) (rw e) (c .before .loop .inv .2))
+    let e : 5 + 1 * c .before .before .loop .i ≡ 5 + c .before .before .loop .i = omega arith in
+    (simp length-set (c .before .before .loop .inv .0), search needs, recordsAt-again _ _ _ _ _ _ _ _ _ (omega arith) (rw e) (c .before .before .loop .inv .2))
 
 returns : tie.Need-returns Inv-loop μ-loop
 returns c = search recordsAt-done
@@ -62,7 +62,7 @@ identifiers-of-spec =
     loop-holds
     add-a
     mul-a
-    array-read-a
+    element-copy-out-a
     cast-a
     mul-a-2
     array-write-a

@@ -21,11 +21,11 @@ start-line-requires c κs = taken-of _ _ _ (c .before .before .pre) _ (c .enum-t
 enum-told-3 : tie.Need-enum-told-3
 enum-told-3 c = search needs
 
-array-read-id : tie.Need-array-read-id
-array-read-id c = search needs
+element-copy-out-id : tie.Need-element-copy-out-id
+element-copy-out-id c = search needs
 
 cast-id : tie.Need-cast-id
-cast-id c = omega (arith, small-stop _ _ _ (c .before .before .pre) (c .enum-told3 .given .1))
+cast-id c = omega (arith, small-stop _ _ _ (c .before .before .before .pre) (c .before .enum-told3 .given .1))
 
 plain-requires : tie.Need-plain-requires
 plain-requires c κs = search needs
@@ -33,17 +33,17 @@ plain-requires c κs = search needs
 enum-told-4 : tie.Need-enum-told-4
 enum-told-4 c = search needs
 
-array-read-id-2 : tie.Need-array-read-id-2
-array-read-id-2 c = search needs
+element-copy-out-id-2 : tie.Need-element-copy-out-id-2
+element-copy-out-id-2 c = search needs
 
 cast-id-2 : tie.Need-cast-id-2
-cast-id-2 c = omega (arith, small-write _ _ _ (c .before .before .pre) (c .enum-told4 .given .1))
+cast-id-2 c = omega (arith, small-write _ _ _ (c .before .before .before .pre) (c .before .enum-told4 .given .1))
 
-array-read-address : tie.Need-array-read-address
-array-read-address c = search needs
+element-copy-out-address : tie.Need-element-copy-out-address
+element-copy-out-address c = search needs
 
-array-read-bytes : tie.Need-array-read-bytes
-array-read-bytes c = search needs
+element-copy-out-bytes : tie.Need-element-copy-out-bytes
+element-copy-out-bytes c = search needs
 
 plain-requires-2 : tie.Need-plain-requires-2
 plain-requires-2 c κs = search needs
@@ -51,14 +51,14 @@ plain-requires-2 c κs = search needs
 enum-told-5 : tie.Need-enum-told-5
 enum-told-5 c = search needs
 
-array-read-id-3 : tie.Need-array-read-id-3
-array-read-id-3 c = search needs
+element-copy-out-id-3 : tie.Need-element-copy-out-id-3
+element-copy-out-id-3 c = search needs
 
 cast-id-3 : tie.Need-cast-id-3
-cast-id-3 c = omega (arith, small-recv _ _ _ (c .before .before .pre) (c .enum-told5 .given .1))
+cast-id-3 c = omega (arith, small-recv _ _ _ (c .before .before .before .pre) (c .before .enum-told5 .given .1))
 
-array-read-size : tie.Need-array-read-size
-array-read-size c = search needs
+element-copy-out-size : tie.Need-element-copy-out-size
+element-copy-out-size c = search needs
 
 plain-requires-3 : tie.Need-plain-requires-3
 plain-requires-3 c κs = search needs
@@ -66,17 +66,17 @@ plain-requires-3 c κs = search needs
 enum-told-6 : tie.Need-enum-told-6
 enum-told-6 c = search needs
 
-array-read-id-4 : tie.Need-array-read-id-4
-array-read-id-4 c = search needs
+element-copy-out-id-4 : tie.Need-element-copy-out-id-4
+element-copy-out-id-4 c = search needs
 
 cast-id-4 : tie.Need-cast-id-4
-cast-id-4 c = omega (arith, small-susp _ _ _ (c .before .before .pre) (c .enum-told6 .given .1))
+cast-id-4 c = omega (arith, small-susp _ _ _ (c .before .before .before .pre) (c .before .enum-told6 .given .1))
 
-array-read-kind : tie.Need-array-read-kind
-array-read-kind c = search needs
+element-copy-out-kind : tie.Need-element-copy-out-kind
+element-copy-out-kind c = search needs
 
 cast-kind : tie.Need-cast-kind
-cast-kind c = omega (arith, small-kind _ _ _ (c .before .before .pre) (c .enum-told6 .given .1))
+cast-kind c = omega (arith, small-kind _ _ _ (c .before .before .before .before .pre) (c .before .before .enum-told6 .given .1))
 
 plain-requires-4 : tie.Need-plain-requires-4
 plain-requires-4 c κs = search needs
@@ -84,11 +84,11 @@ plain-requires-4 c κs = search needs
 enum-told-7 : tie.Need-enum-told-7
 enum-told-7 c = search needs
 
-array-read-id-5 : tie.Need-array-read-id-5
-array-read-id-5 c = search needs
+element-copy-out-id-5 : tie.Need-element-copy-out-id-5
+element-copy-out-id-5 c = search needs
 
 cast-id-5 : tie.Need-cast-id-5
-cast-id-5 c = omega (arith, small-resume _ _ _ (c .before .before .pre) (c .enum-told7 .given .1))
+cast-id-5 c = omega (arith, small-resume _ _ _ (c .before .before .before .pre) (c .before .enum-told7 .given .1))
 
 plain-requires-5 : tie.Need-plain-requires-5
 plain-requires-5 c κs = search needs
@@ -107,23 +107,23 @@ returns-2 c = rw (c .before .enum-told2 .given .1) (c .start-line .ensures)
 
 returns-3 : tie.Need-returns-3
 unfolding callLine
-returns-3 c = rw (c .before .enum-told3 .given .1) (c .plain .ensures)
+returns-3 c = rw (c .before .before .enum-told3 .given .1) (c .plain .ensures)
 
 returns-4 : tie.Need-returns-4
 unfolding callLine
-returns-4 c = rw (c .before .enum-told4 .given .1) (c .plain2 .ensures)
+returns-4 c = rw (c .before .before .before .before .enum-told4 .given .1) (c .plain2 .ensures)
 
 returns-5 : tie.Need-returns-5
 unfolding callLine
-returns-5 c = rw (c .before .enum-told5 .given .1) (c .plain3 .ensures)
+returns-5 c = rw (c .before .before .before .enum-told5 .given .1) (c .plain3 .ensures)
 
 returns-6 : tie.Need-returns-6
 unfolding callLine
-returns-6 c = rw (c .before .enum-told6 .given .1) (c .plain4 .ensures)
+returns-6 c = rw (c .before .before .before .enum-told6 .given .1) (c .plain4 .ensures)
 
 returns-7 : tie.Need-returns-7
 unfolding callLine
-returns-7 c = rw (c .before .enum-told7 .given .1) (c .plain5 .ensures)
+returns-7 c = rw (c .before .before .enum-told7 .given .1) (c .plain5 .ensures)
 
 returns-8 : tie.Need-returns-8
 unfolding callLine
@@ -138,28 +138,28 @@ line-of-spec =
     enum-told-2
     start-line-requires
     enum-told-3
-    array-read-id
+    element-copy-out-id
     cast-id
     plain-requires
     enum-told-4
-    array-read-id-2
+    element-copy-out-id-2
     cast-id-2
-    array-read-address
-    array-read-bytes
+    element-copy-out-address
+    element-copy-out-bytes
     plain-requires-2
     enum-told-5
-    array-read-id-3
+    element-copy-out-id-3
     cast-id-3
-    array-read-size
+    element-copy-out-size
     plain-requires-3
     enum-told-6
-    array-read-id-4
+    element-copy-out-id-4
     cast-id-4
-    array-read-kind
+    element-copy-out-kind
     cast-kind
     plain-requires-4
     enum-told-7
-    array-read-id-5
+    element-copy-out-id-5
     cast-id-5
     plain-requires-5
     enum-told-8

@@ -13,11 +13,11 @@ use Rattle.listing.proofs.ranges_of.Statement.{statement}
 use Rattle.listing.proofs.ranges_of.Tie as tie
 
 abbrev Inv-loop : tie.InvT-loop
-Inv-loop n values a₀ i₀ a i =
+Inv-loop values n a₀ i₀ a i =
     (length a ≡ 16) × (i ≤ n) × (put a i (recordsAt pairAt 2 values (2 + 2 * i) (n - i)) ≡ placed (recordsAt pairAt 2 values 2 n))
 
 abbrev μ-loop : tie.MeasureT-loop
-μ-loop n values a₀ i₀ a i = n - i
+μ-loop values n a₀ i₀ a i = n - i
 
 no-ranges-requires : tie.Need-no-ranges-requires Inv-loop μ-loop
 no-ranges-requires c κs = search needs
@@ -34,8 +34,8 @@ add-at c = search needs
 mul-start : tie.Need-mul-start Inv-loop μ-loop
 mul-start c = search needs
 
-array-read-start : tie.Need-array-read-start Inv-loop μ-loop
-array-read-start c = search needs
+element-copy-out-start : tie.Need-element-copy-out-start Inv-loop μ-loop
+element-copy-out-start c = search needs
 
 add-length : tie.Need-add-length Inv-loop μ-loop
 add-length c = search needs
@@ -43,11 +43,11 @@ add-length c = search needs
 mul-length : tie.Need-mul-length Inv-loop μ-loop
 mul-length c = search needs
 
-array-read-length : tie.Need-array-read-length Inv-loop μ-loop
-array-read-length c = search needs
+element-copy-out-length : tie.Need-element-copy-out-length Inv-loop μ-loop
+element-copy-out-length c = search needs
 
 cast-length : tie.Need-cast-length Inv-loop μ-loop
-cast-length c = omega (arith, c .before .before .before .pre .1 (c .before .loop .i) (omega arith))
+cast-length c = omega (arith, c .before .before .before .before .before .pre .1 (c .before .before .before .loop .i) (omega arith))
 
 mul-a : tie.Need-mul-a Inv-loop μ-loop
 mul-a c = search needs
@@ -62,7 +62,7 @@ loop-less : tie.Need-loop-less Inv-loop μ-loop
 loop-less c = search needs
 
 loop-again : tie.Need-loop-again Inv-loop μ-loop
-loop-again c = (simp length-set (c .before .loop .inv .0), search needs, recordsAt-again _ _ _ _ _ _ _ _ _ (omega arith) refl (c .before .loop .inv .2))
+loop-again c = (simp length-set (c .before .before .before .loop .inv .0), search needs, recordsAt-again _ _ _ _ _ _ _ _ _ (omega arith) refl (c .before .before .before .loop .inv .2))
 
 returns : tie.Need-returns Inv-loop μ-loop
 returns c = search recordsAt-done
@@ -78,10 +78,10 @@ ranges-of-spec =
     mul-at
     add-at
     mul-start
-    array-read-start
+    element-copy-out-start
     add-length
     mul-length
-    array-read-length
+    element-copy-out-length
     cast-length
     mul-a
     array-set-from-a

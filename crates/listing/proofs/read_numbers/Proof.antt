@@ -2,11 +2,11 @@
 -- The loop's invariant: at `at` a field ends, and the numbers of the fields behind it, stored from place `i` on, make the promised ones.
 -- The measure is what is left of the line.
 use Prim.Native.Nat.{_-_, _≤_}
-use mathlib.Core.Path.{_≡_, refl, _∙_}
+use mathlib.Core.Path.{_≡_, refl}
 use mathlib.Core.List.{[]}
 use native.Mathlib.Omega.{arith}
 use borrow.Author.Needs.{needs}
-use lib.ListN.{length, length-set, drop, replicate}
+use lib.ListN.{length, drop}
 use Rattle.fields.specs.Fields.{firstField, laterFields}
 use Rattle.listing.specs.Inner.{gathered}
 use Rattle.listing.proofs.GatherLaws.{field-most, field-next, gathered-over, gathered-many, gathered-none, gathered-again}
@@ -15,20 +15,17 @@ use Rattle.listing.proofs.read_numbers.Tie as tie
 
 abbrev Inv-loop : tie.InvT-loop
 Inv-loop line end word values₀ i₀ at₀ values i at =
-    (i ≤ 34) × (length values ≡ 34) × (at ≤ length line) × (firstField (drop at line) ≡ [])
-    × (gathered word i values (laterFields (drop at line)) ≡ gathered word 0 (replicate 34 0) (laterFields (drop end line)))
+    (i ≤ 34) × (at ≤ length line) × (firstField (drop at line) ≡ [])
+    × (gathered word i values (laterFields (drop at line)) ≡ gathered word 0 (values₀) (laterFields (drop end line)))
 
 abbrev μ-loop : tie.MeasureT-loop
 μ-loop line end word values₀ i₀ at₀ values i at = length line - at
 
 loop-holds : tie.Need-loop-holds Inv-loop μ-loop
-loop-holds c = (search needs, search needs, c .before .pre .0, c .before .pre .1, refl)
-
-no-numbers-requires : tie.Need-no-numbers-requires Inv-loop μ-loop
-no-numbers-requires c κs = search needs
+loop-holds c = (search needs, c .before .pre .0, c .before .pre .1, refl)
 
 returns : tie.Need-returns Inv-loop μ-loop
-returns c = let p = c .before .before .before .loop .inv in c .no-numbers .ensures ∙ gathered-many _ _ _ _ _ _ (p .4) (c .before .before .loop-test .taken) (p .3) (omega arith)
+returns c = let p = c .before .before .loop .inv in gathered-many _ _ _ _ _ _ (p .3) (c .before .loop-test .taken) (p .2) (omega arith)
 
 add-from : tie.Need-add-from Inv-loop μ-loop
 add-from c = search needs
@@ -57,21 +54,17 @@ enum-known-v c = search needs
 enum-told : tie.Need-enum-told Inv-loop μ-loop
 enum-told c = search needs
 
-no-numbers-requires-2 : tie.Need-no-numbers-requires-2 Inv-loop μ-loop
-no-numbers-requires-2 c κs = search needs
-
 returns-2 : tie.Need-returns-2 Inv-loop μ-loop
 returns-2 c =
-    let p = c .before .before .before .before .before .before .before .before .before .loop .inv in
-    c .no-numbers2 .ensures
-    ∙ gathered-none _ _ _ _ _ _ (p .4) (c .before .before .before .before .before .before .before .before .loop-test .taken) (p .3) _ _ _ (c .before .before .before .before .before .before .field-end .ensures) (omega arith) (c .before .before .before .before .greatest .ensures)
-    (c .before .before .before .read-number .ensures) (c .before .enum-told .given .1)
+    let p = c .before .before .before .before .before .before .before .before .loop .inv in
+    gathered-none _ _ _ _ _ _ (p .3) (c .before .before .before .before .before .before .before .loop-test .taken) (p .2) _ _ _ (c .before .before .before .before .before .field-end .ensures) (omega arith) (c .before .before .before .greatest .ensures)
+    (c .before .before .read-number .ensures) (c .enum-told .given .1)
 
 mul-values : tie.Need-mul-values Inv-loop μ-loop
 mul-values c = search needs
 
-array-write-values : tie.Need-array-write-values Inv-loop μ-loop
-array-write-values c = search needs
+element-write-values : tie.Need-element-write-values Inv-loop μ-loop
+element-write-values c = search needs
 
 add-i : tie.Need-add-i Inv-loop μ-loop
 add-i c = search needs
@@ -84,15 +77,14 @@ loop-again c =
     let p = c .before .before .before .before .before .before .before .before .before .loop .inv in
     let e = c .before .before .before .before .before .before .field-end .ensures in (
       search needs,
-      simp length-set (p .1),
       field-most _ _ _ e (omega arith),
       field-next _ _ _ e,
-      gathered-again _ _ _ _ _ _ (p .4) (c .before .before .before .before .before .before .before .before .loop-test .taken) (p .3) _ _ _ e (omega arith) (c .before .before .before .before .greatest .ensures)
+      gathered-again _ _ _ _ _ _ (p .3) (c .before .before .before .before .before .before .before .before .loop-test .taken) (p .2) _ _ _ e (omega arith) (c .before .before .before .before .greatest .ensures)
           (c .before .before .before .read-number .ensures) _ (c .before .v .given .1),
     )
 
 returns-3 : tie.Need-returns-3 Inv-loop μ-loop
-returns-3 c = let over : length (c .before .before .before .args .line .now) ≤ c .before .loop .at = omega arith in gathered-over _ _ _ _ _ _ (c .before .loop .inv .4) over
+returns-3 c = let over : length (c .before .before .before .args .line .now) ≤ c .before .loop .at = omega arith in gathered-over _ _ _ _ _ _ (c .before .loop .inv .3) over
 
 pub read-numbers-spec : {M : Type 1} → statement M
 read-numbers-spec =
@@ -101,7 +93,6 @@ read-numbers-spec =
     Inv-loop
     μ-loop
     loop-holds
-    no-numbers-requires
     returns
     add-from
     field-end-requires
@@ -112,10 +103,9 @@ read-numbers-spec =
     read-number-requires
     enum-known-v
     enum-told
-    no-numbers-requires-2
     returns-2
     mul-values
-    array-write-values
+    element-write-values
     add-i
     loop-less
     loop-again

@@ -12,21 +12,21 @@ sub-n c = omega (arith, start-least _ _ (c .pre))
 ranges-of-requires : tie.Need-ranges-of-requires
 ranges-of-requires c κs = (omega (arith, start-most _ _ (c .pre)), start-lengths _ _ (c .pre))
 
-array-read-id : tie.Need-array-read-id
-array-read-id c = search needs
+element-copy-out-id : tie.Need-element-copy-out-id
+element-copy-out-id c = search needs
 
 cast-id : tie.Need-cast-id
-cast-id c = omega (arith, small-start _ _ (c .before .pre) .0)
+cast-id c = omega (arith, small-start _ _ (c .before .before .pre) .0)
 
-array-read-granularity : tie.Need-array-read-granularity
-array-read-granularity c = search needs
+element-copy-out-granularity : tie.Need-element-copy-out-granularity
+element-copy-out-granularity c = search needs
 
 cast-granularity : tie.Need-cast-granularity
-cast-granularity c = omega (arith, small-start _ _ (c .before .pre) .1)
+cast-granularity c = omega (arith, small-start _ _ (c .before .before .before .pre) .1)
 
 returns : tie.Need-returns
 unfolding callLine
-returns c = rw (c .ranges-of .ensures)
+returns c = rw (c .before .before .ranges-of .ensures)
 
 pub start-line-spec : {M : Type 1} → statement M
 start-line-spec =
@@ -34,8 +34,8 @@ start-line-spec =
     (tie.spec
     sub-n
     ranges-of-requires
-    array-read-id
+    element-copy-out-id
     cast-id
-    array-read-granularity
+    element-copy-out-granularity
     cast-granularity
     returns)

@@ -4,7 +4,6 @@ use native.Mathlib.Omega.{arith}
 use borrow.Author.Needs.{needs}
 use borrow.Author.Tests.{not-true, not-false}
 use Rattle.settings.proofs.SettingsLaws.{granularityOk-greatest}
-use Rattle.ranges.proofs.RangeLaws.{listTests-none}
 use Rattle.record.proofs.RecordLaws.{heldOk-off, heldOk-seven, heldOk-on}
 use Rattle.record.proofs.controller_ok.Statement.{statement}
 use Rattle.record.proofs.controller_ok.Tie as tie
@@ -26,18 +25,17 @@ returns-2 c =
     let t = c .before .before .before .t .given in
     sym (heldOk-seven _ _ _ _ _ (t .1) (sym (c .before .granularity-ok .ensures) ∙ not-true _ (c .if1 .taken)))
 
-list-refusal-requires : tie.Need-list-refusal-requires
-list-refusal-requires c κs =
+list-ok-requires : tie.Need-list-ok-requires
+list-ok-requires c κs =
     omega (arith, granularityOk-greatest _ _ (sym (c .before .before .granularity-ok .ensures) ∙ not-false _ (c .before .if1 .left)))
 
 returns-3 : tie.Need-returns-3
 returns-3 c =
-    let p = c .before .before .before .before in
+    let p = c .before .before .before in
     let t = p .before .before .t .given in
-    listTests-none _ _ _ _ _ (c .before .list-refusal .ensures)
-    ∙ sym (heldOk-on _ _ _ _ _ (t .1) (sym (p .granularity-ok .ensures) ∙ not-false _ (c .before .before .before .if1 .left)))
+    c .list-ok .ensures ∙ sym (heldOk-on _ _ _ _ _ (t .1) (sym (p .granularity-ok .ensures) ∙ not-false _ (c .before .before .if1 .left)))
 
 pub controller-ok-spec : {M : Type 1} → statement M
 controller-ok-spec =
     tie.close
-    (tie.spec enum-known-t enum-told returns granularity-ok-requires returns-2 list-refusal-requires returns-3)
+    (tie.spec enum-known-t enum-told returns granularity-ok-requires returns-2 list-ok-requires returns-3)

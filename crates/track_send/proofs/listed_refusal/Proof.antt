@@ -6,10 +6,11 @@ use borrow.Author.Needs.{needs}
 use borrow.Author.Tests.{not-true, not-false}
 use Rattle.rules.specs.Settings.{granularityOk}
 use denote.Ref.{now}
+use Rattle.record.specs.Record.{countsOf}
 use Rattle.little.specs.Little.{recordsAt}
 use Rattle.rules.specs.StartData.{rangeAt, placed}
 use Rattle.start_data.proofs.Answers.{rangesRead-there}
-use Rattle.record.proofs.RecordLaws.{soundDevice-facts}
+use Rattle.record.proofs.RecordLaws.{soundDevice-facts, soundDevice-counts}
 use Rattle.settings.proofs.SettingsLaws.{granularityOk-greatest}
 use Rattle.track_send.proofs.StartedLaws.{listed-granularity, listed-short, listed-many, listed-rules, listed-limit, listed-passed}
 use Rattle.track_send.proofs.listed_refusal.Statement.{statement}
@@ -23,6 +24,12 @@ allowed c = sym (c .before .granularity-ok .ensures) ∙ not-false _ (c .if1 .le
 read : (c : tie.After-read-ranges)
     → c .read-ranges .result ≡ placed (recordsAt rangeAt 12 (now (c .before .before .before .before .before .before .before .args .«data»)) 8 (c .before .before .before .before .before .before .before .args .n))
 read c = c .read-ranges .ensures ∙ rangesRead-there _ _ (omega arith) (c .before .before .if2 .left)
+
+-- the weights of a sound record are its counts, which are few
+counted : (c : tie.After-weights) → c .weights .result ≡ countsOf (c .before .before .before .before .before .before .before .before .before .before .before .args .d)
+counted c =
+    let p = c .before .before .before .before .before .before .before .before .before .before .before in
+    c .weights .ensures ∙ soundDevice-counts (p .args .d) (p .pre .0)
 
 granularity-ok-requires : tie.Need-granularity-ok-requires
 granularity-ok-requires c κs = search needs
@@ -55,20 +62,23 @@ list-refusal-requires c κs =
 returns-4 : tie.Need-returns-4
 returns-4 c = listed-rules _ _ _ _ _ (c .before .before .before .before .before .before .before .before .before .before .pre .1) (allowed (c .before .before .before .before .before .before)) (c .before .before .before .before .before .if2 .left) (c .before .before .before .before .if3 .left) _ (c .before .before .list-refusal .ensures ∙ rw (read (c .before .before .before))) (c .if4 .taken)
 
-counts-requires : tie.Need-counts-requires
-counts-requires c κs = soundDevice-facts _ (c .before .before .before .before .before .before .before .before .before .before .pre .0) .count
+weights-requires : tie.Need-weights-requires
+weights-requires c κs = soundDevice-facts _ (c .before .before .before .before .before .before .before .before .before .before .pre .0) .settings
 
 add-if5 : tie.Need-add-if5
-add-if5 c = search needs
+add-if5 c =
+    let p = c .before .before .before .before .before .before .before .before .before .before .before in
+    let f = soundDevice-facts (p .args .d) (p .pre .0) in
+    omega (arith, counted c, f .counts, f .limit)
 
 cast-if5 : tie.Need-cast-if5
 cast-if5 c = search needs
 
 returns-5 : tie.Need-returns-5
-returns-5 c = sym (listed-limit _ _ _ _ _ (c .before .before .before .before .before .before .before .before .before .before .before .before .before .pre .1) (allowed (c .before .before .before .before .before .before .before .before .before)) (c .before .before .before .before .before .before .before .before .if2 .left) (c .before .before .before .before .before .before .before .if3 .left) _ (c .before .before .before .before .before .list-refusal .ensures ∙ rw (read (c .before .before .before .before .before .before))) (c .before .before .before .if4 .left) (rw (c .before .before .counts .ensures .0) at (c .if5 .taken)))
+returns-5 c = sym (listed-limit _ _ _ _ _ (c .before .before .before .before .before .before .before .before .before .before .before .before .before .pre .1) (allowed (c .before .before .before .before .before .before .before .before .before)) (c .before .before .before .before .before .before .before .before .if2 .left) (c .before .before .before .before .before .before .before .if3 .left) _ (c .before .before .before .before .before .list-refusal .ensures ∙ rw (read (c .before .before .before .before .before .before))) (c .before .before .before .if4 .left) (rw (counted (c .before .before)) at (c .if5 .taken)))
 
 returns-6 : tie.Need-returns-6
-returns-6 c = sym (listed-passed _ _ _ _ _ (c .before .before .before .before .before .before .before .before .before .before .before .before .before .pre .1) (allowed (c .before .before .before .before .before .before .before .before .before)) (c .before .before .before .before .before .before .before .before .if2 .left) (c .before .before .before .before .before .before .before .if3 .left) _ (c .before .before .before .before .before .list-refusal .ensures ∙ rw (read (c .before .before .before .before .before .before))) (c .before .before .before .if4 .left) (rw (c .before .before .counts .ensures .0) at (c .if5 .left)))
+returns-6 c = sym (listed-passed _ _ _ _ _ (c .before .before .before .before .before .before .before .before .before .before .before .before .before .pre .1) (allowed (c .before .before .before .before .before .before .before .before .before)) (c .before .before .before .before .before .before .before .before .if2 .left) (c .before .before .before .before .before .before .before .if3 .left) _ (c .before .before .before .before .before .list-refusal .ensures ∙ rw (read (c .before .before .before .before .before .before))) (c .before .before .before .if4 .left) (rw (counted (c .before .before)) at (c .if5 .left)))
 
 pub listed-refusal-spec : {M : Type 1} → statement M
 listed-refusal-spec =
@@ -84,7 +94,7 @@ listed-refusal-spec =
     cast-list-refusal
     list-refusal-requires
     returns-4
-    counts-requires
+    weights-requires
     add-if5
     cast-if5
     returns-5

@@ -1,5 +1,5 @@
 -- `writes::note` is right: it refuses an identifier that is not in the settings, and else is the note of the controller at its place. Assumes nothing.
-use mathlib.Core.Path.{_≡_, sym, _∙_}
+use mathlib.Core.Path.{_≡_, refl, sym, _∙_}
 use Prim.Native.Nat.{_<_}
 use denote.Ref.{now}
 use lib.ListN.{length}
@@ -9,7 +9,7 @@ use Rattle.record.specs.declared.Place.the-variants.{At}
 use Rattle.record.proofs.RecordLaws.{whereIs-at}
 use Rattle.rules.proofs.LoopLaws.{length-mapped}
 use Rattle.calls.proofs.Answers.{leaves-unchanged, leaves-as}
-use Rattle.writes.proofs.WriteLaws.{sound-found, sound-nothing, write-refused, write-on, may-note, last-place}
+use Rattle.writes.proofs.WriteLaws.{sound-found, sound-nothing, write-refused, write-on, may-note, last-place, one-note, one-may}
 use Rattle.writes.proofs.note.Statement.{statement}
 use Rattle.writes.proofs.note.Tie as tie
 
@@ -27,10 +27,10 @@ eight : (c : tie.After-known-told) → length (c .before .before .before .before
 eight c = search (length-mapped, needs)
 
 -- the place that the last arm is left with
-last : (c : tie.At-match2-rest) → c .before .before .before .i .given .0 .0 ≡ 7
+last : (c : tie.At-match2-rest) → c .before .before .before .before .before .before .i .given .0 .0 ≡ 7
 last c =
     let r = c .match2 .rest in
-    last-place _ (below (c .before .before)) (r .0 .0 .0 .0 .0 .0 .1) (r .0 .0 .0 .0 .0 .1) (r .0 .0 .0 .0 .1) (r .0 .0 .0 .1) (r .0 .0 .1) (r .0 .1) (r .1)
+    last-place _ (below (c .before .before .before .before .before)) (r .0 .0 .0 .0 .0 .0 .1) (r .0 .0 .0 .0 .0 .1) (r .0 .0 .0 .0 .1) (r .0 .0 .0 .1) (r .0 .0 .1) (r .0 .1) (r .1)
 
 find-requires : tie.Need-find-requires
 find-requires c κs = search needs
@@ -47,14 +47,39 @@ returns c = leaves-unchanged _ _ _ (write-refused _ _ _ _ _ (sound-nothing _ _ _
 share-at-requires : tie.Need-share-at-requires
 share-at-requires c κs = below c
 
+single-at-requires : tie.Need-single-at-requires
+single-at-requires c κs = below (c .before)
+
+is-one-requires : tie.Need-is-one-requires
+is-one-requires c κs = search needs
+
+-- ---- one range, or none that is tracked
+
+note-one-requires : tie.Need-note-one-requires
+note-one-requires c κs =
+    let k = c .before .before .before .before .before in
+    let o = sym (c .before .before .is-one .ensures) ∙ c .before .if1 .taken in
+    (o, one-may _ _ (c .before .before .before .single-at .ensures) o _ _ (may-note _ _ _ _ (found k) _ refl (eight k) _ (c .before .before .before .before .share-at .ensures)))
+
+same-length : tie.Need-same-length
+same-length c = search needs
+
+returns-2 : tie.Need-returns-2
+returns-2 c =
+    let k = c .before .before .before .before .before .before .before .before in
+    let o = sym (c .before .before .before .before .before .is-one .ensures) ∙ c .before .before .before .before .if1 .taken in
+    leaves-as _ _ _ _ (write-on _ _ _ _ (found k) _ refl _ (c .before .before .before .before .before .before .before .share-at .ensures) _ ∙ one-note _ _ (c .before .before .before .before .before .before .single-at .ensures) o _ _ _) (c .before .before .note-one .ensures)
+
+-- ---- several ranges
+
 -- place 0
 element-copy-out-note-on : tie.Need-element-copy-out-note-on
 element-copy-out-note-on c = search (length-mapped, needs)
 
 note-on-requires : tie.Need-note-on-requires
 note-on-requires c κs =
-    let k = c .before .before .before .before in
-    may-note _ _ _ _ (found k) 0 (c .before .before .match2 .keys1) (eight k) _ (c .before .before .before .share-at .ensures)
+    let k = c .before .before .before .before .before .before .before in
+    may-note _ _ _ _ (found k) 0 (c .before .before .match2 .keys1) (eight k) _ (c .before .before .before .before .before .before .share-at .ensures)
 
 -- place 1
 element-copy-out-note-on-2 : tie.Need-element-copy-out-note-on-2
@@ -62,8 +87,8 @@ element-copy-out-note-on-2 c = search (length-mapped, needs)
 
 note-on-requires-2 : tie.Need-note-on-requires-2
 note-on-requires-2 c κs =
-    let k = c .before .before .before .before in
-    may-note _ _ _ _ (found k) 1 (c .before .before .match2 .keys2) (eight k) _ (c .before .before .before .share-at .ensures)
+    let k = c .before .before .before .before .before .before .before in
+    may-note _ _ _ _ (found k) 1 (c .before .before .match2 .keys2) (eight k) _ (c .before .before .before .before .before .before .share-at .ensures)
 
 -- place 2
 element-copy-out-note-on-3 : tie.Need-element-copy-out-note-on-3
@@ -71,8 +96,8 @@ element-copy-out-note-on-3 c = search (length-mapped, needs)
 
 note-on-requires-3 : tie.Need-note-on-requires-3
 note-on-requires-3 c κs =
-    let k = c .before .before .before .before in
-    may-note _ _ _ _ (found k) 2 (c .before .before .match2 .keys3) (eight k) _ (c .before .before .before .share-at .ensures)
+    let k = c .before .before .before .before .before .before .before in
+    may-note _ _ _ _ (found k) 2 (c .before .before .match2 .keys3) (eight k) _ (c .before .before .before .before .before .before .share-at .ensures)
 
 -- place 3
 element-copy-out-note-on-4 : tie.Need-element-copy-out-note-on-4
@@ -80,8 +105,8 @@ element-copy-out-note-on-4 c = search (length-mapped, needs)
 
 note-on-requires-4 : tie.Need-note-on-requires-4
 note-on-requires-4 c κs =
-    let k = c .before .before .before .before in
-    may-note _ _ _ _ (found k) 3 (c .before .before .match2 .keys4) (eight k) _ (c .before .before .before .share-at .ensures)
+    let k = c .before .before .before .before .before .before .before in
+    may-note _ _ _ _ (found k) 3 (c .before .before .match2 .keys4) (eight k) _ (c .before .before .before .before .before .before .share-at .ensures)
 
 -- place 4
 element-copy-out-note-on-5 : tie.Need-element-copy-out-note-on-5
@@ -89,8 +114,8 @@ element-copy-out-note-on-5 c = search (length-mapped, needs)
 
 note-on-requires-5 : tie.Need-note-on-requires-5
 note-on-requires-5 c κs =
-    let k = c .before .before .before .before in
-    may-note _ _ _ _ (found k) 4 (c .before .before .match2 .keys5) (eight k) _ (c .before .before .before .share-at .ensures)
+    let k = c .before .before .before .before .before .before .before in
+    may-note _ _ _ _ (found k) 4 (c .before .before .match2 .keys5) (eight k) _ (c .before .before .before .before .before .before .share-at .ensures)
 
 -- place 5
 element-copy-out-note-on-6 : tie.Need-element-copy-out-note-on-6
@@ -98,8 +123,8 @@ element-copy-out-note-on-6 c = search (length-mapped, needs)
 
 note-on-requires-6 : tie.Need-note-on-requires-6
 note-on-requires-6 c κs =
-    let k = c .before .before .before .before in
-    may-note _ _ _ _ (found k) 5 (c .before .before .match2 .keys6) (eight k) _ (c .before .before .before .share-at .ensures)
+    let k = c .before .before .before .before .before .before .before in
+    may-note _ _ _ _ (found k) 5 (c .before .before .match2 .keys6) (eight k) _ (c .before .before .before .before .before .before .share-at .ensures)
 
 -- place 6
 element-copy-out-note-on-7 : tie.Need-element-copy-out-note-on-7
@@ -107,8 +132,8 @@ element-copy-out-note-on-7 c = search (length-mapped, needs)
 
 note-on-requires-7 : tie.Need-note-on-requires-7
 note-on-requires-7 c κs =
-    let k = c .before .before .before .before in
-    may-note _ _ _ _ (found k) 6 (c .before .before .match2 .keys7) (eight k) _ (c .before .before .before .share-at .ensures)
+    let k = c .before .before .before .before .before .before .before in
+    may-note _ _ _ _ (found k) 6 (c .before .before .match2 .keys7) (eight k) _ (c .before .before .before .before .before .before .share-at .ensures)
 
 -- place 7
 element-copy-out-note-on-8 : tie.Need-element-copy-out-note-on-8
@@ -116,72 +141,72 @@ element-copy-out-note-on-8 c = search (length-mapped, needs)
 
 note-on-requires-8 : tie.Need-note-on-requires-8
 note-on-requires-8 c κs =
-    let k = c .before .before .before .before in
-    may-note _ _ _ _ (found k) 7 (last (c .before .before)) (eight k) _ (c .before .before .before .share-at .ensures)
-
-same-length : tie.Need-same-length
-same-length c = search needs
-
-returns-2 : tie.Need-returns-2
-returns-2 c =
     let k = c .before .before .before .before .before .before .before in
-    leaves-as _ _ _ _ (write-on _ _ _ _ (found k) 0 (c .before .before .before .before .before .match2 .keys1) _ (c .before .before .before .before .before .before .share-at .ensures) _) (c .before .before .note-on .ensures)
+    may-note _ _ _ _ (found k) 7 (last (c .before .before)) (eight k) _ (c .before .before .before .before .before .before .share-at .ensures)
 
 same-length-2 : tie.Need-same-length-2
 same-length-2 c = search needs
 
 returns-3 : tie.Need-returns-3
 returns-3 c =
-    let k = c .before .before .before .before .before .before .before in
-    leaves-as _ _ _ _ (write-on _ _ _ _ (found k) 1 (c .before .before .before .before .before .match2 .keys2) _ (c .before .before .before .before .before .before .share-at .ensures) _) (c .before .before .note-on2 .ensures)
+    let k = c .before .before .before .before .before .before .before .before .before .before in
+    leaves-as _ _ _ _ (write-on _ _ _ _ (found k) 0 (c .before .before .before .before .before .match2 .keys1) _ (c .before .before .before .before .before .before .before .before .before .share-at .ensures) _) (c .before .before .note-on .ensures)
 
 same-length-3 : tie.Need-same-length-3
 same-length-3 c = search needs
 
 returns-4 : tie.Need-returns-4
 returns-4 c =
-    let k = c .before .before .before .before .before .before .before in
-    leaves-as _ _ _ _ (write-on _ _ _ _ (found k) 2 (c .before .before .before .before .before .match2 .keys3) _ (c .before .before .before .before .before .before .share-at .ensures) _) (c .before .before .note-on3 .ensures)
+    let k = c .before .before .before .before .before .before .before .before .before .before in
+    leaves-as _ _ _ _ (write-on _ _ _ _ (found k) 1 (c .before .before .before .before .before .match2 .keys2) _ (c .before .before .before .before .before .before .before .before .before .share-at .ensures) _) (c .before .before .note-on2 .ensures)
 
 same-length-4 : tie.Need-same-length-4
 same-length-4 c = search needs
 
 returns-5 : tie.Need-returns-5
 returns-5 c =
-    let k = c .before .before .before .before .before .before .before in
-    leaves-as _ _ _ _ (write-on _ _ _ _ (found k) 3 (c .before .before .before .before .before .match2 .keys4) _ (c .before .before .before .before .before .before .share-at .ensures) _) (c .before .before .note-on4 .ensures)
+    let k = c .before .before .before .before .before .before .before .before .before .before in
+    leaves-as _ _ _ _ (write-on _ _ _ _ (found k) 2 (c .before .before .before .before .before .match2 .keys3) _ (c .before .before .before .before .before .before .before .before .before .share-at .ensures) _) (c .before .before .note-on3 .ensures)
 
 same-length-5 : tie.Need-same-length-5
 same-length-5 c = search needs
 
 returns-6 : tie.Need-returns-6
 returns-6 c =
-    let k = c .before .before .before .before .before .before .before in
-    leaves-as _ _ _ _ (write-on _ _ _ _ (found k) 4 (c .before .before .before .before .before .match2 .keys5) _ (c .before .before .before .before .before .before .share-at .ensures) _) (c .before .before .note-on5 .ensures)
+    let k = c .before .before .before .before .before .before .before .before .before .before in
+    leaves-as _ _ _ _ (write-on _ _ _ _ (found k) 3 (c .before .before .before .before .before .match2 .keys4) _ (c .before .before .before .before .before .before .before .before .before .share-at .ensures) _) (c .before .before .note-on4 .ensures)
 
 same-length-6 : tie.Need-same-length-6
 same-length-6 c = search needs
 
 returns-7 : tie.Need-returns-7
 returns-7 c =
-    let k = c .before .before .before .before .before .before .before in
-    leaves-as _ _ _ _ (write-on _ _ _ _ (found k) 5 (c .before .before .before .before .before .match2 .keys6) _ (c .before .before .before .before .before .before .share-at .ensures) _) (c .before .before .note-on6 .ensures)
+    let k = c .before .before .before .before .before .before .before .before .before .before in
+    leaves-as _ _ _ _ (write-on _ _ _ _ (found k) 4 (c .before .before .before .before .before .match2 .keys5) _ (c .before .before .before .before .before .before .before .before .before .share-at .ensures) _) (c .before .before .note-on5 .ensures)
 
 same-length-7 : tie.Need-same-length-7
 same-length-7 c = search needs
 
 returns-8 : tie.Need-returns-8
 returns-8 c =
-    let k = c .before .before .before .before .before .before .before in
-    leaves-as _ _ _ _ (write-on _ _ _ _ (found k) 6 (c .before .before .before .before .before .match2 .keys7) _ (c .before .before .before .before .before .before .share-at .ensures) _) (c .before .before .note-on7 .ensures)
+    let k = c .before .before .before .before .before .before .before .before .before .before in
+    leaves-as _ _ _ _ (write-on _ _ _ _ (found k) 5 (c .before .before .before .before .before .match2 .keys6) _ (c .before .before .before .before .before .before .before .before .before .share-at .ensures) _) (c .before .before .note-on6 .ensures)
 
 same-length-8 : tie.Need-same-length-8
 same-length-8 c = search needs
 
 returns-9 : tie.Need-returns-9
 returns-9 c =
-    let k = c .before .before .before .before .before .before .before in
-    leaves-as _ _ _ _ (write-on _ _ _ _ (found k) 7 (last (c .before .before .before .before .before)) _ (c .before .before .before .before .before .before .share-at .ensures) _) (c .before .before .note-on8 .ensures)
+    let k = c .before .before .before .before .before .before .before .before .before .before in
+    leaves-as _ _ _ _ (write-on _ _ _ _ (found k) 6 (c .before .before .before .before .before .match2 .keys7) _ (c .before .before .before .before .before .before .before .before .before .share-at .ensures) _) (c .before .before .note-on7 .ensures)
+
+same-length-9 : tie.Need-same-length-9
+same-length-9 c = search needs
+
+returns-10 : tie.Need-returns-10
+returns-10 c =
+    let k = c .before .before .before .before .before .before .before .before .before .before in
+    leaves-as _ _ _ _ (write-on _ _ _ _ (found k) 7 (last (c .before .before .before .before .before)) _ (c .before .before .before .before .before .before .before .before .before .share-at .ensures) _) (c .before .before .note-on8 .ensures)
 
 pub note-spec : {M : Type 1} → statement M
 note-spec =
@@ -192,6 +217,11 @@ note-spec =
     enum-told
     returns
     share-at-requires
+    single-at-requires
+    is-one-requires
+    note-one-requires
+    same-length
+    returns-2
     element-copy-out-note-on
     note-on-requires
     element-copy-out-note-on-2
@@ -208,8 +238,6 @@ note-spec =
     note-on-requires-7
     element-copy-out-note-on-8
     note-on-requires-8
-    same-length
-    returns-2
     same-length-2
     returns-3
     same-length-3
@@ -223,4 +251,6 @@ note-spec =
     same-length-7
     returns-8
     same-length-8
-    returns-9)
+    returns-9
+    same-length-9
+    returns-10)
