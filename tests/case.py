@@ -28,8 +28,12 @@ def said(*texts):
     return [text.encode("latin-1") for text in texts]
 
 
+REPEATED = re.compile(r"\{([^{}*]+)\*([0-9]+)\}")
+
+
 def read_cases(path):
-    """The cases of a file: [NAME], then `LINE -> ANSWER`; a line with nothing before `->` is a further answer line."""
+    """The cases of a file: [NAME], then `LINE -> ANSWER`; a line with nothing before `->` is a further answer line.
+    `{00*48}` stands for 48 times what is before the star."""
     cases = []
     for number, row in enumerate(path.read_text(encoding="utf-8").splitlines(), 1):
         if not row.strip() or row.startswith("#"):
@@ -37,7 +41,7 @@ def read_cases(path):
         if row.startswith("[") and row.endswith("]"):
             cases.append(Case(f"{path.name}: {row[1:-1]}", [], []))
             continue
-        line, arrow, answer = row.rpartition("->")
+        line, arrow, answer = REPEATED.sub(lambda found: found[1] * int(found[2]), row).rpartition("->")
         if not arrow:
             raise SystemExit(f"{path}:{number}: neither a name, a comment nor LINE -> ANSWER")
         if line.strip():
@@ -65,12 +69,16 @@ def read_example(listing):
 
 
 REPORT = re.compile(rb"0 susp [01] more [01] gran [0-9]+ runs ([0-9]+)")
+YIELD = re.compile(rb"0 whole [1-9][0-9]*")
 
 
 def answer_length(first_line):
-    """How many lines the answer has that begins with this one: a report adds a line a descriptor."""
+    """How many lines the answer has that begins with this one: a report adds a line a descriptor, and a part that yields
+    a state adds one with its bytes."""
     report = REPORT.fullmatch(first_line)
-    return 1 + int(report.group(1)) if report else 1
+    if report:
+        return 1 + int(report.group(1))
+    return 2 if YIELD.fullmatch(first_line) else 1
 
 
 def answers_by_line(count, answers):

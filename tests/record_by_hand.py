@@ -1,11 +1,14 @@
 """Cases of tests/records by hand, with the answers that documents 01 and 02 ask for."""
 
 import copy
+import itertools
 
-from record_case import ALL_ONES, MEMORY, MOST_ROWS, Case, Controller, Record, batch, structure
+from parts import FIRST, LAST, MIDDLE, ONLY, WORD, header, state
+from record_case import ALL_ONES, MEMORY, MOST_ROWS, Case, Controller, Record, batch, part, structure
 
 MIXED = 0x8E5A0F3C7001C0D1  # a mark word with set and clear bits in every byte
 WRONG_WORDS = (0, 1, 64, 511, 513, 600)  # "marks are not 512 words"
+WRONG_AREAS = (0, 1, 48, 4095, 4097, 4200)  # "in one lent area of that size (else 1)", of 4,096 bytes
 
 
 # ---- Records
@@ -116,6 +119,12 @@ def suspended(record, *flags):
 
 
 @change
+def opened(record, owner, end):
+    """A sequence is open (document 02, W6)."""
+    record.sequence = (owner, end)
+
+
+@change
 def full(record, limit):
     """8 controllers of 16 ranges, 4,096 units each: 128 ranges in all. Controller 7 stays suspended."""
     identifiers(*EIGHT)(record)
@@ -148,6 +157,7 @@ BASE_CALLS = {
     "suspend": dict(id=5, type=1),
     "resume": dict(id=7),
     "batch": batch((5, 69632, 1), (5, 65536, 1)),
+    "part": part(FIRST, 0, b"\1\2\3\4"),
 }
 
 SOUND, UNSOUND, BROKEN = (0, 0), (0, 1), (16, 1)
@@ -155,14 +165,15 @@ SOUND, UNSOUND, BROKEN = (0, 0), (0, 1), (16, 1)
 # Name, change to the base, what fresh and the other calls answer, and those of them that answer otherwise. By hand,
 # from document 01: "A record is sound exactly if its settings would pass 16, each tracked controller's granularity and
 # ranges would pass 7, 9, 10 and 11, and the counts together are within the limit." And from document 02, W2: "Overlap is
-# now allowed", and 11 "counts different units"; W3: 9 is 18 to 21. Of an unsound record no row is told.
+# now allowed", and 11 "counts different units"; W3: 9 is 18 to 21. Of an unsound record no row is told. W6: "An open one is
+# unsound if its owner isn't suspended or its end isn't whole dwords, 4 to 4,096 bytes."
 RECORDS = [
     ("base", both(), SOUND),
     ("closed device", closed(), BROKEN),
     # "1 to 8 controller identifiers"; the greater ones would pass if cut to 8, 16 or 32 bits.
     ("no identifier", settings(count=0), BROKEN),
-    ("one identifier", settings(count=1), SOUND, {"start": 2, "resume": 2}),
-    ("two identifiers", settings(count=2), SOUND, {"resume": 2}),
+    ("one identifier", settings(count=1), SOUND, {"start": 2, "resume": 2, "part": 2}),
+    ("two identifiers", settings(count=2), SOUND, {"resume": 2, "part": 2}),
     ("8 identifiers", identifiers(*EIGHT), SOUND),
     ("count 9", identifiers(*EIGHT, count=9), BROKEN),
     ("count 16", identifiers(*EIGHT, count=16), BROKEN),
@@ -347,10 +358,35 @@ RECORDS = [
     ("2^32 - 1 units sixteen times at granularity 20", tracked(20, *[(2**32, 2**32 - 1)] * 16, greatest=20, limit=128), UNSOUND),
     ("4,096 units each", both(tracked(0, (0, 4096)), tracked(8, (0, 4096), place=2)), SOUND),
     ("4,097 units past the count", in_place(0, 2, 2**30, 4097), SOUND),
-    # "Separately it is running or suspended", which soundness doesn't ask for
+    # "Separately it is running or suspended", which soundness asks of an open sequence's owner alone
     ("all suspended", suspended(1, 1, 1), SOUND, {"start": 4, "stop": 4, "write": 4}),
-    ("none suspended", suspended(0, 0, 0), SOUND, {"resume": 13}),
+    ("none suspended", suspended(0, 0, 0), SOUND, {"resume": 13, "part": 13}),
     ("unused suspended", suspended(0, 0, 1, 1, 1, 1, 1, 1), SOUND),
+    # the open sequence (W6): 7 is suspended, 5 and 6 run, and 1 is the manager; 9 and 65535 are suspended in unused places
+    # that are full of rubbish
+    *[(f"7's sequence open, end {end}", opened(7, end), SOUND) for end in (4, 8, 16, 44, 48, 52, 2048, 4092, 4096)],
+    *[(f"7's sequence open, end {end}", opened(7, end), UNSOUND)
+      for end in (0, 1, 2, 3, 5, 6, 7, 47, 4093, 4094, 4095, 4097, 4098, 4100, 8192, 32768, 65532, 65535)],
+    *[(f"a sequence open, owner {owner}", opened(owner, 16), UNSOUND) for owner in (0, 1, 5, 6, 8, 9, 5 + 256, 7 + 256, 65535)],
+    *[(f"a sequence open, owner {owner}, end {end}", opened(owner, end), UNSOUND) for owner in (5, 9) for end in (0, 6, 4100)],
+    ("5's sequence open, 5 and 7 suspended", both(suspended(1, 0, 1), opened(5, 16)), SOUND, {"stop": 4, "write": 4, "part": 23}),
+    ("6's sequence open, 6 suspended", both(suspended(0, 1, 0), opened(6, 4)), SOUND, {"start": 4, "resume": 13, "part": 13}),
+    ("5's sequence open, all others suspended", both(suspended(0, 1, 1), opened(5, 16)), UNSOUND),
+    ("7's sequence open, none suspended", both(suspended(0, 0, 0), opened(7, 16)), UNSOUND),
+    ("7's sequence open, 7 not in the settings", both(settings(count=2), opened(7, 16)), UNSOUND),
+    ("8's sequence open", both(identifiers(5, 6, 7, 8), suspended(0, 0, 1, 1), opened(8, 16)), SOUND, {"part": 23}),
+    ("8's sequence open, unused",
+     both(identifiers(5, 6, 7, 8), suspended(0, 0, 1, 1), opened(8, 16), settings(count=3)), UNSOUND),
+    ("the last one's sequence open",
+     both(identifiers(*EIGHT), suspended(0, 0, 1, 0, 0, 0, 0, 1), opened(4, 4096)), SOUND, {"part": 23}),
+    ("the last one's sequence open, unused",
+     both(identifiers(*EIGHT), suspended(0, 0, 1, 0, 0, 0, 0, 1), opened(4, 4096), settings(count=7)), UNSOUND),
+    ("0's sequence open", both(identifiers(*EIGHT), suspended(0, 0, 1, 1), opened(0, 16)), SOUND, {"part": 23}),
+    ("0's sequence open, 0 running", both(identifiers(*EIGHT), opened(0, 16)), UNSOUND),
+    ("closed device, a sequence open", both(closed(), opened(0, 4)), BROKEN),
+    ("7's sequence open, limit 129", both(settings(limit=129), opened(7, 16)), BROKEN),
+    ("7's sequence open, first length 0", both(tracked(0, (65536, 0)), opened(7, 16)), UNSOUND),
+    ("7's sequence open, limit 2", both(settings(limit=2), opened(7, 16)), UNSOUND),
 ]
 
 # Start structures for controller 6 of the base, and what they are answered with, by document 02, W3: "which rule and row,
@@ -440,7 +476,7 @@ EVERY_MARK = {word: ALL_ONES for word in range(64)}  # of controller 5
 
 def noted(done, new, cut=0):
     """The numbers of a done batch."""
-    return [0, 0, new, 0, 0, 0, 0, done, cut]
+    return [0, 0, new, 0, 0, 0, 0, done, cut, 0]
 
 
 # What a batch answers: "the single notes in list order up to the first refused one and answers the number done, the total
@@ -481,9 +517,163 @@ BATCHES = [
     ("batch", dict(id=7, **batch()), noted(0, 0)),
 ]
 
+def opens(end, owner=7):
+    """A done part that goes on: its numbers, and the sequence that it leaves."""
+    return [0] * 10, {}, (), (owner, end)
+
+
+def yields(whole):
+    """A done part that ends its sequence: the assembled bytes are counted, and nothing is open."""
+    return [0] * 9 + [whole], {}, (), None
+
+
+# What a part of controller 7 answers where nothing is open (document 02, W6). Here too the whole answer is known: of the
+# area only the part's own bytes change, whatever the area held.
+SIXTY = state(1, 2)
+FULL = header(1012, 0)  # as many dwords as 4,096 bytes can hold
+PARTS = [
+    # The finished whole: at least a header, and as long as its sizes say, in dwords.
+    ("part", part(ONLY, 0, bytes(48)), *yields(48)),
+    *[("part", part(ONLY, 0, bytes(length)), [27]) for length in (4, 44, 52, 64, 1024, 4096)],
+    ("part", part(ONLY, 0, header(4, 0) + bytes(16)), *yields(64)),
+    ("part", part(ONLY, 0, header(0, 4) + bytes(16)), *yields(64)),
+    *[("part", part(ONLY, 0, header(4, 0) + bytes(length)), [27]) for length in (0, 4, 12, 20)],
+    ("part", part(ONLY, 0, SIXTY), *yields(60)),
+    ("part", part(ONLY, 0, FULL + bytes(4048)), *yields(4096)),
+    ("part", part(ONLY, 0, FULL + bytes(4044)), [27]),
+    ("part", part(ONLY, 0, FULL + bytes(4052)), [27]),
+    ("part", part(ONLY, 0, header(1013, 0) + bytes(4052)), [27]),
+    ("part", part(ONLY, 0, header(512, 501) + bytes(4048)), [27]),
+    ("part", part(ONLY, 0, header(512, 500) + bytes(4048)), *yields(4096)),
+    # Each size has 16 bytes, and neither sum nor product is cut.
+    *[("part", part(ONLY, 0, header(*sizes)), [27]) for sizes in (
+        (256, 0), (2**16, 0), (2**32, 0), (2**64, 0), (2**120, 0), (2**127, 0), (0, 256), (0, 2**16), (0, 2**32), (0, 2**64),
+        (0, 2**127), (2**30, 0), (2**62, 0), (2**126, 0), (0, 2**126), (2**64 - 1, 1), (1, 2**64 - 1), (2**128 - 1, 1),
+        (2**127, 2**127), (2**128 - 1, 2**128 - 1))],
+    # The version has two bytes; attributes and reserved bytes are not looked at.
+    *[("part", part(ONLY, 0, header(0, 0, version=version)), [27]) for version in (1, 128, 256, 2**15, 2**16 - 1)],
+    ("part", part(ONLY, 0, header(0, 0, reserved=b"\xff" * 14)), *yields(48)),
+    # First parts, of as many bytes as may be, over any area.
+    ("part", part(FIRST, 0, b"\1\2\3\4"), *opens(4)),
+    ("part", part(FIRST, 0, b"\xff" * 64, fill=0), *opens(64)),
+    ("part", part(FIRST, 0, bytes(4092)), *opens(4092)),
+    ("part", part(FIRST, 0, bytes(4096)), *opens(4096)),
+    ("part", part(FIRST, 0, bytes(4100)), [27]),
+    ("part", dict(mark=MIXED, **part(FIRST, 0, SIXTY[:16], front=bytes(range(64)))), *opens(16)),
+    # 2 and 13: 1 is the manager, 9 stands in an unused place, 5 and 6 run.
+    *[("part", part(*words, id=id), [number]) for id, number in ((1, 2), (9, 2), (7 + 256, 2), (65535, 2), (5, 13), (6, 13))
+      for words in ((ONLY, 0, bytes(48)), (FIRST, 0, bytes(4)), (4, 2, bytes(3)))],
+    # 24: bits 1:0 set, or above 4,096, in both words.
+    *[("part", part(indicator, offset, bytes(4)), [24]) for indicator in (MIDDLE, FIRST, LAST, ONLY, 4, 255)
+      for offset in (1, 2, 3, 5, 4095, 4097, 4098, 4100, 2**16, 2**31, WORD - 4, WORD, WORD + 2, 2**63,
+                     WORD * (WORD - 1), 2**64 - 4)],
+    ("part", part(LAST, WORD, b""), [24]),
+    # 25: an indicator above 3, a count of 0, data that aren't the counted dwords.
+    *[("part", part(indicator, 0, bytes(48)), [25]) for indicator in (4, 5, 7, 128, 255)],
+    *[("part", part(indicator, 0, b""), [25]) for indicator in (MIDDLE, FIRST, ONLY, 4)],
+    *[("part", part(indicator, 0, bytes(48), count=count), [25]) for indicator in (FIRST, ONLY)
+      for count in (0, 1, 11, 13, 48, 268, 2**16 + 12, 2**30 + 12, 2**31 + 12, 3 * 2**30 + 12, WORD - 1)],
+    *[("part", part(FIRST, 0, bytes(length), count=1), [25]) for length in (0, 1, 3, 5, 8, 4100)],
+    ("part", part(LAST, 0, bytes(4), count=0), [25]),
+    *[("part", part(LAST, 0, b"", count=count), [25]) for count in (1, 2**30, WORD - 1)],
+    # 26: first and only parts begin at 0; the others have nothing to go on from. No header is judged.
+    *[("part", part(indicator, offset, data), [26]) for indicator in (FIRST, ONLY) for offset in (4, 48, 4092, 4096)
+      for data in (bytes(4), bytes(48), bytes(4096))],
+    *[("part", part(indicator, offset, data), [26]) for indicator in (MIDDLE, LAST) for offset in (0, 4, 48, 4096)
+      for data in (bytes(4), bytes(48))],
+    *[("part", part(LAST, offset, b"", fill=0), [26]) for offset in (0, 48, 4096)],
+    # 1: the area has another length, whatever else is wrong.
+    *[("part", part(*words, id=id, area=area), [1]) for area in WRONG_AREAS for id in (7, 9, 5)
+      for words in ((ONLY, 0, bytes(48)), (FIRST, 0, bytes(4)), (4, 2, bytes(3)))],
+    # What only other calls take is not looked at.
+    ("part", dict(address=2, bytes=ALL_ONES, type=255, records=1025, **part(ONLY, 0, SIXTY)), *yields(60)),
+]
+
+# The same where its own sequence is open at 16, with these bytes in the area.
+OPEN_AT_16 = [
+    ("part", part(MIDDLE, 16, b"\1\2\3\4", front=SIXTY[:16]), *opens(20)),
+    ("part", part(MIDDLE, 16, bytes(4080), front=SIXTY[:16]), *opens(4096)),
+    ("part", part(MIDDLE, 16, bytes(4084), front=SIXTY[:16]), [27]),
+    ("part", part(LAST, 16, SIXTY[16:], front=SIXTY[:16]), *yields(60)),
+    ("part", part(LAST, 16, SIXTY[16:56], front=SIXTY[:16]), [27]),
+    ("part", part(LAST, 16, SIXTY[16:] + bytes(4), front=SIXTY[:16]), [27]),
+    ("part", part(LAST, 16, bytes(28), front=bytes(16)), [27]),
+    ("part", part(LAST, 16, bytes(32), front=bytes(16)), *yields(48)),
+    # What the area holds behind byte 16 is no part of the whole, and what it holds before is.
+    ("part", part(LAST, 16, b"", front=bytes(64), fill=0), [27]),
+    ("part", part(LAST, 16, bytes(32), front=bytes(16) + b"\xff" * 48, fill=255), *yields(48)),
+    *[("part", part(LAST, 16, bytes(32), front=front), [27]) for front in (b"\1" + bytes(15), b"\0\1" + bytes(14))],
+    ("part", part(LAST, 16, bytes(32), front=bytes(2) + b"\xff" * 14), *yields(48)),
+    # Another place than 16.
+    *[("part", part(indicator, offset, bytes(32), fill=0), [number]) for indicator in (MIDDLE, LAST)
+      for number, offsets in ((26, (0, 12, 20, 48, 4096)), (24, (15, 17, 18, 4100, WORD + 16))) for offset in offsets],
+    ("part", part(LAST, 20, b""), [26]),
+    ("part", part(MIDDLE, 16, b""), [25]),
+    # A first or an only part begins anew, also with fewer bytes than there were; refused, it leaves all.
+    ("part", part(FIRST, 0, bytes(8), front=SIXTY), *opens(8)),
+    ("part", part(FIRST, 0, SIXTY), *opens(60)),
+    ("part", part(ONLY, 0, bytes(48)), *yields(48)),
+    ("part", part(ONLY, 0, bytes(44), front=bytes(64)), [27]),
+    ("part", part(ONLY, 0, b"\0\1" + b"\xee" * 46, front=bytes(64)), [27]),
+    ("part", part(FIRST, 0, bytes(4100)), [27]),
+    *[("part", part(indicator, 16, bytes(48), front=bytes(64)), [26]) for indicator in (FIRST, ONLY)],
+    *[("part", part(MIDDLE, 16, bytes(4), front=SIXTY, area=area), [1]) for area in WRONG_AREAS],
+    # "its resume drops its unfinished sequence"; every other call leaves it as it was.
+    ("resume", dict(id=7), [0], {}, (), None),
+    ("resume", dict(id=5), [13]),
+    ("resume", dict(id=9), [2]),
+    *[("suspend", dict(id=id, type=type), [0], {}, (), (7, 16)) for id in (5, 6, 7) for type in (0, 1)],
+    ("suspend", dict(id=7, type=2), [15]),
+    ("start", dict(id=6, data=structure(0, [(65536, 1)])), [0], {}, (), (7, 16)),
+    ("start", dict(id=7, data=structure(0, [(65536, 1)])), [4]),
+    ("stop", dict(id=5), [0], {}, (), (7, 16)),
+    ("stop", dict(id=7), [4]),
+    ("write", dict(id=5, address=69632, bytes=1), [0, 0, 1], {0: 2}, (), (7, 16)),
+    ("write", dict(id=7, address=0, bytes=1), [4]),
+    ("receive", dict(id=7, data=b"\xaa" * 32, mark=0b101), [0, 0, 0, 1, 1, 8, 1], {}, (), (7, 16)),
+    ("batch", batch((5, 69632, 1), (7, 0, 1), (5, 0, 1)), noted(1, 1, 4), {0: 2}),
+]
+
+# The same where 5's sequence is open at 16, and 5 and 7 are suspended: 23, whatever 7's part holds, and 5's go on.
+ANOTHERS = [
+    *[("part", part(indicator, offset, data), [23]) for indicator in (MIDDLE, FIRST, LAST, ONLY, 4, 255)
+      for offset in (0, 2, 16, 20, 4100, WORD) for data in (b"", bytes(4), bytes(48))],
+    ("part", part(ONLY, 0, bytes(48), count=11), [23]),
+    ("part", part(FIRST, 0, bytes(4), id=6), [13]),
+    ("part", part(FIRST, 0, bytes(4), id=1), [2]),
+    ("part", part(FIRST, 0, bytes(4), area=4095), [1]),
+    ("part", part(MIDDLE, 16, bytes(4), id=5), *opens(20, owner=5)),
+    ("part", part(LAST, 16, bytes(32), id=5, front=bytes(16)), *yields(48)),
+    ("part", part(FIRST, 0, bytes(4), id=5), *opens(4, owner=5)),
+    ("part", part(ONLY, 0, bytes(48), id=5), *yields(48)),
+    ("resume", dict(id=7), [0], {}, (), (5, 16)),
+    ("resume", dict(id=5), [0], {}, (), None),
+    ("resume", dict(id=6), [13]),
+]
+
+# The same at the end of the area. The header's sizes are 1,012 in all.
+AT_4092 = [
+    ("part", part(MIDDLE, 4092, b"\1\2\3\4", front=FULL), *opens(4096)),
+    ("part", part(LAST, 4092, b"\1\2\3\4", front=FULL), *yields(4096)),
+    ("part", part(LAST, 4092, b"\1\2\3\4", front=header(1011, 0)), [27]),
+    *[("part", part(indicator, 4092, bytes(8), front=header(1013, 0)), [27]) for indicator in (MIDDLE, LAST)],
+    ("part", part(LAST, 4092, b"", front=header(1000, 11)), *yields(4092)),
+    ("part", part(LAST, 4092, b"", front=FULL), [27]),
+    *[("part", part(indicator, 4096, bytes(4), front=FULL), [26]) for indicator in (MIDDLE, LAST)],
+]
+AT_4096 = [
+    ("part", part(LAST, 4096, b"", front=FULL), *yields(4096)),
+    ("part", part(LAST, 4096, b"", front=header(1011, 0)), [27]),
+    *[("part", part(indicator, 4096, bytes(4), front=FULL), [27]) for indicator in (MIDDLE, LAST)],
+    *[("part", part(indicator, 4100, bytes(4), front=FULL), [24]) for indicator in (MIDDLE, LAST)],
+    ("part", part(MIDDLE, 4096, b"", front=FULL), [25]),
+    ("part", part(LAST, 4092, b"", front=FULL), [26]),
+    ("part", part(FIRST, 0, bytes(4), front=FULL), *opens(4)),
+]
+
 # Sound records, by their change to the base, and calls on them: the call, its fields, the first numbers of the answer
-# (the row is 0 unless said); of some also mark words after the call, by their number, and the report's runs. Marks are 0
-# unless said. Controller 5's bits 0 to 3 are pages 16 to 19, its bits 4 and 5 pages 0 and 1.
+# (the row is 0 unless said); of some also mark words after the call, by their number, the report's runs, and the sequence
+# that is left. Marks are 0 unless said. Controller 5's bits 0 to 3 are pages 16 to 19, its bits 4 and 5 pages 0 and 1.
 ONE = structure(0, [(65536, 1)])
 SEVENTEEN = sixteen() + [(2**30, 1)]
 ORDERS = [
@@ -656,7 +846,13 @@ ORDERS = [
         ("receive", dict(id=6, data=b"\xaa" * 64), [5]),
         ("resume", dict(id=6), [0]),
         ("batch", batch((5, 65536, 1), (6, 0, 1), (5, 69632, 1)), noted(1, 1, 4), {0: 1}),
+        ("part", part(ONLY, 0, bytes(48), id=6), *yields(48)),
     ]),
+    ("parts", both(), PARTS),
+    ("parts, 7's sequence open at 16", opened(7, 16), OPEN_AT_16),
+    ("parts, 5's sequence open at 16", both(suspended(1, 0, 1), opened(5, 16)), ANOTHERS),
+    ("parts, 7's sequence open at 4,092", opened(7, 4092), AT_4092),
+    ("parts, 7's sequence open at 4,096", opened(7, 4096), AT_4096),
     ("4,096 units", tracked(0, (0, 4096)), [
         ("write", dict(id=5, address=0, bytes=ALL_ONES), [0, 0, 4096]),
         ("receive", dict(id=5, data=b"\xaa" * 32, mark=ALL_ONES), [0, 0, 0, 0, 0, 0, 1]),
@@ -793,6 +989,8 @@ def cases():
         yield from every_call(build, said)
         yield from wrong_words(build, said)
         yield from orders(build, said)
+        yield from orders_of_a_part(build, said)
+        yield from divided_headers(build, said)
 
 
 def every_call(build, said):
@@ -820,9 +1018,50 @@ def orders(build, said):
         unsound = copy.deepcopy(record)
         unsound.controllers[record.count - 1].track(8, (1048576, 1), (1048577, 1))
         for call, fields, known, *after in calls:
-            yield Case(record, call, **fields).named(f"{name}, {call}{said}", *known, **dict(zip(("marks", "runs"), after)))
+            yield named(Case(record, call, **fields), f"{name}, {call}{said}", known, *after)
             yield Case(unsound, call, **fields).named(f"{name}, {call}{said}, unsound", 1)
             yield Case(record, call, words=511, **fields).named(f"{name}, {call}{said}, 511 words", 1)
+
+
+# Of a part of 7, where its sequence is open at 16 and 8 is suspended too: what may be wrong with it, each with the number
+# that this alone is refused with.
+AREAS = {4096: 0, 4095: 1, 4097: 1}
+IDS = {7: 0, 9: 2, 6: 13, 8: 23}
+OFFSETS = {16: 0, 18: 24, WORD + 16: 24, 20: 26}
+INDICATORS = {MIDDLE: 0, LAST: 27, FIRST: 26, 4: 25}  # 20 bytes are no state, and a first part begins at 0
+DATA = {(1, 4): 0, (1, 3): 25, (0, 0): 25, (1021, 4084): 27}  # count, and how many bytes
+
+
+def orders_of_a_part(build, said):
+    """Every set of rules that can be broken at once: the least number answers, as W6's order is theirs. A last part may have
+    no dwords."""
+    record = changed(build, both(identifiers(5, 6, 7, 8), suspended(0, 0, 1, 1), opened(7, 16)))
+    for chosen in itertools.product(AREAS.items(), IDS.items(), OFFSETS.items(), INDICATORS.items(), DATA.items()):
+        (area, _), (id, _), (offset, _), (indicator, _), ((count, length), _) = chosen
+        allowed = 25 if indicator == LAST and count == 0 else 0
+        broken = [number for _, number in chosen if number not in (0, allowed)]
+        fields = part(indicator, offset, bytes(length), id=id, count=count, area=area, front=bytes(16))
+        name = f"part of {id}, area {area}, indicator {indicator}, offset {offset}, count {count}, {length} bytes{said}"
+        yield named(Case(record, "part", **fields), name, *([[min(broken)]] if broken else opens(20)))
+
+
+def divided_headers(build, said):
+    """A state of 60 bytes of which the area has some and a last part the rest, with one bit of its header changed, or none:
+    those of version and sizes make it no state, wherever they lie."""
+    for end in range(4, 64, 4):
+        record = changed(build, opened(7, end))
+        for byte in (None, 0, 1, 2, 15, 16, 19, 20, 24, 31, 32, 35, 36, 40, 47):
+            whole = bytearray(SIXTY)
+            if byte is not None:
+                whole[byte] ^= 0x80
+            fields = part(LAST, end, bytes(whole[end:]), front=bytes(whole[:end]))
+            known = yields(60) if byte in (None, 2, 15) else [[27]]
+            yield named(Case(record, "part", mark=MIXED, **fields), f"60 bytes divided at {end}, byte {byte}{said}", *known)
+
+
+def named(case, name, known, *after):
+    """The case with its name and what is known: the first numbers, and of some calls mark words, runs and the sequence."""
+    return case.named(name, *known, **dict(zip(("marks", "runs", "sequence"), after)))
 
 
 def changed(build, change_it):

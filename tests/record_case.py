@@ -2,9 +2,12 @@
 
 import struct
 
-CALLS = ["fresh", "start", "stop", "write", "receive", "suspend", "resume", "batch"]
+from parts import WORD
+
+CALLS = ["fresh", "start", "stop", "write", "receive", "suspend", "resume", "batch", "part"]
 CASE_BYTES = 2944
-MOST_WORDS, MOST_DATA = 600, 1024  # that a case may lend
+MOST_WORDS, MOST_DATA, MOST_AREA = 600, 1024, 4200  # that a case may lend; a part may have more data, zeros past the 1,024
+FRONT_BYTES = 64  # of the state area, told one by one
 ROW = struct.Struct("<HQQ")  # of a batch: id, address, bytes
 MOST_ROWS = MOST_DATA // ROW.size
 MEMORY = 2**64
@@ -40,48 +43,69 @@ class Controller:
 
 
 class Record:
-    """Settings and 8 controllers, as they come: nothing here asks whether they are sound."""
+    """Settings, 8 controllers and a sequence, as they come: nothing here asks whether they are sound. The sequence is None
+    (nothing open) or a pair of owner and end."""
 
     def __init__(self):
         self.manager = self.least = self.greatest = self.rule = self.limit = self.count = 0
         self.identifiers = [0] * 8
         self.controllers = [Controller() for _ in range(8)]
+        self.sequence = None
 
     def packed(self):
         settings = (self.manager, self.least, self.greatest, self.rule, self.limit, self.count, *self.identifiers)
-        return struct.pack("<HBBBHQ8H", *settings) + b"".join(one.packed() for one in self.controllers)
+        controllers = b"".join(one.packed() for one in self.controllers)
+        return struct.pack("<HBBBHQ8H", *settings) + controllers + packed_sequence(self.sequence)
 
     def readable(self):
         yield (f"settings: manager {self.manager}, granularities {self.least} to {self.greatest}, rule {self.rule}, "
                f"limit {self.limit}, count {self.count}, identifiers {self.identifiers}")
         for place, one in enumerate(self.controllers):
             yield f"controller {place}{' (unused)' if place >= self.count else ''}: {one.readable()}"
+        yield "sequence: open, owner {}, end {}".format(*self.sequence) if self.sequence else "sequence: nothing open"
+
+
+def packed_sequence(sequence):
+    owner, end = sequence or (0, 0)
+    return struct.pack("<BHH", sequence is not None, owner, end)
 
 
 CLOSED = Record().packed()
+SEQUENCE_BYTES = len(packed_sequence(None))  # the last of a record
+
+
+NOT_SAID = "not said"
 
 
 class Case:
-    """A record, lent marks and bytes, and one call. `known` are the answer's first numbers, as far as known by hand, the
-    row 0 unless said; of some done calls also mark words and runs are known."""
+    """A record, lent marks, bytes and state area, and one call. `known` are the answer's first numbers, as far as known by
+    hand, the row 0 unless said; of some done calls also mark words, runs and the sequence that is left are known."""
 
-    def __init__(self, record, call, id=0, address=0, bytes=0, type=0, data=b"", records=0, words=512, mark=0):
+    def __init__(self, record, call, id=0, address=0, bytes=0, type=0, data=b"", records=0, words=512, mark=0,
+                 indicator=0, low=0, high=0, count=0, area=0, fill=0, front=b""):
         self.record = record
         self.call = call
         self.id, self.address, self.bytes, self.type = id, address, bytes, type
         self.data, self.records = data, records
         self.words, self.mark = words, mark
+        self.indicator, self.low, self.high, self.count = indicator, low, high, count
+        self.area, self.fill, self.front = area, fill, front.ljust(FRONT_BYTES, b"%c" % fill)
 
-    def named(self, name, *known, marks=None, runs=()):
+    def named(self, name, *known, marks=None, runs=(), sequence=NOT_SAID):
         """The marks are by the number of their word; the runs are pairs of address and length in units."""
-        self.name, self.known_marks, self.known_runs = name, marks or {}, runs
+        self.name, self.known_marks, self.known_runs, self.known_sequence = name, marks or {}, runs, sequence
         self.known = (*known, 0) if len(known) == 1 else known
         return self
 
     def packed(self):
         call = (self.words, self.mark, CALLS.index(self.call), self.id, self.address, self.bytes, self.type)
-        fields = struct.pack("<HQBHQQBH", *call, len(self.data)) + self.data.ljust(MOST_DATA, b"\0")
-        return (self.record.packed() + fields + struct.pack("<H", self.records)).ljust(CASE_BYTES, b"\0")
+        fields = struct.pack("<HQBHQQBH", *call, len(self.data)) + in_room(self.data, MOST_DATA) + struct.pack("<H", self.records)
+        part = struct.pack("<BIIIHB", self.indicator, self.low, self.high, self.count, self.area, self.fill) + self.front
+        return (self.record.packed() + fields + part).ljust(CASE_BYTES, b"\0")
+
+    def lent_area(self):
+        """The state area: the front, and behind it one byte again and again. Only a part is lent one."""
+        return (self.front + b"%c" % self.fill * MOST_AREA)[:self.area]
 
     def readable(self):
         yield f"case: {self.name}"
@@ -91,11 +115,20 @@ class Case:
                f"{len(self.data)} lent bytes {self.data.hex()}")
         if self.call == "batch":
             yield f"batch: {self.records} records, row after row of {list(ROW.iter_unpack(self.data))}"
+        if self.call == "part":
+            yield (f"part: indicator {self.indicator}, low {self.low}, high {self.high}, count {self.count}; "
+                   f"state area of {self.area} bytes: {self.front.hex()}, then {self.fill:#x}")
         if self.known:
             numbers = ", ".join(f"{name} {number}" for name, number in zip(NUMBERS, self.known))
             marks = "".join(f", mark word {word} {mark:#x}" for word, mark in self.known_marks.items())
             runs = "".join(f", run {one}" for one in self.known_runs)
-            yield f"documents 01 and 02 ask for: {numbers}{marks}{runs}"
+            sequence = "" if self.known_sequence == NOT_SAID else f", sequence {self.known_sequence}"
+            yield f"documents 01 and 02 ask for: {numbers}{marks}{runs}{sequence}"
+
+
+def in_room(lent, room):
+    """Lent bytes in a field with room for so many: zeros behind them, and those past it left out."""
+    return lent[:room].ljust(room, b"\0")
 
 
 def structure(granularity, ranges, version=0, count=None, reserved=0):
@@ -110,10 +143,17 @@ def batch(*rows, records=None):
     return {"data": b"".join(ROW.pack(*one) for one in rows), "records": len(rows) if records is None else records}
 
 
+def part(indicator, offset, data, id=7, count=None, area=4096, fill=0xEE, front=b""):
+    """The fields of a part of controller 7, unless said, with as many dwords as its data have, unless said."""
+    count = len(data) // 4 if count is None else count
+    return {"id": id, "indicator": indicator, "low": offset % WORD, "high": offset // WORD, "count": count, "data": data,
+            "area": area, "fill": fill, "front": front}
+
+
 # ---- An answer
 
-NUMBERS = ["refusal", "row", "count", "suspended", "more", "granularity", "runs", "notes done", "cut"]
-PACKED_NUMBERS = struct.Struct("<BBQBBBQQB")
+NUMBERS = ["refusal", "row", "count", "suspended", "more", "granularity", "runs", "notes done", "cut", "whole"]
+PACKED_NUMBERS = struct.Struct("<BBQBBBQQBQ")
 ROW_RULES = (19, 20, 21)  # a start that is refused with one of these answers its row; every other row is 0
 
 
@@ -127,22 +167,26 @@ def record_fields():
         for row in range(16):
             yield f"controller {place}: start of range {row}", 8
             yield f"controller {place}: length of range {row}", 4
+    yield from [("sequence", 1), ("owner", 2), ("end", 2)]
 
 
 def answer_fields():
     """Name and width of each field of an answer, in their order."""
-    yield from zip(NUMBERS, [1, 1, 8, 1, 1, 1, 8, 8, 1])
+    yield from zip(NUMBERS, [1, 1, 8, 1, 1, 1, 8, 8, 1, 8])
     at = 0
     for name, width in record_fields():
         yield f"record, byte {at}, {name}", width
         at += width
     yield from ((f"mark word {word}", 8) for word in range(MOST_WORDS))
     yield from ((f"lent byte {byte}", 1) for byte in range(MOST_DATA))
+    yield from ((f"byte {byte} of the state area", 1) for byte in range(MOST_AREA))
 
 
 ANSWER_BYTES = sum(width for _, width in answer_fields())
-DATA_AT = ANSWER_BYTES - MOST_DATA
+AREA_AT = ANSWER_BYTES - MOST_AREA
+DATA_AT = AREA_AT - MOST_DATA
 MARKS_AT = DATA_AT - 8 * MOST_WORDS
+SEQUENCE_AT = MARKS_AT - SEQUENCE_BYTES
 RECORD_AT = PACKED_NUMBERS.size
 
 
@@ -164,17 +208,22 @@ def differences(one, other):
 def asked_for(case, answer):
     """The answer that the documents ask for; of a random case as far as its number alone tells. Of a refused call all is
     known: the number, the row, zeros, and what was given (of a fresh the closed device). So it is of a batch by hand whose
-    numbers are all known: what was given, save the mark words named. Of another done call the first numbers are known and
-    what it leaves as given, at times some mark words and runs, and the rest is taken to be as answered."""
+    numbers are all known: what was given, save the mark words named; and of a done part, save its own bytes of the area and
+    the sequence. Of another done call the first numbers are known and what it leaves as given, its sequence among it, at
+    times some mark words and runs, and the rest is taken to be as answered."""
     known = case.known or as_answered(case.call, *answer[:2])
     if known[0] or case.call == "batch" and len(known) == len(NUMBERS):
-        return given(case, known)
+        return given(case, known, case.record.sequence)
+    if case.call == "part":
+        return given(case, known if len(known) == len(NUMBERS) else finished(case), sequence_left(case))
     asked = bytearray(answer)
     PACKED_NUMBERS.pack_into(asked, 0, *known, *numbers_of(answer)[len(known):])
     if case.call in ("write", "batch", "receive"):
         asked[RECORD_AT:MARKS_AT] = case.record.packed()
     if case.call != "receive":
-        asked[DATA_AT:] = case.data.ljust(MOST_DATA, b"\0")
+        asked[DATA_AT:AREA_AT] = in_room(case.data, MOST_DATA)
+    asked[SEQUENCE_AT:MARKS_AT] = packed_sequence(sequence_left(case))
+    asked[AREA_AT:] = bytes(MOST_AREA)
     for word, mark in case.known_marks.items():
         struct.pack_into("<Q", asked, MARKS_AT + 8 * word, mark)
     for row, (address, length) in enumerate(case.known_runs):
@@ -182,13 +231,39 @@ def asked_for(case, answer):
     return bytes(asked)
 
 
-def given(case, known):
-    """These numbers, then zeros, and all that was given, save the mark words that are known to change."""
+def given(case, known, sequence):
+    """These numbers, then zeros, and all that was given, save the mark words that are known to change, this sequence, and a
+    done part's own bytes of the area."""
     numbers = PACKED_NUMBERS.pack(*known, *[0] * (len(NUMBERS) - len(known)))
-    record = CLOSED if case.call == "fresh" else case.record.packed()
+    record = CLOSED if case.call == "fresh" else case.record.packed()[:-SEQUENCE_BYTES] + packed_sequence(sequence)
     words = [case.known_marks.get(word, case.mark) for word in range(case.words)]
     marks = struct.pack(f"<{case.words}Q", *words).ljust(8 * MOST_WORDS, b"\0")
-    return numbers + record + marks + case.data.ljust(MOST_DATA, b"\0")
+    area = case.lent_area()
+    if case.call == "part" and not known[0]:
+        begin, end = borders(case)
+        area = area[:begin] + case.data + area[end:]
+    return numbers + record + marks + in_room(case.data, MOST_DATA) + in_room(area, MOST_AREA)
+
+
+def borders(case):
+    """Where a part's bytes begin and end in the area. Only of a part that should have been refused are they cut here."""
+    offset = case.low + WORD * case.high
+    return offset % 2**16, (offset + 4 * case.count) % 2**16
+
+
+def finished(case):
+    """The numbers of a done part: a last or an only one has assembled all bytes up to its end."""
+    return [0] * (len(NUMBERS) - 1) + [borders(case)[1] if case.indicator in (2, 3) else 0]
+
+
+def sequence_left(case):
+    """The sequence after a done call: a fresh device has none, a part opens or ends one, and a resume drops the owner's."""
+    if case.known_sequence != NOT_SAID:
+        return case.known_sequence
+    if case.call == "part":
+        return None if case.indicator in (2, 3) else (case.id, borders(case)[1])
+    dropped = case.call == "resume" and case.record.sequence and case.record.sequence[0] == case.id
+    return None if case.call == "fresh" or dropped else case.record.sequence
 
 
 def as_answered(call, refusal, row):

@@ -5,8 +5,9 @@ import random
 from bad_rows import with_bad_rows
 from batches import MOST_TAKEN, bad_note
 from overlap import beside_another, different_units
-from record_by_hand import WRONG_WORDS
-from record_case import ALL_ONES, CALLS, MEMORY, MOST_ROWS, Case, Record, batch, structure
+from parts import FIRST, HEADER, LAST, MIDDLE, MOST_PART, MOST_STATE, ONLY, Part, header, spoiled
+from record_by_hand import WRONG_AREAS, WRONG_WORDS
+from record_case import ALL_ONES, CALLS, FRONT_BYTES, MEMORY, MOST_DATA, MOST_ROWS, Case, Record, batch, part, structure
 
 
 def cases(seed, count):
@@ -26,13 +27,14 @@ class Maker:
         return self.random.random() < share
 
     def case(self):
-        # A start has the most ways to be refused.
-        call = self.random.choice(CALLS + ["start"] * 2)
+        # A start has the most ways to be refused, and a part nearly as many.
+        call = self.random.choice(CALLS + ["start"] * 2 + ["part"])
         self.record = self.sound_record()
         if self.chance(0.5):
             # A fresh looks at the settings alone.
             self.damage_settings() if call == "fresh" else self.damage()
-        fields = {"id": self.identifier(call), "mark": self.mark(), "words": self.words()}
+        self.called = self.identifier(call)
+        fields = {"id": self.called, "mark": self.mark(), "words": self.words()}
         fields.update(getattr(self, call + "_fields", dict)())
         return Case(self.record, call, **fields)
 
@@ -61,7 +63,15 @@ class Maker:
             one.suspended = int(self.chance(0.25))
         # Often little or nothing of the limit is left.
         record.limit = min(128, self.taken() + pick.choice([0, 0, 1, 2, 16, 128, 128, 128]))
+        suspended = self.used_places(lambda one: one.suspended)
+        if suspended and self.chance(0.6):
+            record.sequence = (record.identifiers[pick.choice(suspended)], self.end())
         return record
+
+    def end(self):
+        """Where a sequence may have ended: within the header, about its end, about the area's end, or anywhere."""
+        pick = self.random
+        return pick.choice([4, 8, 16, 20, 32, 36, 44, 48, 48, 52, 60, 64, 68, 4088, 4092, 4096, 4 * pick.randrange(1, 1025)])
 
     def taken(self):
         used = self.record.controllers[:min(self.record.count, 8)]
@@ -123,7 +133,7 @@ class Maker:
         used, pick = self.record.controllers[:self.record.count], self.random
         tracked_ones = [one for one in used if one.tracking]
         self.one = pick.choice(tracked_ones or used)
-        damages = [self.damage_settings, self.damage_tracking]
+        damages = [self.damage_settings, self.damage_tracking, self.damage_sequence]
         if tracked_ones:
             damages += [self.damage_tracking, self.damage_limit] + [self.damage_range] * 4
         pick.choice(damages)()
@@ -160,6 +170,16 @@ class Maker:
             one.tracking = (granularity, pick.choice([0, count - 1, count + 1, 16, 17, 18, 255]) % 256)
             record.limit = pick.choice([record.limit, 128])
 
+    def damage_sequence(self):
+        """An end that is none, or an owner that may run, be unknown or stand in an unused place."""
+        record, pick = self.record, self.random
+        owner, end = record.sequence or (pick.choice(record.identifiers), self.end())
+        record.sequence = pick.choice([
+            (owner, pick.choice([0, 1, 2, 3, 6, end + 1, end + 2, end - 1, 4098, 4100, 4104, 8192, 65532, 65535])),
+            (self.any_identifier(), end),
+            (owner, end),
+        ])
+
     def damage_range(self):
         pick, one = self.random, self.one
         granularity, count = one.tracking
@@ -194,6 +214,7 @@ class Maker:
             "write": lambda one: one.tracking and not one.suspended,
             "receive": lambda one: one.tracking,
             "resume": lambda one: one.suspended,
+            "part": lambda one: one.suspended,
         }.get(call)
         liked = self.used_places(wanted) if wanted else []
         self.place = self.random.choice(liked if liked and self.chance(0.9) else self.used_places())
@@ -302,3 +323,37 @@ class Maker:
         record, note = self.record, self.note()
         suspended = [record.identifiers[place] for place in self.used_places(lambda one: one.suspended)]
         return bad_note(self.random, note, self.any_identifier(), self.random.choice(suspended or [note[0]]))
+
+    def part_fields(self):
+        """A part that goes on with the called controller's sequence, or begins one; it has the rest of a state, mostly, or
+        some of it. Often the state or the part is spoiled, and at times the area has another length."""
+        pick, (owner, end) = self.random, self.record.sequence or (None, 0)
+        if self.chance(0.8):
+            self.record.controllers[self.place].suspended = 1
+        id = owner if owner is not None and self.chance(0.5) else self.called
+        at = end if id == owner and end <= MOST_STATE and self.chance(0.8) else 0
+        whole = self.whole(at)
+        rest = self.chance(0.65)
+        data = whole[at:] if rest else whole[at:at + 4 * pick.choice([1, 1, 2, 3, 8, 12])]
+        indicator = (LAST if rest else MIDDLE) if at else (ONLY if rest else FIRST)
+        one = Part(id, indicator, at, len(data) // 4, data)
+        if self.chance(0.35):
+            one = spoiled(pick, one)
+        # A case has room for 1,024 bytes of data, and for the area's first 64 before one byte fills it.
+        data = one.data[:min(len(one.data), MOST_DATA)].ljust(len(one.data), b"\0")[:MOST_PART]
+        area = pick.choice(WRONG_AREAS) if self.chance(0.04) else MOST_STATE
+        lent = {"area": area, "fill": pick.choice([0, 0xEE, 255]), "front": whole[:FRONT_BYTES]}
+        return part(one.indicator, one.offset, data, id=one.id, count=one.count, **lent)
+
+    def whole(self, at):
+        """A state with more bytes than these, or as many: its header says how many, mostly."""
+        pick = self.random
+        length = max(HEADER, at) + 4 * pick.choice([0, 0, 1, 2, 5, 9, 200])
+        if self.chance(0.1):
+            length = pick.choice([MOST_STATE - 4, MOST_STATE, MOST_STATE, MOST_STATE + 4])
+        dwords = (length - HEADER) // 4 + (pick.choice([-1, 1]) if self.chance(0.06) else 0)
+        nvmecss = pick.randint(0, max(0, dwords))
+        head = bytearray(header(nvmecss, max(0, dwords - nvmecss), reserved=pick.randbytes(14)))
+        if self.chance(0.1):
+            head[pick.choice([0, 1, 2, 15, 16, 18, 31, 32, 40, 47])] ^= 1 << pick.randrange(8)
+        return bytes(head) + pick.randbytes(max(0, length - HEADER))

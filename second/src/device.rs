@@ -1,12 +1,14 @@
 //! The device and its calls (document 01, "Refusal numbers" to "The report").
 //!
 //! The marks are kept here as a set of pending units for each controller, not as words of bits; so the rule about
-//! "512 lent words" has no counterpart here, and refusal 1 is about the record alone. (`records` lends words.)
+//! "512 lent words" has no counterpart here, and refusal 1 is about the record alone, and in W6 about the state area.
+//! (`records` lends words.)
 
 use std::collections::{BTreeMap, BTreeSet};
 
 use crate::report::{report_bytes, room, Descriptor, Report, LEAST_BUFFER};
 use crate::rules::*;
+use crate::state::{part_refusal, Part};
 use crate::structure::{read_header, read_ranges};
 
 /// A unit of a controller's ranges: the row of the range that it belongs to (W2: "the earliest listed"), and its
@@ -215,14 +217,50 @@ impl Device {
         }
     }
 
-    /// Resume: 1, 2, 13.
+    /// Resume: 1, 2, 13. W6: "its resume drops its unfinished sequence".
     pub fn resume(&mut self, id: u64) -> Result<(), Refusal> {
         let controller = self.controller_mut(id)?;
         if !controller.suspended {
             return Err(NOT_SUSPENDED);
         }
         controller.suspended = false;
+        if let Sequence::Open { owner, .. } = self.record.sequence {
+            if owner == id {
+                self.record.sequence = Sequence::Nothing;
+            }
+        }
         Ok(())
+    }
+
+    /// Set Controller State (W6): 1, 2, 13, then 23 to 27. Answers how many bytes are assembled, which are the area's
+    /// first, and 0 where the sequence goes on. "A refused part changes nothing, an accepted one only its own bytes of the
+    /// area."
+    ///
+    /// The part is judged by the joined bytes, before any of them is stored; those before its own are the area's anyway.
+    pub fn set_state(&mut self, area: &mut [u8], part: &Part) -> Result<usize, Refusal> {
+        self.asked_sound()?;
+        // "in one lent area of that size (else 1)"
+        if area.len() != STATE_BYTES {
+            return Err(UNSOUND);
+        }
+        // "The named controller must be suspended"
+        if !self.controller(part.id)?.suspended {
+            return Err(NOT_SUSPENDED);
+        }
+        if let Some(refusal) = part_refusal(part, self.record.sequence, area) {
+            return Err(refusal);
+        }
+        let joined = part.joined(area);
+        for (place, byte) in area.iter_mut().zip(&joined) {
+            *place = *byte;
+        }
+        if part.finishes() {
+            self.record.sequence = Sequence::Nothing;
+            Ok(joined.len())
+        } else {
+            self.record.sequence = Sequence::Open { owner: part.id, end: joined.len() as u64 };
+            Ok(0)
+        }
     }
 
     /// With what each call begins: 1, "device record is unsound".
@@ -347,6 +385,28 @@ mod tests {
         Note { id, address, bytes }
     }
 
+    /// A part of controller 5 that counts as many dwords as its data have.
+    fn part(indicator: u64, low: u64, data: &[u8]) -> Part {
+        Part { id: 5, indicator, low, high: 0, count: data.len() as u64 / 4, data: data.to_vec() }
+    }
+
+    /// The device above with both controllers suspended, and an area of stale bytes.
+    fn receiver() -> (Device, Vec<u8>) {
+        let mut device = device();
+        device.suspend(5, 1).unwrap();
+        device.suspend(6, 1).unwrap();
+        (device, vec![0xEE; 4096])
+    }
+
+    /// 60 bytes: sizes 1 and 2, and 12 bytes that tell their places apart.
+    fn sixty() -> Vec<u8> {
+        let mut state = vec![0; 48];
+        state[16] = 1;
+        state[32] = 2;
+        state.extend(1..13);
+        state
+    }
+
     /// A refused start's number and row, if it has one. It changes nothing.
     fn refused_start(device: &Device, buffer: &[u8]) -> (Refusal, Option<usize>) {
         let mut after = device.clone();
@@ -368,6 +428,7 @@ mod tests {
         assert_eq!(device.receive(0, &mut [0; 64]), Err(1));
         assert_eq!(device.suspend(0, 9), Err(1));
         assert_eq!(device.resume(0), Err(1));
+        assert_eq!(device.set_state(&mut [0; 4096], &part(3, 0, &[0; 48])), Err(1));
         assert_eq!(device, Device::default());
     }
 
@@ -387,6 +448,7 @@ mod tests {
             assert_eq!(device.receive(*id, &mut []), Err(1));
             assert_eq!(device.suspend(*id, 2), Err(1));
             assert_eq!(device.resume(*id), Err(1));
+            assert_eq!(device.set_state(&mut [0; 4096], &Part { id: *id, ..part(4, 2, &[0; 3]) }), Err(1));
         }
         assert_eq!(device, before);
     }
@@ -585,6 +647,181 @@ mod tests {
         let mut list = [note(5, 65536, 1); 1024];
         list[1023] = note(5, 77824, 1);
         assert_eq!(device.batch(&list), Ok(Batch { done: 1024, count: 2, refusal: None }));
+    }
+
+    /// This part is refused so, and changes neither device nor area.
+    fn assert_refused(device: &Device, area: &[u8], part: &Part, refusal: Refusal) {
+        let mut after = device.clone();
+        let mut area_after = area.to_vec();
+        assert_eq!(after.set_state(&mut area_after, part), Err(refusal), "{:?}", part);
+        assert_eq!((&after, area_after.as_slice()), (device, area), "{:?}", part);
+    }
+
+    #[test]
+    fn state_in_parts() {
+        let (mut device, mut area) = receiver();
+        let state = sixty();
+        assert_eq!(device.set_state(&mut area, &part(1, 0, &state[..16])), Ok(0));
+        assert_eq!(device.record.sequence, Sequence::Open { owner: 5, end: 16 });
+        assert_eq!(device.set_state(&mut area, &part(0, 16, &state[16..44])), Ok(0));
+        assert_eq!(device.record.sequence, Sequence::Open { owner: 5, end: 44 });
+        // A dword is missing; the sequence stays open, and the bytes are not stored.
+        assert_refused(&device, &area, &part(2, 44, &state[44..56]), 27);
+        assert_eq!(device.set_state(&mut area, &part(2, 44, &state[44..])), Ok(60));
+        assert_eq!(device.record.sequence, Sequence::Nothing);
+        assert_eq!(area[..60].to_vec(), state);
+        assert_eq!(area[60..].to_vec(), vec![0xEE; 4036]);
+    }
+
+    #[test]
+    fn however_divided() {
+        let state = sixty();
+        for one in (4..60).step_by(4) {
+            for two in (one + 4..=60).step_by(4) {
+                let (mut device, mut area) = receiver();
+                assert_eq!(device.set_state(&mut area, &part(1, 0, &state[..one])), Ok(0));
+                assert_eq!(device.set_state(&mut area, &part(0, one as u64, &state[one..two])), Ok(0));
+                assert_eq!(device.set_state(&mut area, &part(2, two as u64, &state[two..])), Ok(60));
+                assert_eq!(area[..60].to_vec(), state, "{} {}", one, two);
+            }
+        }
+        let (mut device, mut area) = receiver();
+        assert_eq!(device.set_state(&mut area, &part(3, 0, &state)), Ok(60));
+        assert_eq!(area[..60].to_vec(), state);
+    }
+
+    #[test]
+    fn areas_that_are_not_4096_bytes() {
+        let (device, _) = receiver();
+        for bytes in [0, 1, 48, 4095, 4097, 4200, 8192].iter() {
+            let area = vec![7; *bytes];
+            assert_refused(&device, &area, &part(3, 0, &[0; 48]), 1);
+            // Before all the others.
+            assert_refused(&device, &area, &Part { id: 7, ..part(4, 2, &[0; 3]) }, 1);
+        }
+    }
+
+    #[test]
+    fn order_of_a_part() {
+        let (mut device, mut area) = receiver();
+        device.record.settings.number = 3;
+        device.record.settings.identifiers[2] = 7;
+        assert_eq!(device.set_state(&mut area, &part(1, 0, &[0; 16])), Ok(0));
+        // An offset of 2 and more that is wrong: of an unknown one, of one that runs, of another, of the owner.
+        let bad = part(4, 2, &[0; 3]);
+        assert_refused(&device, &area, &Part { id: 9, ..bad.clone() }, 2);
+        assert_refused(&device, &area, &Part { id: 1, ..bad.clone() }, 2);
+        assert_refused(&device, &area, &Part { id: 7, ..bad.clone() }, 13);
+        assert_refused(&device, &area, &Part { id: 6, ..bad.clone() }, 23);
+        assert_refused(&device, &area, &bad, 24);
+        assert_refused(&device, &area, &Part { low: 0, ..bad.clone() }, 25);
+        assert_refused(&device, &area, &part(0, 20, &[0; 4]), 26);
+        assert_refused(&device, &area, &part(2, 16, &[0; 4]), 27);
+        // The word that is the higher one.
+        assert_refused(&device, &area, &Part { high: 1, ..part(1, 0, &[0; 4]) }, 24);
+    }
+
+    #[test]
+    fn offsets_and_counts() {
+        let (mut device, mut area) = receiver();
+        assert_refused(&device, &area, &part(1, 4098, &[0; 4]), 24);
+        assert_refused(&device, &area, &part(1, 4, &[0; 4]), 26);
+        assert_refused(&device, &area, &part(1, 0, &[0; 4100]), 27);
+        assert_refused(&device, &area, &part(0, 0, &[0; 4]), 26);
+        assert_refused(&device, &area, &part(2, 0, &[]), 26);
+        assert_refused(&device, &area, &part(1, 0, &[]), 25);
+        assert_refused(&device, &area, &part(3, 0, &[]), 25);
+        assert_refused(&device, &area, &Part { count: 1, ..part(1, 0, &[0; 3]) }, 25);
+        assert_refused(&device, &area, &Part { count: 1073741836, ..part(3, 0, &[0; 48]) }, 25);
+        // As many bytes as may be: sizes that sum to 1,012 dwords.
+        let mut state = vec![0x5A; 4096];
+        state[..48].copy_from_slice(&[0; 48]);
+        state[16] = 244;
+        state[17] = 3;
+        assert_eq!(device.set_state(&mut area, &part(1, 0, &state)), Ok(0));
+        assert_refused(&device, &area, &part(0, 4096, &[0; 4]), 27);
+        assert_refused(&device, &area, &part(0, 4100, &[0; 4]), 24);
+        assert_refused(&device, &area, &part(0, 4096, &[]), 25);
+        assert_refused(&device, &area, &Part { count: 0, ..part(2, 4096, &[0; 4]) }, 25);
+        assert_eq!(device.set_state(&mut area, &part(2, 4096, &[])), Ok(4096));
+        assert_eq!(area, state);
+    }
+
+    #[test]
+    fn parts_that_begin_anew() {
+        let (mut device, mut area) = receiver();
+        // Refused, neither of them ends the open sequence nor stores a byte.
+        assert_eq!(device.set_state(&mut area, &part(1, 0, &[0; 20])), Ok(0));
+        let mut bad = vec![0xEE; 48];
+        bad[0] = 0;
+        bad[1] = 1;
+        assert_refused(&device, &area, &part(3, 0, &bad), 27);
+        assert_refused(&device, &area, &part(1, 0, &[0xEE; 4100]), 27);
+        assert_eq!(device.set_state(&mut area, &part(2, 20, &[0; 28])), Ok(48));
+        assert_eq!(area[..49].to_vec(), [vec![0; 48], vec![0xEE]].concat());
+        // Accepted, a first one goes on from its own end, and an only one ends all.
+        assert_eq!(device.set_state(&mut area, &part(1, 0, &[0xEE; 48])), Ok(0));
+        assert_eq!(device.set_state(&mut area, &part(1, 0, &[0; 4])), Ok(0));
+        assert_eq!(device.record.sequence, Sequence::Open { owner: 5, end: 4 });
+        assert_eq!(area[..8].to_vec(), [0, 0, 0, 0, 0xEE, 0xEE, 0xEE, 0xEE]);
+        assert_refused(&device, &area, &part(0, 48, &[0; 4]), 26);
+        assert_eq!(device.set_state(&mut area, &part(3, 0, &[0; 48])), Ok(48));
+        assert_refused(&device, &area, &part(2, 48, &[]), 26);
+        assert_refused(&device, &area, &part(0, 4, &[0; 4]), 26);
+    }
+
+    #[test]
+    fn resume_drops_its_own_sequence_alone() {
+        let (mut device, mut area) = receiver();
+        assert_eq!(device.set_state(&mut area, &part(1, 0, &[0; 16])), Ok(0));
+        assert_eq!(device.resume(6), Ok(()));
+        assert_eq!(device.record.sequence, Sequence::Open { owner: 5, end: 16 });
+        assert_eq!(device.resume(6), Err(13));
+        assert_eq!(device.set_state(&mut area, &part(0, 16, &[0; 4])), Ok(0));
+        let before = area.clone();
+        assert_eq!(device.resume(5), Ok(()));
+        assert_eq!(device.record.sequence, Sequence::Nothing);
+        assert_refused(&device, &area, &part(0, 20, &[0; 4]), 13);
+        assert_eq!(device.suspend(5, 1), Ok(()));
+        assert_refused(&device, &area, &part(0, 20, &[0; 4]), 26);
+        assert_eq!(area, before);
+    }
+
+    #[test]
+    fn other_calls_carry_the_sequence_on() {
+        let (mut device, mut area) = receiver();
+        device.resume(6).unwrap();
+        assert_eq!(device.set_state(&mut area, &part(1, 0, &[0; 16])), Ok(0));
+        let open = Sequence::Open { owner: 5, end: 16 };
+        assert_eq!(device.start(6, &one_range()), Ok(()));
+        assert_eq!(device.write(&note(6, 65536, 1)), Ok(1));
+        assert_eq!(device.batch(&[note(6, 69632, 1), note(5, 0, 1)]).unwrap().refusal, Some(4));
+        assert_eq!(device.receive(6, &mut [0; 64]), Ok(()));
+        assert_eq!(device.stop(6), Ok(()));
+        for kind in 0..2 {
+            assert_eq!(device.suspend(5, kind), Ok(()));
+            assert_eq!(device.suspend(6, kind), Ok(()));
+        }
+        assert_eq!(device.suspend(5, 2), Err(15));
+        assert_eq!(device.record.sequence, open);
+        // Of the owner itself these two are refused.
+        assert_eq!(device.start(5, &one_range()), Err(Reason { number: 4, row: None }));
+        assert_eq!(device.stop(5), Err(4));
+        assert_eq!(device.record.sequence, open);
+    }
+
+    #[test]
+    fn a_sequence_makes_a_record_unsound() {
+        let (mut device, area) = receiver();
+        for (owner, end) in [(5, 6), (5, 0), (5, 4100), (9, 16)].iter() {
+            device.record.sequence = Sequence::Open { owner: *owner, end: *end };
+            let before = device.clone();
+            assert_refused(&device, &area, &part(1, 0, &[0; 4]), 1);
+            assert_eq!(device.resume(5), Err(1));
+            assert_eq!(device.suspend(5, 1), Err(1));
+            assert_eq!(device.batch(&[]), Err(1));
+            assert_eq!(device, before);
+        }
     }
 
     #[test]

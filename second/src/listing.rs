@@ -7,9 +7,9 @@ pub const MOST_BYTES: usize = 1023;
 
 /// "decimal numbers ... that fit their fields (identifiers and limit 16 bits, addresses and bytes 64, lengths 32,
 /// granularities and type 8)"
-const BITS_8: u64 = 255;
-const BITS_16: u64 = 65535;
-const BITS_32: u64 = 4294967295;
+pub const BITS_8: u64 = 255;
+pub const BITS_16: u64 = 65535;
+pub const BITS_32: u64 = 4294967295;
 const BITS_64: u64 = 18446744073709551615;
 /// "rule (0 or 1)"
 const GREATEST_RULE: u64 = 1;

@@ -14,6 +14,7 @@ mod reports;
 mod rules;
 mod session;
 mod shelf;
+mod state;
 mod structure;
 #[cfg(test)]
 mod tests;

@@ -1,6 +1,6 @@
 //! The rules of document 01 that speak of plain numbers: settings, granularities, ranges and whose a unit is (with
-//! change requests W2 and W3 of document 02), touching, and when a device record is sound. Nothing here knows of a
-//! session.
+//! change requests W2 and W3 of document 02), touching, and when a device record is sound (with W6). Nothing here knows
+//! of a session.
 //!
 //! Arithmetic on addresses is done in 128 bits and stops at the greatest number there (saturates) instead of
 //! wrapping. No number that passes the rules comes near it; one that stops there is far past 2^64 and so is
@@ -29,6 +29,11 @@ pub const LENGTH_0: Refusal = 19;
 pub const UNALIGNED: Refusal = 20;
 pub const RANGE_PAST_THE_END: Refusal = 21;
 pub const LIST_TOO_LONG: Refusal = 22;
+pub const ANOTHERS_SEQUENCE: Refusal = 23;
+pub const OFFSET: Refusal = 24;
+pub const PART_FORM: Refusal = 25;
+pub const OUT_OF_SEQUENCE: Refusal = 26;
+pub const STATE: Refusal = 27;
 
 /// "tracks, for up to 8 migratable controllers".
 pub const MOST_CONTROLLERS: usize = 8;
@@ -38,6 +43,10 @@ pub const MOST_RANGES: usize = 16;
 pub const MOST_UNITS: u128 = 4096;
 /// W4: "At most 1,024 records."
 pub const MOST_NOTES: usize = 1024;
+/// W6: "the state is at most 4,096 bytes, in one lent area of that size"
+pub const STATE_BYTES: usize = 4096;
+/// The dwords in which W6 counts.
+pub const DWORD_BYTES: usize = 4;
 /// "least ≤ greatest ≤ 20 (house)".
 pub const GREATEST_GRANULARITY: u64 = 20;
 /// "The descriptor limit (CMMRTD), 0 to 128."
@@ -94,12 +103,25 @@ pub struct Controller {
     pub ranges: [Range; MOST_RANGES],
 }
 
-/// A device record: the settings, and a controller for each place of an identifier. The default is the closed
-/// device, "all zeros".
+/// The parts of a controller's state that have come so far (W6): "One sequence exists per device". The owner is an
+/// identifier, and the end is where its last accepted part ended.
+#[derive(Clone, Copy, Debug, Default, PartialEq, Eq)]
+pub enum Sequence {
+    #[default]
+    Nothing,
+    Open {
+        owner: u64,
+        end: u64,
+    },
+}
+
+/// A device record: the settings, a controller for each place of an identifier, and the open sequence. The default is
+/// the closed device, "all zeros".
 #[derive(Clone, Debug, Default, PartialEq, Eq)]
 pub struct Record {
     pub settings: Settings,
     pub controllers: [Controller; MOST_CONTROLLERS],
+    pub sequence: Sequence,
 }
 
 impl Settings {
@@ -320,9 +342,27 @@ pub fn limit_passed(record: &Record, requested: usize) -> bool {
     counts_together(record).saturating_add(requested as u128) > u128::from(record.settings.limit)
 }
 
+/// W6: "An open one is unsound if its owner isn't suspended or its end isn't whole dwords, 4 to 4,096 bytes." An owner
+/// that isn't in the settings has no controller that could be suspended: an unused place isn't looked at.
+pub fn sequence_broken(record: &Record) -> bool {
+    let (owner, end) = match record.sequence {
+        Sequence::Nothing => return false,
+        Sequence::Open { owner, end } => (owner, end),
+    };
+    let mut suspended = Vec::new();
+    for (identifier, controller) in record.settings.used_identifiers().iter().zip(&record.controllers) {
+        if controller.suspended {
+            suspended.push(*identifier);
+        }
+    }
+    let mut ends = (DWORD_BYTES..=STATE_BYTES).step_by(DWORD_BYTES);
+    !suspended.contains(&owner) || !ends.any(|whole| whole as u64 == end)
+}
+
 /// Refusal 1, its first half: "A record is sound exactly if its settings would pass 16, each tracked controller's
 /// granularity and ranges would pass 7, 9, 10 and 11, and the counts together are within the limit. Unused places
-/// aren't looked at". W3: "9 becomes 18 ..., 19 ..., 20 ..., 21"; here it is all one which of them, and which row.
+/// aren't looked at". W3: "9 becomes 18 ..., 19 ..., 20 ..., 21"; here it is all one which of them, and which row. W6
+/// adds the open sequence.
 pub fn sound(record: &Record) -> bool {
     let settings = &record.settings;
     if settings_broken(settings) {
@@ -340,7 +380,7 @@ pub fn sound(record: &Record) -> bool {
             }
         }
     }
-    counts_together(record) <= u128::from(settings.limit)
+    counts_together(record) <= u128::from(settings.limit) && !sequence_broken(record)
 }
 
 /// Refusal 14: "a written range ends past 2^64".
@@ -857,7 +897,7 @@ mod tests {
             record.controllers[place].ranges[0] = range(3, 0);
         }
         assert!(sound(&record));
-        // The suspended flag has nothing to do with soundness.
+        // With nothing open the suspended flag has nothing to do with soundness.
         record.controllers[0].suspended = true;
         record.controllers[1].suspended = true;
         assert!(sound(&record));
@@ -875,6 +915,60 @@ mod tests {
         more.settings.number = 3;
         more.settings.limit = 128;
         assert!(!sound(&more));
+    }
+
+    /// The record above with controller 6 suspended and this sequence open.
+    fn opened(owner: u64, end: u64) -> Record {
+        let mut record = record();
+        record.controllers[1].suspended = true;
+        record.sequence = Sequence::Open { owner, end };
+        record
+    }
+
+    #[test]
+    fn ends_of_an_open_sequence() {
+        for end in [4, 8, 12, 44, 48, 2048, 4088, 4092, 4096].iter() {
+            assert!(sound(&opened(6, *end)), "{}", end);
+        }
+        for end in [0, 1, 2, 3, 5, 6, 7, 10, 47, 4093, 4095, 4097, 4098, 4100, 8192, 65532, 65535, u64::MAX].iter() {
+            assert!(!sound(&opened(6, *end)), "{}", end);
+        }
+        // Nothing open: nobody need be suspended.
+        assert!(sound(&record()));
+    }
+
+    #[test]
+    fn owners_of_an_open_sequence() {
+        // Controller 5 runs; 1 is the manager; the others are unknown.
+        for owner in [5, 1, 0, 7, 262, 65535, u64::MAX].iter() {
+            assert!(!sound(&opened(*owner, 16)), "{}", owner);
+        }
+        // It is the owner who must be suspended, and being tracked is all one.
+        let mut record = opened(5, 16);
+        record.controllers[0].suspended = true;
+        assert!(sound(&record));
+        record.controllers[1].suspended = false;
+        assert!(sound(&record));
+        record.controllers[0].tracking = on(0, 1);
+        record.controllers[0].ranges[0] = range(65536, 4);
+        assert!(sound(&record));
+        record.controllers[0].suspended = false;
+        assert!(!sound(&record));
+    }
+
+    #[test]
+    fn an_unused_place_owns_nothing() {
+        let mut record = opened(7, 16);
+        record.settings.identifiers[2] = 7;
+        record.controllers[2].suspended = true;
+        assert!(!sound(&record));
+        record.settings.number = 3;
+        assert!(sound(&record));
+        // The owner stands in two places, and the used one runs.
+        let mut record = opened(5, 16);
+        record.settings.identifiers[2] = 5;
+        record.controllers[2].suspended = true;
+        assert!(!sound(&record));
     }
 
     #[test]

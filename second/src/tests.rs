@@ -1404,8 +1404,9 @@ fn damaged_lines() {
 /// Document 01 has seven words; those of a shelf listing are not among them.
 #[test]
 fn lines_of_a_shelf_listing() {
-    let lines = ["batch", "batch 5 65536 1", "batch 7 0 1", "burst 0 5 0 0", "burst 1 5 65536 1", "burst 1025 5 0 0"];
-    for line in lines.iter() {
+    let batches = ["batch", "batch 5 65536 1", "batch 7 0 1", "burst 0 5 0 0", "burst 1 5 65536 1", "burst 1025 5 0 0"];
+    let parts = ["part 5 1 0 0 1 00000000", "part 5 2 0 0 0 -", "part 9 4 2 0 1 -", "part 5 1 0 0 1"];
+    for line in batches.iter().chain(&parts) {
         check(
             &Session::answer,
             &[

@@ -2,7 +2,6 @@
 
 use calls::Batched;
 use calls::WriteRecord;
-use fields::Number;
 use output::Buffer;
 use output::Waiting;
 use rules::Bytes;
@@ -19,13 +18,6 @@ struct Burst {
     list: [WriteRecord; 1025],
 }
 
-// A number in the field after a place: whether it is there and fits, and where its field ends.
-struct Taken {
-    ok: bool,
-    end: usize,
-    value: u64,
-}
-
 // A record in the three fields after a place: whether it is there, and where the last field ends.
 struct Read {
     ok: bool,
@@ -34,34 +26,6 @@ struct Read {
 }
 
 // ---- fields
-
-// The number in the field after the space at `at`, if it is at most `most`.
-fn take(line: &[u8], at: usize, most: u64) -> Taken
-    requires { ⌜ at ≤ length (now line) ⌝ }
-    ensures { λ r. ⌜ (at ≤ r .end) × (r .end ≤ length (now (line .entry))) × (r .ok ≡ true → (at < r .end) × (r .value ≤ most)) ⌝ }
-{
-    if at >= line.len() {
-        return Taken {
-            ok: false,
-            end: at,
-            value: 0,
-        };
-    }
-    let from = at + 1;
-    let to = fields::field_end(line, from);
-    let Number::Is(value) = fields::read_number(&line[from..to], most) else {
-        return Taken {
-            ok: false,
-            end: to,
-            value: 0,
-        };
-    };
-    Taken {
-        ok: true,
-        end: to,
-        value,
-    }
-}
 
 // A record of zeros.
 fn no_record() -> WriteRecord {
@@ -78,9 +42,9 @@ fn read_record(line: &[u8], at: usize) -> Read
     requires { ⌜ at ≤ length (now line) ⌝ }
     ensures { λ r. ⌜ (r .end ≤ length (now (line .entry))) × (r .ok ≡ true → at < r .end) ⌝ }
 {
-    let id = take(line, at, 65535);
-    let address = take(line, id.end, u64::MAX);
-    let bytes = take(line, address.end, u64::MAX);
+    let id = fields::take(line, at, 65535);
+    let address = fields::take(line, id.end, u64::MAX);
+    let bytes = fields::take(line, address.end, u64::MAX);
     if id.ok {
         if address.ok {
             if bytes.ok {
@@ -153,7 +117,7 @@ fn batch_line(line: &[u8], end: usize) -> Burst
 fn burst_line(line: &[u8], end: usize) -> Burst
     requires { ⌜ end ≤ length (now line) ⌝ }
 {
-    let count = take(line, end, 2000);
+    let count = fields::take(line, end, 2000);
     let read = read_record(line, count.end);
     if !count.ok {
         return bad();

@@ -16,22 +16,25 @@ use Rattle.rules.specs.Settings.{shareSize, shareAt, placeOf}
 use Rattle.rules.specs.Units.{Unit, Write, units, mark, newly}
 use Rattle.rules.specs.StartData.{granularityOf, countOf, rangesOf, placed}
 use Rattle.rules.specs.Report.{Report, room, reportOn, marksLeft, reportBytes}
-use Rattle.rules.specs.Order.{freshOrder, startOrder, stopOrder, writeOrder, batchOrder, receiveOrder, suspendOrder, resumeOrder}
+use Rattle.rules.specs.Order.{freshOrder, startOrder, stopOrder, writeOrder, batchOrder, receiveOrder, suspendOrder, resumeOrder, Part, offsetOf, isLast, joinedWith, partOrder}
 use Rattle.rules.specs.Device.{freshOf}
 use Rattle.rules.specs.Machine.{noReport}
 use Rattle.rules.specs.declared.Range.{Range}
 use Rattle.rules.specs.declared.Tracking.{Tracking}
 use Rattle.rules.specs.declared.Tracking.the-variants.{Off, On}
+use Rattle.rules.specs.declared.Sequence.{Sequence}
+use Rattle.rules.specs.declared.Sequence.the-variants.{Nothing, Open}
 use Rattle.rules.specs.declared.Controller.{Controller}
 use Rattle.rules.specs.declared.Settings.{Settings}
 use Rattle.rules.specs.declared.Device.{Device}
-use Rattle.record.specs.Record.{soundWith, controllerAt, withController, seenIn}
+use Rattle.record.specs.Record.{soundWith, controllerAt, withController, withSequence, seenIn, ownedBy, frontIn, arrivingIn}
 use Rattle.calls.specs.declared.Changed.{Changed}
 use Rattle.calls.specs.declared.Started.{Started}
 use Rattle.calls.specs.declared.Written.{Written}
 use Rattle.calls.specs.declared.WriteRecord.{WriteRecord}
 use Rattle.calls.specs.declared.Batched.{Batched}
 use Rattle.calls.specs.declared.Received.{Received}
+use Rattle.calls.specs.declared.StateSet.{StateSet}
 
 -- ---- a controller's marks
 
@@ -98,7 +101,7 @@ stopAt d ws p = verdict (stopOrder (seenIn d (length ws) p)) (stopDone d ws p) (
 unfoldable pub stopChange : Device → List ℕ → ℕ → Change Changed
 stopChange d ws id = stopAt d ws (placeOf (d .settings) id)
 
--- suspend and resume change the flag alone
+-- a suspend changes the flag alone
 abbrev pub flagged : Controller → Bool → Controller
 flagged c b = record { tracking = c .tracking; suspended = b; ranges = c .ranges }
 
@@ -113,11 +116,19 @@ suspendAt d words kind p =
 unfoldable pub suspendChange : Device → ℕ → ℕ → ℕ → Changed
 suspendChange d words id kind = suspendAt d words kind (placeOf (d .settings) id)
 
-abbrev pub resumeAt : Device → ℕ → Option ℕ → Changed
-resumeAt d words p = verdict (resumeOrder (seenIn d words p)) (flagDone d p false) (λ n i. record { number = n; device = d })
+-- a resume changes the flag, and drops a state of its own that is under way (W6)
+abbrev pub dropped : ℕ → Sequence → Sequence
+dropped id q = cond (ownedBy id q) Nothing q
+
+abbrev pub resumeDone : Device → ℕ → Option ℕ → Changed
+resumeDone d id none = record { number = 0; device = d }
+resumeDone d id (some i) = record { number = 0; device = withSequence (withController d i (flagged (controllerAt d (some i)) false)) (dropped id (d .sequence)) }
+
+abbrev pub resumeAt : Device → ℕ → ℕ → Option ℕ → Changed
+resumeAt d words id p = verdict (resumeOrder (seenIn d words p)) (resumeDone d id p) (λ n i. record { number = n; device = d })
 
 unfoldable pub resumeChange : Device → ℕ → ℕ → Changed
-resumeChange d words id = resumeAt d words (placeOf (d .settings) id)
+resumeChange d words id = resumeAt d words id (placeOf (d .settings) id)
 
 -- ---- write
 
@@ -212,3 +223,26 @@ receiveAt d ws id x p = verdict (receiveOrder (seenIn d (length ws) p) x) (recei
 
 unfoldable pub receiveReceipt : Device → List ℕ → ℕ → List ℕ → Receipt
 receiveReceipt d ws id x = receiveAt d ws id x (placeOf (d .settings) id)
+
+-- ---- a part of a state (W6)
+
+-- what a part answers, and the area that it leaves
+pub record Arrival : Type 0 where
+  pub answer : StateSet
+  pub area : List ℕ
+
+abbrev pub arrival : ℕ → ℕ → Device → List ℕ → Arrival
+arrival n whole d area = record { answer = record { number = n; whole = whole; device = d }; area = area }
+
+-- its data are stored in their place. The last part yields the whole and ends the sequence, any other leaves it open
+abbrev pub partDone : Device → List ℕ → ℕ → Part → Arrival
+partDone d area id p =
+    let joined = joinedWith (frontIn id (d .sequence) area) p in
+    let stored = put area (offsetOf p) (p .bytes) in
+    cond (isLast p) (arrival 0 (length joined) (withSequence d Nothing) stored) (arrival 0 0 (withSequence d (Open id (length joined))) stored)
+
+abbrev pub partAt : Device → ℕ → List ℕ → ℕ → Part → Option ℕ → Arrival
+partAt d words area id p i = verdict (partOrder (seenIn d words i) (arrivingIn (d .sequence) area id) p) (partDone d area id p) (λ n j. arrival n 0 d area)
+
+unfoldable pub partChange : Device → ℕ → List ℕ → ℕ → Part → Arrival
+partChange d words area id p = partAt d words area id p (placeOf (d .settings) id)

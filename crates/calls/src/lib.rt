@@ -53,6 +53,13 @@ pub struct Received {
     pub runs: usize,
 }
 
+// The answer to a part of a state: its number, how many bytes the state has where this was its last part, else 0, and the record as it is afterwards.
+pub struct StateSet {
+    pub number: u8,
+    pub whole: usize,
+    pub device: Device,
+}
+
 // The bits of each controller's share of the marks: 64 words.
 pub const SHARE: usize = 4096;
 

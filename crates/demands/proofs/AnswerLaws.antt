@@ -7,20 +7,22 @@ use mathlib.Core.Option.{Option, none, some}
 use Prim.Native.Nat.{ℕ}
 use lib.Dec.{eqb}
 use lib.ListN.{length}
+use Rattle.little.specs.Little.{put}
 use Rattle.rules.specs.Refusals.{Test, verdict, refusal, placeIn}
 use Rattle.rules.specs.Settings.{shareAt, markWords, settingsOk, placeOf}
 use Rattle.rules.specs.Units.{Write}
-use Rattle.rules.specs.Order.{freshOrder, startOrder}
+use Rattle.rules.specs.Order.{freshOrder, startOrder, Part, offsetOf, isLast, joinedWith}
 use Rattle.rules.specs.Device.{closedDevice, freshOf}
+use Rattle.rules.specs.declared.Sequence.the-variants.{Nothing, Open}
 use Rattle.rules.specs.declared.Settings.{Settings}
 use Rattle.rules.specs.declared.Device.{Device}
 use Rattle.rules.specs.declared.Range.{Range}
 use Rattle.rules.specs.declared.Tracking.{Tracking}
 use Rattle.rules.specs.declared.Tracking.the-variants.{Off, On}
 use Rattle.rules.proofs.RefusalLaws.{verdict-has, verdict-map}
-use Rattle.record.specs.Record.{controllerAt, seenIn}
+use Rattle.record.specs.Record.{controllerAt, withSequence, seenIn, frontIn}
 use Rattle.calls.specs.declared.Started.{Started}
-use Rattle.calls.specs.Calls.{freshChange, Change, startedWith, startDone, startChange, stopDone, flagDone, noteIn, writeDone, receiveIn, receiveDone}
+use Rattle.calls.specs.Calls.{freshChange, Change, startedWith, startDone, startChange, stopDone, flagDone, resumeDone, noteIn, writeDone, receiveIn, receiveDone, arrival, partDone}
 use Rattle.demands.specs.Demand1.{Answers}
 
 -- what a table's call answers: the first test's number, and refused what is had of every refusal
@@ -63,6 +65,17 @@ stop-zero d ws (some i) = refl
 pub flag-zero : (d : Device) (p : Option ℕ) (b : Bool) → flagDone d p b .number ≡ 0
 flag-zero d none b = refl
 flag-zero d (some i) b = refl
+
+pub resume-zero : (d : Device) (id : ℕ) (p : Option ℕ) → resumeDone d id p .number ≡ 0
+resume-zero d id none = refl
+resume-zero d id (some i) = refl
+
+pub part-zero : (d : Device) (area : List ℕ) (id : ℕ) (p : Part) → partDone d area id p .answer .number ≡ 0
+part-zero d area id p = go (isLast p) (length (joinedWith (frontIn id (d .sequence) area) p)) (put area (offsetOf p) (p .bytes))
+  where
+    go : (b : Bool) (n : ℕ) (x : List ℕ) → (cond b (arrival 0 n (withSequence d Nothing) x) (arrival 0 0 (withSequence d (Open id n)) x)) .answer .number ≡ 0
+    go true n x = refl
+    go false n x = refl
 
 note-zero : (ws : List ℕ) (base : ℕ) (t : Tracking) (rs : List Range) (w : Write) → noteIn ws base t rs w .answer .number ≡ 0
 note-zero ws base Off rs w = refl

@@ -16,6 +16,7 @@ asks =
       receive = λ κs a. tt;
       suspend = λ κs a. tt;
       resume = λ κs a. tt;
+      set-state = λ κs a. tt;
       read-header = λ κs a. tt;
       read-ranges = λ κs a. tt;
       read-start = λ κs a. tt;
@@ -46,6 +47,7 @@ calls =
       receive = λ κs a r e p. p;
       suspend = λ κs a r e p. p;
       resume = λ κs a r e p. p;
+      set-state = λ κs a r e p. p;
     }
 
 batch : BatchIs

@@ -11,7 +11,7 @@ use borrow.Author.Tests.{le-leb, lt-leb, eq-eqb}
 use Rattle.rules.specs.Refusals.{_else_, refusal}
 use Rattle.rules.specs.Settings.{placeOf, granularityOk}
 use Rattle.rules.specs.StartData.{granularityOf, countOf, headerTests, readTests, startData}
-use Rattle.rules.specs.Order.{Seen, startOrder, stopOrder, writeOrder, receiveOrder, suspendOrder, resumeOrder}
+use Rattle.rules.specs.Order.{Seen, startOrder, stopOrder, writeOrder, receiveOrder, suspendOrder, resumeOrder, partOrder}
 use Rattle.rules.specs.Machine.{soundState, noReport}
 use Rattle.rules.proofs.RefusalLaws.{verdict-refused}
 use Rattle.rules.proofs.NameLaws.{early, names}
@@ -21,11 +21,11 @@ use Rattle.rules.specs.ReportReader.{reportTests, reportRefusal}
 use Rattle.rules.specs.declared.Settings.{Settings}
 use Rattle.rules.specs.declared.Header.the-variants.{Is, Refused}
 use Rattle.rules.specs.declared.Device.{Device}
-use Rattle.record.specs.Record.{controllerAt, seenIn}
+use Rattle.record.specs.Record.{controllerAt, seenIn, arrivingIn}
 use Rattle.start_data.specs.Answer.{Said}
 use Rattle.start_data.proofs.Answers.{headerOf-says, startData-says, startData-none, startWritten-refused}
 use Rattle.report_reader.proofs.AnswerLaws.{refused-answer, index-zero}
-use Rattle.calls.specs.Calls.{Change, changed, startedWith, startDone, startChange, stopDone, stopChange, flagDone, suspendChange, resumeChange, Note, noted, writeDone, writeNote, Receipt, received, receiveDone, receiveReceipt}
+use Rattle.calls.specs.Calls.{Change, changed, startedWith, startDone, startChange, stopDone, stopChange, flagDone, suspendChange, resumeDone, resumeChange, Note, noted, writeDone, writeNote, Receipt, received, receiveDone, receiveReceipt, Arrival, arrival, partDone, partChange}
 use Rattle.calls.specs.declared.Changed.{Changed}
 use Rattle.calls.specs.declared.Started.{Started}
 use Rattle.demands.specs.Sessions.{begun, endOf}
@@ -33,7 +33,7 @@ use Rattle.demands.specs.Demand1.{Answers, Demand1, Soundness}
 use Rattle.demands.proofs.ViewLaws.{sound-same}
 use Rattle.demands.proofs.SessionLaws.{begins, fits-after}
 use Rattle.demands.proofs.ClosedLaws.{fresh-done, closed-session, closed-answer, session}
-use Rattle.demands.proofs.AnswerLaws.{answers, fresh-answers, start-zero, row-is, stop-zero, flag-zero, write-zero, receive-zero}
+use Rattle.demands.proofs.AnswerLaws.{answers, fresh-answers, start-zero, row-is, stop-zero, flag-zero, resume-zero, write-zero, receive-zero, part-zero}
 
 -- a start answers by its table
 start-number : (d : Device) (ws : List ℕ) (id : ℕ) (x : List ℕ)
@@ -75,7 +75,7 @@ unfolding granularityOk
 eight s v x = refl
 
 pub demand-1 : Demand1
-unfolding stopChange writeNote receiveReceipt suspendChange resumeChange
+unfolding stopChange writeNote receiveReceipt suspendChange resumeChange partChange
 demand-1 =
     record {
       fresh = fresh-answers;
@@ -105,8 +105,12 @@ demand-1 =
           (flag-zero d (placeOf (d .settings) id) (controllerAt d (placeOf (d .settings) id) .suspended || eqb kind 1)) (λ n i. refl) (λ n i. refl);
       resume = λ d words id.
           answers Changed (λ c. c .number) (λ c. c .device ≡ d)
-          (resumeOrder (seenIn d words (placeOf (d .settings) id))) (flagDone d (placeOf (d .settings) id) false) (λ n i. record { number = n; device = d })
-          (flag-zero d (placeOf (d .settings) id) false) (λ n i. refl) (λ n i. refl);
+          (resumeOrder (seenIn d words (placeOf (d .settings) id))) (resumeDone d id (placeOf (d .settings) id)) (λ n i. record { number = n; device = d })
+          (resume-zero d id (placeOf (d .settings) id)) (λ n i. refl) (λ n i. refl);
+      part = λ d words area id p.
+          answers Arrival (λ a. a .answer .number) (λ a. (a .answer .whole ≡ 0) × (a .answer .device ≡ d) × (a .area ≡ area))
+          (partOrder (seenIn d words (placeOf (d .settings) id)) (arrivingIn (d .sequence) area id) p) (partDone d area id p) (λ n j. arrival n 0 d area)
+          (part-zero d area id p) (λ n j. refl) (λ n j. (refl, refl, refl));
       read-header = λ x.
           let e = headerOf-says x in
           record {
@@ -150,14 +154,14 @@ pub soundness : Soundness
 soundness =
     record {
       held = held;
-      kept = λ s ws ks eight e.
-          let f = fresh-done s ws e in
-          let fits = fits-after ks (begun s ws) (begins s ws eight (f .0) (f .1) .fits) in (
-            sym (sound-same (endOf s ws ks .device) (endOf s ws ks .marks) fits) ∙ ap soundState (session s ws ks eight .state)
-                ∙ rules.soundness .kept s (length ws) ks (sym (fresh-answers s ws .first) ∙ e),
+      kept = λ s m ks sized e.
+          let f = fresh-done s (m .marks) e in
+          let fits = fits-after ks (begun s m) (begins s m sized (f .0) (f .1) .fits) in (
+            sym (sound-same (endOf s m ks .device) (endOf s m ks .marks) (endOf s m ks .area) fits) ∙ ap soundState (session s m ks sized .state)
+                ∙ rules.soundness .kept s (length (m .marks)) ks (sym (fresh-answers s (m .marks) .first) ∙ e),
             fits .words,
           );
-      closed = λ s ws ks k e.
-          let z = closed-session s ws ks e in
-          (z, rw z (closed-answer ws k .0), rw z (closed-answer ws k .1));
+      closed = λ s m ks k e.
+          let z = closed-session s m ks e in
+          (z, rw z (closed-answer m k .0), rw z (closed-answer m k .1));
     }

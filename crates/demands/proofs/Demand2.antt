@@ -1,6 +1,6 @@
 -- Demand 2, proved of the calls: what a session leaves is what the rules' session leaves, and of that the rules' demand 2 is proved. Assumes nothing.
 use mathlib.Core.Path.{_≡_, refl, sym, ap, ap₂, subst, _∙_}
-use mathlib.Core.Logic.{_↔_}
+use mathlib.Core.Logic.{_≢_, _↔_}
 use mathlib.Core.Bool.{Bool, true, false, _||_, cond, true≢false}
 use mathlib.Core.List.{List, [], _∷_, _++_, map}
 use mathlib.Core.Option.{Option, none, some}
@@ -9,7 +9,7 @@ use native.Mathlib.Omega.{arith}
 use lib.Dec.{leb, eqb}
 use lib.Seq.{getD-take}
 use lib.ListN.{length, take, getD, getElem?, replicate, length-map, length-take}
-use borrow.Author.Tests.{eq-eqb, le-leb, leb-true, leb-false, not-true}
+use borrow.Author.Tests.{eq-eqb, ne-eqb, le-leb, leb-true, leb-false, not-true}
 use Rattle.bits.specs.Flat.{flat}
 use Rattle.bits.proofs.Flat.{flat-at}
 use Rattle.bits.proofs.Share.{getShare-at}
@@ -21,15 +21,17 @@ use Rattle.rules.specs.Units.{Unit, Write, units, touches, mark, newly}
 use Rattle.rules.specs.Ranges.{powersOk}
 use Rattle.rules.specs.StartData.{granularityOf, countOf, rangesOf, headerTests, placed}
 use Rattle.rules.specs.Report.{descriptor, room, marksLeft, reportedRuns, reportBytes}
-use Rattle.rules.specs.Order.{Op, start, stop, write, receive, Seen, order, startWho, startListed, startOwn, startShared, startOrder, stopOrder, writeOrder, receiveOrder}
+use Rattle.rules.specs.Order.{Op, start, stop, write, receive, Part, Seen, order, startWho, startListed, startOwn, startShared, startOrder, stopOrder, writeOrder, receiveOrder}
 use Rattle.rules.specs.Device.{cleaned, freshDevice, freshOf}
-use Rattle.rules.specs.Machine.{off, on, slot, isSuspended, refused, noReport, State, countsIn, seenAt, slotOf, slotAt, Call, lent}
+use Rattle.rules.specs.Machine.{off, on, Slot, isSuspended, refused, noReport, State, countsIn, seenAt, slotOf, slotAt, Call, lent}
 use Rattle.rules.specs.History.{Did, pendingBy, PendingBy, tracksBy, suspendedBy, marksBy, slotBy}
 use Rattle.rules.specs.Demands.{sessionEnd, UnitsListed}
 use Rattle.rules.specs.declared.Range.{Range}
 use Rattle.rules.specs.declared.Settings.{Settings}
 use Rattle.rules.specs.declared.Tracking.{Tracking}
 use Rattle.rules.specs.declared.Tracking.the-variants.{Off, On}
+use Rattle.rules.specs.declared.Sequence.{Sequence}
+use Rattle.rules.specs.declared.Sequence.the-variants.{Nothing, Open}
 use Rattle.rules.specs.declared.Controller.{Controller}
 use Rattle.rules.specs.declared.Device.{Device}
 use Rattle.rules.proofs.ListLaws.{All, All-append, not-intro, getElem?-at}
@@ -40,24 +42,27 @@ use Rattle.rules.proofs.SlotHistory.{pendingBy-iff}
 use Rattle.rules.proofs.StateLaws.{placeOf-is, cleaned-place, after-settings}
 use Rattle.rules.proofs.SoundLaws.{fresh-opens}
 use Rattle.rules.proofs.Theorems as rules
-use Rattle.record.specs.Record.{soundWith, noController, controllerAt, withController, seenIn}
+use Rattle.record.specs.Record.{soundWith, noController, controllerAt, withController, seenIn, arrivingIn}
 use Rattle.ranges.proofs.RangeLaws.{HeldFacts}
 use Rattle.record.proofs.RecordLaws.{soundDevice-facts, soundDevice-held}
 use Rattle.report_data.proofs.Blocks.{reportBytes-length, report-rest}
 use Rattle.report_reader.proofs.ReadBack.{reads-back}
 use Rattle.calls.specs.declared.Changed.{Changed}
 use Rattle.calls.specs.declared.Started.{Started}
-use Rattle.calls.specs.Calls.{marksAt, withMarks, withClear, freshChange, Change, changed, startedWith, startDone, startChange, stopDone, stopChange, flagDone, suspendChange, resumeChange, Note, noted, writeDone, writeNote, Receipt, received, reportIn, receiveDone, receiveReceipt}
-use Rattle.demands.specs.View.{marksOf, view, run}
-use Rattle.demands.specs.Sessions.{Left, begun, outcome, endOf, historyIn}
-use Rattle.demands.specs.Demand2.{Shaped, Steps, bitOf, toldOf, Elsewhere, Kept, Flagged, Replaced, Wrote, Received, Tracked, Moves, starts, stops, writes, Stands, Demand2}
+use Rattle.calls.specs.declared.StateSet.{StateSet}
+use Rattle.calls.specs.Calls.{marksAt, withMarks, withClear, freshChange, Change, changed, startedWith, startDone, startChange, stopDone, stopChange, flagDone, suspendChange, dropped, resumeDone, resumeChange, Note, noted, writeDone, writeNote, Receipt, received, reportIn, receiveDone, receiveReceipt, Arrival, partChange}
+use Rattle.demands.specs.View.{marksOf, slotOf as slotSeen, frontAt, view, run}
+use Rattle.demands.specs.Sessions.{Left, Given, Sized, begun, outcome, endOf, historyIn}
+use Rattle.demands.specs.Parts.{wholeBy, IsFinal, Arrives}
+use Rattle.demands.specs.Demand2.{Shaped, Steps, bitOf, toldOf, Elsewhere, Kept, flaggedAt, Resumed, Replaced, Wrote, Received, Tracked, Moves, starts, stops, writes, Stands, Demand2}
 use Rattle.demands.proofs.MarkLaws.{clear-bit, clear-elsewhere, put-bit, put-elsewhere}
-use Rattle.demands.proofs.ViewLaws.{Listed, Fits, slot-at, seen-same, placeOf-used}
+use Rattle.demands.proofs.ViewLaws.{Listed, Fits, slot-at, seen-same, placeOf-used, front-own}
 use Rattle.demands.proofs.StepLaws.{order-numbers, call-step}
 use Rattle.demands.proofs.SessionLaws.{begins, fits-after}
 use Rattle.demands.proofs.ClosedLaws.{fresh-done, session, history-same, slot-same, equals}
 use Rattle.demands.proofs.AnswerLaws.{fresh-answers, write-zero}
 use Rattle.demands.proofs.Demand1.{soundness}
+use Rattle.demands.proofs.Parts.{arrives, part-unknown}
 
 -- ---- fresh
 
@@ -90,6 +95,11 @@ getD-map f (v ∷ us) (suc m) u q = getD-map f us m u (omega (arith, q .0), q .1
 listed-few : (k : ℕ) (us : List Unit) (p : List Bool) → length (map descriptor (reportedRuns k us p)) ≤ k
 listed-few k us p = rw (length-map, length-take) (omega arith)
 
+-- dropping a sequence of its own leaves another's
+dropped-other : (a : ℕ) (q : Sequence) → ((end : ℕ) → q ≢ Open a end) → dropped a q ≡ q
+dropped-other a Nothing f = refl
+dropped-other a (Open owner end) f = rw (ne-eqb owner a (λ e. f end (ap (λ x. Open x end) e)))
+
 -- ---- what a session leaves
 
 -- what the record holds of a controller that is tracked with granularity g and ranges rs
@@ -99,37 +109,40 @@ record Held (c : Controller) (l : List ℕ) (i g : ℕ) (rs : List Range) (p : L
   ranges : take n (c .ranges) ≡ rs
   marks : marksAt l (shareAt i) (length (units g rs)) ≡ p
 
-module _ (s : Settings) (ws : List ℕ) (ks : List Call) (eight : length (s .identifiers) ≡ 8) (made : freshChange s ws .answer .number ≡ 0) where
+module _ (s : Settings) (m : Given) (ks : List Call) (sizes : Sized s m) (made : freshChange s (m .marks) .answer .number ≡ 0) where
   abbrev d : Device
-  d = endOf s ws ks .device
+  d = endOf s m ks .device
 
   abbrev l : List ℕ
-  l = endOf s ws ks .marks
+  l = endOf s m ks .marks
 
-  fits : Fits d l
-  fits = let f = fresh-done s ws made in fits-after ks (begun s ws) (begins s ws eight (f .0) (f .1) .fits)
+  abbrev area : List ℕ
+  area = endOf s m ks .area
+
+  fits : Fits d l area
+  fits = let f = fresh-done s (m .marks) made in fits-after ks (begun s m) (begins s m sizes (f .0) (f .1) .fits)
 
   sure : soundWith d (length l) ≡ true
   unfolding soundWith
-  sure = let k = soundness .kept s ws ks eight made in rw (k .0, eq-eqb (length l) markWords (k .1))
+  sure = let k = soundness .kept s m ks sizes made in rw (k .0, eq-eqb (length l) markWords (k .1))
 
   settings-are : d .settings ≡ cleaned s
   settings-are =
-      ap (λ (st : State). st .settings) (session s ws ks eight .state)
+      ap (λ (st : State). st .settings) (session s m ks sizes .state)
       ∙ after-settings ks _
-      ∙ ap (λ (st : State). st .settings) (fresh-opens s (length ws) (sym (fresh-answers s ws .first) ∙ made) .0)
+      ∙ ap (λ (st : State). st .settings) (fresh-opens s (length (m .marks)) (sym (fresh-answers s (m .marks) .first) ∙ made) .0)
 
   settings-kept : Kept s (d .settings)
   settings-kept =
       subst (Kept s) (sym settings-are)
-      (record { manager = refl; least = refl; greatest = refl; powers = refl; limit = refl; count = refl; identifiers = rw eight })
+      (record { manager = refl; least = refl; greatest = refl; powers = refl; limit = refl; count = refl; identifiers = rw (sizes .places) })
 
   module _ (a : ℕ) where
     abbrev h : List Did
-    h = historyIn s ws ks a
+    h = historyIn s m ks a
 
-    is-told : slotOf (view d l) a ≡ slotBy h
-    is-told = slot-same s ws ks eight a ∙ rules.demand-2 .pending s (length ws) ks a .told ∙ ap slotBy (sym (history-same s ws ks eight a))
+    is-told : slotOf (view d l area) a ≡ slotBy h
+    is-told = slot-same s m ks sizes a ∙ rules.demand-2 .pending s (length (m .marks)) ks a .told ∙ ap slotBy (sym (history-same s m ks sizes a))
 
     place-of : placeOf (d .settings) a ≡ placeOf s a
     place-of = ap (λ (t : Settings). placeOf t a) settings-are ∙ cleaned-place s a
@@ -147,16 +160,16 @@ module _ (s : Settings) (ws : List ℕ) (ks : List Call) (eight : length (s .ide
       used = placeOf-used d a i place
 
       inside : i < 8
-      inside = omega (arith, used, soundDevice-facts d (soundness .kept s ws ks eight made .0) .count)
+      inside = omega (arith, used, soundDevice-facts d (soundness .kept s m ks sizes made .0) .count)
 
-      is-slot : slot (c .suspended) (marksOf l (shareAt i) (c .tracking) (c .ranges)) ≡ slot (suspendedBy false h) (marksBy h (tracksBy none h))
-      is-slot = sym (slot-at d l fits i used) ∙ sym (ap (slotAt (view d l)) place) ∙ is-told
+      is-slot : slotSeen l (shareAt i) c (frontAt (d .settings) (d .sequence) area i) ≡ slotBy h
+      is-slot = sym (slot-at d l area fits i used inside) ∙ sym (ap (slotAt (view d l area)) place) ∙ is-told
 
       flag-is : c .suspended ≡ suspendedBy false h
       flag-is = ap isSuspended is-slot
 
       marks-are : marksOf l (shareAt i) (c .tracking) (c .ranges) ≡ marksBy h (tracksBy none h)
-      marks-are = cc is-slot
+      marks-are = ap (λ (z : Slot). z .marks) is-slot
 
       -- ---- an accepted start, and an accepted stop
 
@@ -172,7 +185,7 @@ module _ (s : Settings) (ws : List ℕ) (ks : List Call) (eight : length (s .ide
       unfolding startChange order
       is-started x e =
           let r = verdict-done (λ (k : Change Started). k .answer .number) (startOrder (d .settings) (seenIn d (length l) (some i)) x) (startDone d l x (some i)) (λ n j. startedWith n j d l)
-          (λ n j. refl) (order-numbers (d .settings) (seenIn d (length l) (some i)) (start x)) (rw place at e) in
+          (λ n j. refl) (order-numbers (d .settings) (seenIn d (length l) (some i)) (arrivingIn (d .sequence) area a) (start x)) (rw place at e) in
           let running : c .suspended ≡ false = not-true (c .suspended) (r .1 .1 .1 .0) in
           rw place (replaced _ _ _ _ (ap (λ (k : Change Started). k .answer .device) (r .0) ∙ rw running) (ap (λ (k : Change Started). k .marks) (r .0)))
 
@@ -180,7 +193,7 @@ module _ (s : Settings) (ws : List ℕ) (ks : List Call) (eight : length (s .ide
       unfolding stopChange order
       is-stopped e =
           let r = verdict-done (λ (k : Change Changed). k .answer .number) (stopOrder (seenIn d (length l) (some i))) (stopDone d l (some i)) (λ n j. changed n d l)
-          (λ n j. refl) (order-numbers (d .settings) (seenIn d (length l) (some i)) stop) (rw place at e) in
+          (λ n j. refl) (order-numbers (d .settings) (seenIn d (length l) (some i)) (arrivingIn (d .sequence) area a) stop) (rw place at e) in
           let running : c .suspended ≡ false = not-true (c .suspended) (r .1 .1 .1 .0) in
           rw place (replaced _ _ _ _ (ap (λ (k : Change Changed). k .answer .device) (r .0) ∙ rw running) (ap (λ (k : Change Changed). k .marks) (r .0)))
 
@@ -197,25 +210,35 @@ module _ (s : Settings) (ws : List ℕ) (ks : List Call) (eight : length (s .ide
 
       is-suspend : (kind : ℕ)
           → let r = suspendChange d (length l) a kind in
-          ((r .number ≡ 0) ↔ (kind ≤ 1)) × (r .number ≡ 0 → Flagged d i (suspendedBy false h || eqb kind 1) r)
+          ((r .number ≡ 0) ↔ (kind ≤ 1)) × (r .number ≡ 0 → r .device ≡ flaggedAt d i (suspendedBy false h || eqb kind 1))
       unfolding suspendChange
       is-suspend kind = rw (place, sure) (go (leb kind 1) refl)
         where
           go : (b : Bool) → leb kind 1 ≡ b
               → let r = cond b (flagDone d (some i) (c .suspended || eqb kind 1)) (record { number = 15; device = d }) in
-              ((r .number ≡ 0) ↔ (kind ≤ 1)) × (r .number ≡ 0 → Flagged d i (suspendedBy false h || eqb kind 1) r)
+              ((r .number ≡ 0) ↔ (kind ≤ 1)) × (r .number ≡ 0 → r .device ≡ flaggedAt d i (suspendedBy false h || eqb kind 1))
           go true e = (((λ z. leb-true kind 1 e), (λ z. refl)), (λ z. rw flag-is))
           go false e = (((λ z. absurd (omega (arith, z))), (λ k. absurd (omega (arith, leb-false kind 1 e)))), (λ z. absurd (omega (arith, z))))
 
-      is-resume : let r = resumeChange d (length l) a in ((r .number ≡ 0) ↔ (suspendedBy false h ≡ true)) × (r .number ≡ 0 → Flagged d i false r)
+      is-resume : let r = resumeChange d (length l) a in ((r .number ≡ 0) ↔ (suspendedBy false h ≡ true)) × (r .number ≡ 0 → Resumed d a i (r .device))
       unfolding resumeChange
       is-resume = rw (place, sure) (go (c .suspended) flag-is)
         where
+          resumed : Resumed d a i (resumeDone d a (some i) .device)
+          resumed = record { flag = refl; drops = λ end e. rw (e, eq-eqb a a refl); keeps = dropped-other a (d .sequence) }
+
           go : (b : Bool) → b ≡ suspendedBy false h
-              → let r = cond b (flagDone d (some i) false) (record { number = 13; device = d }) in
-              ((r .number ≡ 0) ↔ (suspendedBy false h ≡ true)) × (r .number ≡ 0 → Flagged d i false r)
-          go true e = (((λ z. sym e), (λ z. refl)), (λ z. refl))
+              → let r = cond b (resumeDone d a (some i)) (record { number = 13; device = d }) in
+              ((r .number ≡ 0) ↔ (suspendedBy false h ≡ true)) × (r .number ≡ 0 → Resumed d a i (r .device))
+          go true e = (((λ z. sym e), (λ z. refl)), (λ z. resumed))
           go false e = (((λ z. absurd (omega (arith, z))), (λ k. absurd (true≢false (sym k ∙ sym e)))), (λ z. absurd (omega (arith, z))))
+
+      -- ---- a state that arrives in parts
+
+      is-arriving : Arrives (endOf s m ks) h a
+      is-arriving =
+          arrives d l area fits a i h place (soundness .kept s m ks sizes made .0) flag-is
+          (sym (front-own (d .settings) a i place (d .sequence) area) ∙ ap (λ (z : Slot). z .front) is-slot)
 
       -- ---- what is not refused
 
@@ -229,11 +252,11 @@ module _ (s : Settings) (ws : List ℕ) (ks : List Call) (eight : length (s .ide
       listed-same x = ap (λ (t : Settings). startListed t x) settings-are
 
       may-start : (x : List ℕ) → suspendedBy false h ≡ false → tracksBy none h ≡ none → passes (headerTests x ++ startListed s x) ≡ true
-          → countOf x + countsIn (sessionEnd s (length ws) ks) ≤ s .limit → startChange d l a x .answer .number ≡ 0
+          → countOf x + countsIn (sessionEnd s (length (m .marks)) ks) ≤ s .limit → startChange d l a x .answer .number ≡ 0
       unfolding startChange
       may-start x e idle ok few =
           let v = seenIn d (length l) (some i) in
-          let counts : v .counts ≡ countsIn (sessionEnd s (length ws) ks) = ap (λ (z : Seen). z .counts) (subst (λ q. seenIn d (length l) q ≡ seenAt (view d l) q) place (seen-same d l fits a)) ∙ ap countsIn (session s ws ks eight .state) in
+          let counts : v .counts ≡ countsIn (sessionEnd s (length (m .marks)) ks) = ap (λ (z : Seen). z .counts) (subst (λ q. seenIn d (length l) q ≡ seenAt (view d l area) q) place (seen-same d l area fits a)) ∙ ap countsIn (session s m ks sizes .state) in
           let structure : Passed (headerTests x ++ startListed (d .settings) x) = subst (λ (ts : List Test). Passed (headerTests x ++ ts)) (sym (listed-same x)) (passes-Passed (headerTests x ++ startListed s x) ok) in
           let who : Passed (startWho v) = (sure, (refl, (not-intro (c .suspended) (flag-is ∙ e), (rw (is-off idle) refl, tt)))) in
           let limit : d .settings .limit ≡ s .limit = ap (λ (t : Settings). t .limit) settings-are in
@@ -246,7 +269,7 @@ module _ (s : Settings) (ws : List ℕ) (ks : List Call) (eight : length (s .ide
 
       -- ---- suspended, as its calls and answers tell
 
-      is-refused : suspendedBy false h ≡ true → (o : Op) → Moves o → outcome (endOf s ws ks) (record { id = a; op = o }) ≡ record { answer = refused 4 0; device = d; marks = l; bytes = lent o }
+      is-refused : suspendedBy false h ≡ true → (o : Op) → Moves o → outcome (endOf s m ks) (record { id = a; op = o }) ≡ record { answer = refused 4 0; device = d; marks = l; area = area; bytes = lent o }
       unfolding run startChange stopChange writeNote
       is-refused e o (starts x) = rw (place, sure, flag-is, e)
       is-refused e o stops = rw (place, sure, flag-is, e)
@@ -280,7 +303,7 @@ module _ (s : Settings) (ws : List ℕ) (ks : List Call) (eight : length (s .ide
         facts : HeldFacts (d .settings) g (held .n) rs
         facts =
             subst (HeldFacts (d .settings) g (held .n)) (held .ranges)
-            (soundDevice-held d i g (held .n) (soundness .kept s ws ks eight made .0) used (omega (arith, inside, fits .controllers)) (held .tracking))
+            (soundDevice-held d i g (held .n) (soundness .kept s m ks sizes made .0) used (omega (arith, inside, fits .controllers)) (held .tracking))
 
         sized : length p ≡ length us
         sized = length-map us (pendingBy h)
@@ -320,7 +343,7 @@ module _ (s : Settings) (ws : List ℕ) (ks : List Call) (eight : length (s .ide
         unfolding writeNote order
         is-written w e =
             let r = verdict-done (λ (k : Note). k .answer .number) (writeOrder (seenIn d (length l) (some i)) w) (writeDone d l w (some i)) (λ n j. noted n 0 l)
-            (λ n j. refl) (order-numbers (d .settings) (seenIn d (length l) (some i)) (write w)) (rw place at e) in
+            (λ n j. refl) (order-numbers (d .settings) (seenIn d (length l) (some i)) (arrivingIn (d .sequence) area a) (write w)) (rw place at e) in
             let is : writeDone d l w (some i) ≡ noted 0 (newly w us p) (withMarks l (shareAt i) (mark w us p)) = rw (held .tracking, held .ranges, held .marks) in
             rw place (subst (λ (k : Note). Wrote h i us w l (k .answer .count) (k .marks)) (sym (r .0 ∙ is)) (written w))
 
@@ -340,7 +363,9 @@ module _ (s : Settings) (ws : List ℕ) (ks : List Call) (eight : length (s .ide
             record {
               report = refl;
               says = (refl, refl);
-              reports = rules.demand-2 .reports s (length ws) ks a (suspendedBy false h) g rs p (sym (slot-same s ws ks eight a) ∙ is-told ∙ ap (λ t. slot (suspendedBy false h) (marksBy h t)) by) k;
+              reports =
+                  let z = sym (slot-same s m ks sizes a) ∙ is-told in
+                  rules.demand-2 .reports s (length (m .marks)) ks a (suspendedBy false h) g rs p (ap isSuspended z) (ap (λ (y : Slot). y .marks) z ∙ ap (marksBy h) by) k;
               fits = rules.demand-2 .room (length x) (omega (arith, long));
               answer = refl;
               front = put-take-front x (16 + 16 * length (r .descriptors)) (reportBytes a r) (reportBytes-length a r) fit;
@@ -354,7 +379,7 @@ module _ (s : Settings) (ws : List ℕ) (ks : List Call) (eight : length (s .ide
         unfolding receiveReceipt order
         is-received x e =
             let r = verdict-done (λ (k : Receipt). k .answer .number) (receiveOrder (seenIn d (length l) (some i)) x) (receiveDone d l a x (some i)) (λ n j. received n noReport l x)
-            (λ n j. refl) (order-numbers (d .settings) (seenIn d (length l) (some i)) (receive x)) (rw place at e) in
+            (λ n j. refl) (order-numbers (d .settings) (seenIn d (length l) (some i)) (arrivingIn (d .sequence) area a) (receive x)) (rw place at e) in
             rw place (subst (Received h a i g us x l) (sym (r .0 ∙ rw (held .tracking, held .ranges, held .marks, flag-is))) (stored x (leb-true 32 (length x) (r .1 .1 .1 .1 .0))))
 
         -- ---- what is not refused
@@ -367,7 +392,7 @@ module _ (s : Settings) (ws : List ℕ) (ks : List Call) (eight : length (s .ide
         unfolding receiveReceipt
         may-receive x k = rw (place, sure, held .tracking, le-leb 32 (length x) k)
 
-        is-tracked : Tracked (endOf s ws ks) h a i g rs
+        is-tracked : Tracked (endOf s m ks) h a i g rs
         is-tracked =
             record {
               listed = is-listed;
@@ -392,14 +417,14 @@ module _ (s : Settings) (ws : List ℕ) (ks : List Call) (eight : length (s .ide
         go (some i) k =
             rw (place i k) (verdict-has Idle (λ n i. noted n 0 l) (λ n i. (refl, refl)) (writeOrder (seenIn d (length l) (some i)) w) (writeDone d l w (some i)) (λ t. rw (is-off i k e) (refl, refl)))
 
-    is-suspended : suspendedBy false h ≡ true → (o : Op) → Moves o → outcome (endOf s ws ks) (record { id = a; op = o }) ≡ record { answer = refused 4 0; device = d; marks = l; bytes = lent o }
+    is-suspended : suspendedBy false h ≡ true → (o : Op) → Moves o → outcome (endOf s m ks) (record { id = a; op = o }) ≡ record { answer = refused 4 0; device = d; marks = l; area = area; bytes = lent o }
     is-suspended e = go (placeOf s a) refl
       where
-        go : (q : Option ℕ) → placeOf s a ≡ q → (o : Op) → Moves o → outcome (endOf s ws ks) (record { id = a; op = o }) ≡ record { answer = refused 4 0; device = d; marks = l; bytes = lent o }
-        go none k = absurd (true≢false (sym e ∙ ap isSuspended (sym is-told ∙ ap (slotAt (view d l)) (place-of ∙ k))))
+        go : (q : Option ℕ) → placeOf s a ≡ q → (o : Op) → Moves o → outcome (endOf s m ks) (record { id = a; op = o }) ≡ record { answer = refused 4 0; device = d; marks = l; area = area; bytes = lent o }
+        go none k = absurd (true≢false (sym e ∙ ap isSuspended (sym is-told ∙ ap (slotAt (view d l area)) (place-of ∙ k))))
         go (some i) k = is-refused i k e
 
-    pub is-standing : Stands s (endOf s ws ks) h (countsIn (sessionEnd s (length ws) ks)) a
+    pub is-standing : Stands s (endOf s m ks) h (countsIn (sessionEnd s (length (m .marks)) ks)) a
     is-standing =
         record {
           told = is-told;
@@ -412,6 +437,7 @@ module _ (s : Settings) (ws : List ℕ) (ks : List Call) (eight : length (s .ide
           stopped = λ i at. is-stopped i at;
           suspends = λ i kind at. is-suspend i at kind;
           resumes = λ i at. is-resume i at;
+          parts = λ i at. is-arriving i at;
         }
 
 -- ---- a record that no session made
@@ -422,21 +448,63 @@ All-from P (c ∷ cs) f = (f 0, All-from P cs (λ i. f (suc i)))
 
 is-step : (l : Left) → Shaped l → (k : Call) → Steps l k
 is-step l s k =
-    let w = call-step (l .device) (l .marks) (record { controllers = s .controllers; listed = All-from Listed (l .device .controllers) (s .listed); words = s .words }) k in
+    let fits : Fits (l .device) (l .marks) (l .area) =
+    record { controllers = s .controllers; identifiers = s .identifiers; listed = All-from Listed (l .device .controllers) (s .listed); words = s .words; bytes = s .bytes } in
+    let w = call-step (l .device) (l .marks) (l .area) fits k in
     record { answer = w .answer; device = w .state; bytes = w .bytes }
+
+-- ---- two divisions
+
+-- what a finishing part yields
+yielded : (s : Settings) (m : Given) (ks : List Call) → Sized s m → freshChange s (m .marks) .answer .number ≡ 0 → (a : ℕ) (p : Part)
+    → let l = endOf s m ks in
+    let r = partChange (l .device) (length (l .marks)) (l .area) a p in
+    let x = wholeBy (historyIn s m ks a) p in
+    r .answer .number ≡ 0 → IsFinal p → (r .answer .whole ≡ length x) × (take (r .answer .whole) (r .area) ≡ x)
+yielded s m ks ok e a p z f = go (placeOf s a) refl
+  where
+    l : Left
+    l = endOf s m ks
+
+    x : List ℕ
+    x = wholeBy (historyIn s m ks a) p
+
+    r : Arrival
+    r = partChange (l .device) (length (l .marks)) (l .area) a p
+
+    go : (q : Option ℕ) → placeOf s a ≡ q → (r .answer .whole ≡ length x) × (take (r .answer .whole) (r .area) ≡ x)
+    go none k = absurd (part-unknown (l .device) (length (l .marks)) (l .area) a p (place-of s m ks ok e a ∙ k) z)
+    go (some i) k =
+        let y = is-arriving s m ks ok e a i k .yields p z f in
+        let n : r .answer .whole ≡ length x = ap (λ (q : StateSet). q .whole) (y .0) in
+        (n, ap (λ t. take t (r .area)) n ∙ y .1)
+
+divided : (s : Settings) (m : Given) (ks : List Call) → Sized s m → freshChange s (m .marks) .answer .number ≡ 0 → (a : ℕ) (p : Part)
+    → (s′ : Settings) (m′ : Given) (ks′ : List Call) → Sized s′ m′ → freshChange s′ (m′ .marks) .answer .number ≡ 0 → (a′ : ℕ) (p′ : Part)
+    → let l = endOf s m ks in
+    let l′ = endOf s′ m′ ks′ in
+    let r = partChange (l .device) (length (l .marks)) (l .area) a p in
+    let r′ = partChange (l′ .device) (length (l′ .marks)) (l′ .area) a′ p′ in
+    r .answer .number ≡ 0 → r′ .answer .number ≡ 0 → IsFinal p → IsFinal p′ → wholeBy (historyIn s m ks a) p ≡ wholeBy (historyIn s′ m′ ks′ a′) p′
+    → (r .answer .whole ≡ r′ .answer .whole) × (take (r .answer .whole) (r .area) ≡ take (r′ .answer .whole) (r′ .area))
+divided s m ks ok e a p s′ m′ ks′ ok′ e′ a′ p′ z z′ f f′ same =
+    let y = yielded s m ks ok e a p z f in
+    let y′ = yielded s′ m′ ks′ ok′ e′ a′ p′ z′ f′ in
+    (y .0 ∙ ap length same ∙ sym (y′ .0), y .1 ∙ same ∙ sym (y′ .1))
 
 -- ---- all of it
 
 pub demand-2 : Demand2
 demand-2 =
     record {
-      rules = λ s a ws ks eight. equals s ws ks eight a ks (record { answers = refl; bytes = refl; units = refl });
+      rules = λ s a m ks sized. equals s m ks sized a ks (record { answers = refl; bytes = refl; units = refl });
       steps = is-step;
       fresh = fresh-is;
       bits = bit-at;
       place = is-place;
       settings = settings-kept;
       stands = is-standing;
+      divided = λ s s′ m m′ ks ks′ ok ok′ e e′ a a′ p p′. divided s m ks ok e a p s′ m′ ks′ ok′ e′ a′ p′;
       runs = rules.demand-2 .runs;
       touches = rules.demand-2 .touches;
     }

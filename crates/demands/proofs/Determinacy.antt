@@ -14,6 +14,7 @@ calls =
       receive = λ κs a r r′ e e′ p q. (p .0 ∙ sym (q .0), p .1 ∙ sym (q .1), p .2 ∙ sym (q .2));
       suspend = λ κs a r r′ e e′ p q. p ∙ sym q;
       resume = λ κs a r r′ e e′ p q. p ∙ sym q;
+      set-state = λ κs a r r′ e e′ p q. (p .0 ∙ sym (q .0), p .1 ∙ sym (q .1));
     }
 
 structure : Structure

@@ -6,6 +6,7 @@ pub mod AnswerLaws
 pub mod ClosedLaws
 pub mod Contracts
 pub mod Demand1
+pub mod Parts
 pub mod Demand2
 pub mod Structures
 pub mod Reserved

@@ -2,10 +2,11 @@
 use mathlib.Core.Path.{_≡_, refl, sym, ap, ap₂, _∙_}
 use mathlib.Core.Bool.{Bool, true, false, cond}
 use mathlib.Core.List.{List, [], _∷_, map}
-use Prim.Native.Nat.{ℕ, zero, suc, _≤_}
+use mathlib.Core.Option.{none}
+use Prim.Native.Nat.{ℕ, zero, suc, _-_, _≤_}
 use native.Mathlib.Omega.{arith}
 use lib.Dec.{eqb}
-use lib.ListN.{length, take, replicate, length-replicate}
+use lib.ListN.{length, take, replicate, length-append, length-replicate}
 use lib.Seq.{length-take-le}
 use borrow.Author.Tests.{eq-eqb, eqb-true}
 use Rattle.rules.specs.Settings.{markWords, settingsOk, identifiersOf}
@@ -18,13 +19,13 @@ use Rattle.rules.proofs.ListLaws.{All}
 use Rattle.settings.proofs.SettingsLaws.{settingsOk-count}
 use Rattle.calls.specs.Calls.{freshChange}
 use Rattle.demands.specs.View.{slotsFrom, view, run}
-use Rattle.demands.specs.Sessions.{Left, begun, outcome, next, leftAfter, answersTo, bytesTo}
+use Rattle.demands.specs.Sessions.{Left, Given, Sized, begun, outcome, next, leftAfter, answersTo, bytesTo}
 use Rattle.demands.proofs.ViewLaws.{Listed, Fits}
 use Rattle.demands.proofs.StepLaws.{Like, call-step}
 
 -- ---- fresh
 
-slots-fresh : (ws : List ℕ) (xs : List ℕ) (k n : ℕ) → length xs ≡ n → slotsFrom ws k (replicate n freshController) ≡ map (λ (i : ℕ). freshSlot) xs
+slots-fresh : (ws : List ℕ) (xs : List ℕ) (k n : ℕ) → length xs ≡ n → slotsFrom ws (λ i. none) k (replicate n freshController) ≡ map (λ (i : ℕ). freshSlot) xs
 slots-fresh ws [] k n e = rw (sym e)
 slots-fresh ws (x ∷ xs) k zero e = absurd (omega (arith, e))
 slots-fresh ws (x ∷ xs) k (suc n) e = ap (λ l. freshSlot ∷ l) (slots-fresh ws xs (suc k) n (omega (arith, e)))
@@ -40,26 +41,36 @@ off-listed (suc n) = ((λ g m e. let z : _≡_ {A = ℕ} 0 1 = cc in absurd (ome
 
 -- what an accepted fresh leaves is the rules' fresh device
 pub record Begins (s : Settings) (l : Left) : Type 0 where
-  pub state : view (l .device) (l .marks) ≡ opened s
-  pub fits : Fits (l .device) (l .marks)
+  pub state : view (l .device) (l .marks) (l .area) ≡ opened s
+  pub fits : Fits (l .device) (l .marks) (l .area)
 
-pub begins : (s : Settings) (ws : List ℕ) → length (s .identifiers) ≡ 8 → settingsOk s ≡ true → length ws ≡ markWords → Begins s (begun s ws)
+pub begins : (s : Settings) (m : Given) → Sized s m → settingsOk s ≡ true → length (m .marks) ≡ markWords → Begins s (begun s m)
 unfolding freshChange freshOf
-begins s ws eight e whole =
-    rw (e, eq-eqb (length ws) markWords whole, whole)
+begins s m sized e whole =
+    let few : s .count ≤ length (s .identifiers) = omega (arith, sized .places, settingsOk-count s e) in
+    rw (e, eq-eqb (length (m .marks)) markWords whole, whole)
     (record {
       state =
-          ap (λ l. record { settings = cleaned s; slots = l })
-          (ap (slotsFrom (replicate markWords 0) 0) (take-replicate (s .count) 8 freshController (settingsOk-count s e))
-          ∙ slots-fresh (replicate markWords 0) (identifiersOf s) 0 (s .count) (length-take-le (s .count) (s .identifiers) (omega (arith, eight, settingsOk-count s e))));
-      fits = record { controllers = length-replicate 8 freshController; listed = off-listed 8; words = length-replicate {A = ℕ} markWords 0 };
+          ap (λ l. record { settings = cleaned s; slots = l; stray = false })
+          (ap (slotsFrom (replicate markWords 0) (λ i. none) 0) (take-replicate (s .count) 8 freshController (settingsOk-count s e))
+          ∙ slots-fresh (replicate markWords 0) (identifiersOf s) 0 (s .count) (length-take-le (s .count) (s .identifiers) few));
+      fits =
+          record {
+            controllers = length-replicate 8 freshController;
+            identifiers =
+                length-append (identifiersOf s) (replicate (length (s .identifiers) - s .count) 0)
+                ∙ omega (arith, length-take-le (s .count) (s .identifiers) few, length-replicate {A = ℕ} (length (s .identifiers) - s .count) 0, sized .places, few);
+            listed = off-listed 8;
+            words = length-replicate {A = ℕ} markWords 0;
+            bytes = sized .area;
+          };
     })
 
 -- ---- the calls
 
 -- what a session leaves and what it tells, against a session of the rules
 pub record Same (l : Left) (st : State) (ks : List Call) : Type 0 where
-  pub state : view (leftAfter l ks .device) (leftAfter l ks .marks) ≡ after st ks
+  pub state : view (leftAfter l ks .device) (leftAfter l ks .marks) (leftAfter l ks .area) ≡ after st ks
   pub told : answersTo l ks ≡ events st ks
   pub bytes : (a : ℕ) → bytesTo a l ks ≡ lentBytes a (historyOf a (answersTo l ks))
 
@@ -80,13 +91,13 @@ same-next k ks l st answer bytes r =
     bytes-of a true q p ih = ap₂ (λ (x : List ℕ) (xs : List (List ℕ)). x ∷ xs) (p ∙ rw (eqb-true (k .id) a q)) ih
     bytes-of a false q p ih = ih
 
-pub same : (ks : List Call) (l : Left) (st : State) → view (l .device) (l .marks) ≡ st → Fits (l .device) (l .marks) → Same l st ks
+pub same : (ks : List Call) (l : Left) (st : State) → view (l .device) (l .marks) (l .area) ≡ st → Fits (l .device) (l .marks) (l .area) → Same l st ks
 same [] l st e h = record { state = e; told = refl; bytes = λ a. refl }
 same (k ∷ ks) l st e h =
-    let w : Like (k .id) (lent (k .op)) (run (l .device) (l .marks) k) ((step st k) .0) ((step st k) .1) = rw e at (call-step (l .device) (l .marks) h k) in
+    let w : Like (k .id) (lent (k .op)) (run (l .device) (l .marks) (l .area) k) ((step st k) .0) ((step st k) .1) = rw e at (call-step (l .device) (l .marks) (l .area) h k) in
     same-next k ks l st (w .answer) (w .bytes) (same ks (next l k) ((step st k) .1) (w .state) (w .fits))
 
 -- what each call leaves fits the next
-pub fits-after : (ks : List Call) (l : Left) → Fits (l .device) (l .marks) → Fits (leftAfter l ks .device) (leftAfter l ks .marks)
+pub fits-after : (ks : List Call) (l : Left) → Fits (l .device) (l .marks) (l .area) → Fits (leftAfter l ks .device) (leftAfter l ks .marks) (leftAfter l ks .area)
 fits-after [] l h = h
-fits-after (k ∷ ks) l h = fits-after ks (next l k) (call-step (l .device) (l .marks) h k .fits)
+fits-after (k ∷ ks) l h = fits-after ks (next l k) (call-step (l .device) (l .marks) (l .area) h k .fits)

@@ -15,7 +15,7 @@ use Rattle.rules.specs.declared.Settings.{Settings}
 use Rattle.record.specs.Record.{soundWith}
 use Rattle.calls.specs.declared.WriteRecord.{WriteRecord}
 use Rattle.calls.specs.Calls.{freshChange, writeNote, batchChange}
-use Rattle.demands.specs.Sessions.{Left, Step, one, leftAfter, answersTo, tried, endOf, endBy, callsIn, historyIn}
+use Rattle.demands.specs.Sessions.{Left, Given, Sized, Step, one, leftAfter, answersTo, tried, endOf, endBy, callsIn, historyIn}
 use Rattle.demands.specs.Demand1.{Answers}
 use Rattle.demands.specs.Demand2.{Equals, Stands}
 use Rattle.demands.specs.Demand3.{Agree}
@@ -50,7 +50,7 @@ pub record IsNotes (l : Left) (rs : List WriteRecord) : Type 0 where
   pub few : soundWith (l .device) (length (l .marks)) ≡ true → length rs ≤ 1024 → batchChange (l .device) (l .marks) rs .answer .number ≡ 0
   -- a done one leaves what its tried notes leave, and answers what they answer together
   pub leaves : let c = batchChange (l .device) (l .marks) rs in
-      c .answer .number ≡ 0 → record { device = l .device; marks = c .marks } ≡ leftAfter l (tried l rs)
+      c .answer .number ≡ 0 → record { device = l .device; marks = c .marks; area = l .area } ≡ leftAfter l (tried l rs)
   pub says : let c = batchChange (l .device) (l .marks) rs in
       let es = answersTo l (tried l rs) in
       c .answer .number ≡ 0 → (c .answer .done ≡ doneIn es) × (c .answer .count ≡ newlyIn es) × (c .answer .refusal ≡ lastNumber es)
@@ -84,15 +84,15 @@ pub record Batches : Type 1 where
   pub notes : (l : Left) (rs : List WriteRecord) → IsNotes l rs
   pub by-note : (l : Left) → ByNote l
   -- a session with batches leaves what the session of its calls leaves; one with none is its calls
-  pub session : (s : Settings) (ws : List ℕ) (xs : List Step) → endBy s ws xs ≡ endOf s ws (callsIn s ws xs)
-  pub calls : (s : Settings) (ws : List ℕ) (ks : List Call) → callsIn s ws (map one ks) ≡ ks
+  pub session : (s : Settings) (m : Given) (xs : List Step) → endBy s m xs ≡ endOf s m (callsIn s m xs)
+  pub calls : (s : Settings) (m : Given) (ks : List Call) → callsIn s m (map one ks) ≡ ks
   -- demand 2: it comes for each controller to what the rules give for these calls, and each stands as its calls and answers tell
-  pub rules : (s : Settings) (a : ℕ) (ws : List ℕ) (xs : List Step) → length (s .identifiers) ≡ 8 → Equals s a ws (callsIn s ws xs) (callsIn s ws xs)
-  pub stands : (s : Settings) (ws : List ℕ) (xs : List Step) → length (s .identifiers) ≡ 8 → freshChange s ws .answer .number ≡ 0
-      → (a : ℕ) → Stands s (endBy s ws xs) (historyIn s ws (callsIn s ws xs) a) (countsIn (sessionEnd s (length ws) (callsIn s ws xs))) a
+  pub rules : (s : Settings) (a : ℕ) (m : Given) (xs : List Step) → Sized s m → Equals s a m (callsIn s m xs) (callsIn s m xs)
+  pub stands : (s : Settings) (m : Given) (xs : List Step) → Sized s m → freshChange s (m .marks) .answer .number ≡ 0
+      → (a : ℕ) → Stands s (endBy s m xs) (historyIn s m (callsIn s m xs) a) (countsIn (sessionEnd s (length (m .marks)) (callsIn s m xs))) a
   -- demand 3: "For demand 3 a batch is its notes carried out, each answered singly; a cut by another controller's note is outside": then A's calls differ
-  pub together : (s : Settings) (a : ℕ) (ws ws′ : List ℕ) (xs xs′ : List Step) → length (s .identifiers) ≡ 8 → length ws ≡ length ws′
-      → only a (callsIn s ws xs) ≡ only a (callsIn s ws′ xs′) → unhindered (historyIn s ws (callsIn s ws xs) a) ≡ true → unhindered (historyIn s ws′ (callsIn s ws′ xs′) a) ≡ true
-      → Agree s a ws ws′ (callsIn s ws xs) (callsIn s ws′ xs′)
-  pub alone : (s : Settings) (a : ℕ) (ws : List ℕ) (xs : List Step) → length (s .identifiers) ≡ 8
-      → unhindered (historyIn s ws (callsIn s ws xs) a) ≡ true → Equals s a ws (callsIn s ws xs) (only a (callsIn s ws xs))
+  pub together : (s : Settings) (a : ℕ) (m m′ : Given) (xs xs′ : List Step) → Sized s m → Sized s m′ → length (m .marks) ≡ length (m′ .marks)
+      → only a (callsIn s m xs) ≡ only a (callsIn s m′ xs′) → unhindered (historyIn s m (callsIn s m xs) a) ≡ true → unhindered (historyIn s m′ (callsIn s m′ xs′) a) ≡ true
+      → Agree s a m m′ (callsIn s m xs) (callsIn s m′ xs′)
+  pub alone : (s : Settings) (a : ℕ) (m : Given) (xs : List Step) → Sized s m
+      → unhindered (historyIn s m (callsIn s m xs) a) ≡ true → Equals s a m (callsIn s m xs) (only a (callsIn s m xs))

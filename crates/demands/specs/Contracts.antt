@@ -17,13 +17,14 @@ use denote.Ref.{now}
 use lib.ListN.{length, take}
 use Rattle.rules.specs.Refusals.{refusal}
 use Rattle.rules.specs.StartData.{headerOf, startData, writeTests, startWritten}
+use Rattle.rules.specs.Order.{Part}
 use Rattle.rules.specs.ReportReader.{reportRefusal, reportBadIndex, reportSuspended, reportMore, reportIdentifier, reportGranularity, reportCount, reportRefusalAt, reportAddress, reportLength, reportRunAddress, reportRunLength}
 use Rattle.start_data.specs.Answer.{rangesRead}
 use Rattle.listing.specs.Listing.{lineOf}
 use Rattle.rules.specs.declared.Device.{Device}
 use Rattle.calls.specs.declared.WriteRecord.{WriteRecord}
 use Rattle.calls.specs.declared.Batched.{Batched}
-use Rattle.calls.specs.Calls.{freshChange, startChange, stopChange, writeNote, batchChange, receiveReceipt, suspendChange, resumeChange}
+use Rattle.calls.specs.Calls.{freshChange, startChange, stopChange, writeNote, batchChange, receiveReceipt, suspendChange, resumeChange, partChange}
 use Rattle.calls.proofs.WriteRecord as record-type
 use Rattle.calls.proofs.WriteRecord.Laws as record-laws
 use Rattle.fresh.proofs.fresh.Reads as fresh
@@ -35,6 +36,7 @@ use Rattle.writes.proofs.batch_of.Reads as batch-of
 use Rattle.track_receive.proofs.receive.Reads as receive
 use Rattle.migration_send.proofs.suspend.Reads as suspend
 use Rattle.migration_send.proofs.resume.Reads as resume
+use Rattle.controller_state.proofs.set_state.Reads as set-state
 use Rattle.start_data.proofs.read_header.Reads as read-header
 use Rattle.start_data.proofs.read_start.Reads as read-start
 use Rattle.start_data.proofs.write_start.Reads as write-start
@@ -63,6 +65,7 @@ pub record AsksNothing : Type 1 where
   pub receive : (κs : _) (a : _) → receive.Pre κs a
   pub suspend : (κs : _) (a : _) → suspend.Pre κs a
   pub resume : (κs : _) (a : _) → resume.Pre κs a
+  pub set-state : (κs : _) (a : _) → set-state.Pre κs a
   pub read-header : (κs : _) (a : _) → read-header.Pre κs a
   pub read-ranges : (κs : _) (a : _) → read-ranges.Pre κs a
   pub read-start : (κs : _) (a : _) → read-start.Pre κs a
@@ -104,6 +107,12 @@ pub record CallsAre : Type 1 where
       (r ≡ c .answer) × (now (e .1 .0) ≡ c .marks) × (now (e .1 .1 .1 .0) ≡ c .buffer)
   pub suspend : (κs : _) (a : _) (r : _) (e : _) → suspend.Post κs a r e → r ≡ suspendChange (a .0) (length (now (a .1 .0))) (a .1 .1 .0) (a .1 .1 .1 .0)
   pub resume : (κs : _) (a : _) (r : _) (e : _) → resume.Post κs a r e → r ≡ resumeChange (a .0) (length (now (a .1 .0))) (a .1 .1 .0)
+  -- W6: the answer, and every byte of the area
+  pub set-state : (κs : _) (a : _) (r : _) (e : _) → set-state.Post κs a r e
+      → let rest = a .1 .1 .1 .1 in
+      let p : Part = record { indicator = rest .0; low = rest .1 .0; high = rest .1 .1 .0; count = rest .1 .1 .1 .0; bytes = now (rest .1 .1 .1 .1 .0) } in
+      let c = partChange (a .0) (length (now (a .1 .0))) (now (a .1 .1 .0)) (a .1 .1 .1 .0) p in
+      (r ≡ c .answer) × (now (e .1 .1 .0) ≡ c .area)
 
 -- W4: `batch` is proved by a walk of its code, so its contract is taken as it stands in the program logic, of any model of it: it asks nothing, and what it promises
 -- is this fact

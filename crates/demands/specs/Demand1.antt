@@ -13,7 +13,7 @@ use Rattle.rules.specs.Settings.{markWords, placeOf}
 use Rattle.rules.specs.Units.{Write}
 use Rattle.rules.specs.StartData.{granularityOf, rangesOf, placed, headerTests, headerOf, readTests, startData, writeTests, startWritten}
 use Rattle.rules.specs.ReportReader.{reportTests, indexTests, reportRefusal, reportBadIndex, reportSuspended, reportMore, reportIdentifier, reportGranularity, reportCount, reportRefusalAt, reportAddress, reportLength}
-use Rattle.rules.specs.Order.{Seen, freshOrder, startOrder, stopOrder, writeOrder, receiveOrder, suspendOrder, resumeOrder}
+use Rattle.rules.specs.Order.{Seen, freshOrder, startOrder, stopOrder, writeOrder, receiveOrder, suspendOrder, resumeOrder, Part, partOrder}
 use Rattle.rules.specs.Device.{closedDevice, soundDevice}
 use Rattle.rules.specs.Machine.{refused, Call, lent}
 use Rattle.rules.specs.Demands.{Rowless, Names, Held}
@@ -21,10 +21,10 @@ use Rattle.rules.specs.declared.Range.{Range}
 use Rattle.rules.specs.declared.Settings.{Settings}
 use Rattle.rules.specs.declared.Header.the-variants.{Is, Refused}
 use Rattle.rules.specs.declared.Device.{Device}
-use Rattle.record.specs.Record.{countsOf, seenIn}
+use Rattle.record.specs.Record.{countsOf, seenIn, arrivingIn}
 use Rattle.start_data.specs.Answer.{headerSays}
-use Rattle.calls.specs.Calls.{freshChange, startChange, stopChange, suspendChange, resumeChange, writeNote, receiveReceipt}
-use Rattle.demands.specs.Sessions.{outcome, endOf}
+use Rattle.calls.specs.Calls.{freshChange, startChange, stopChange, suspendChange, resumeChange, writeNote, receiveReceipt, partChange}
+use Rattle.demands.specs.Sessions.{Given, Sized, outcome, endOf}
 
 -- "A refusal returns its number from document 01 and zeros (the structure reader adds a place), and the device record, the marks and the
 -- report buffer stay as they were"; W3: a start adds its row
@@ -78,6 +78,11 @@ pub record Demand1 : Type 0 where
   pub resume : (d : Device) (words id : ℕ)
       → let c = resumeChange d words id in
       Answers (c .number) (resumeOrder (seenIn d words (placeOf (d .settings) id))) (c .device ≡ d)
+  -- W6: a refused part leaves the area as it was, too
+  pub part : (d : Device) (words : ℕ) (area : List ℕ) (id : ℕ) (p : Part)
+      → let a = partChange d words area id p in
+      Answers (a .answer .number) (partOrder (seenIn d words (placeOf (d .settings) id)) (arrivingIn (d .sequence) area id) p)
+      ((a .answer .whole ≡ 0) × (a .answer .device ≡ d) × (a .area ≡ area))
   -- the structure's readers add the place of that test
   pub read-header : (x : List ℕ)
       → let h = headerSays (headerOf x) in
@@ -106,7 +111,8 @@ pub record Demand1 : Type 0 where
 pub record Soundness : Type 0 where
   -- of a tracked controller it asks what a start asks: 7, 18 to 21, 10 and 11
   pub held : Held
-  pub kept : (s : Settings) (ws : List ℕ) (ks : List Call) → length (s .identifiers) ≡ 8 → freshChange s ws .answer .number ≡ 0
-      → (soundDevice (endOf s ws ks .device) ≡ true) × (length (endOf s ws ks .marks) ≡ markWords)
-  pub closed : (s : Settings) (ws : List ℕ) (ks : List Call) (k : Call) → freshChange s ws .answer .number ≢ 0
-      → (endOf s ws ks ≡ record { device = closedDevice; marks = ws }) × (outcome (endOf s ws ks) k .answer ≡ refused 1 0) × (outcome (endOf s ws ks) k .bytes ≡ lent (k .op))
+  pub kept : (s : Settings) (m : Given) (ks : List Call) → Sized s m → freshChange s (m .marks) .answer .number ≡ 0
+      → (soundDevice (endOf s m ks .device) ≡ true) × (length (endOf s m ks .marks) ≡ markWords)
+  pub closed : (s : Settings) (m : Given) (ks : List Call) (k : Call) → freshChange s (m .marks) .answer .number ≢ 0
+      → (endOf s m ks ≡ record { device = closedDevice; marks = m .marks; area = m .area }) × (outcome (endOf s m ks) k .answer ≡ refused 1 0)
+      × (outcome (endOf s m ks) k .bytes ≡ lent (k .op))

@@ -2,20 +2,21 @@
 -- their type. What is said of a controller begins with what its own calls and answers tell (rules' History), not with what the record says.
 use Prim.Native.Nat.{ℕ, _+_, _-_, _*_, _/_, _%_, _^_, _≤_, _<_}
 use mathlib.Core.Path.{_≡_}
-use mathlib.Core.Logic.{_↔_}
+use mathlib.Core.Logic.{_≢_, _↔_}
 use mathlib.Core.Bool.{Bool, true, false, _||_}
 use mathlib.Core.List.{List, [], _++_, map}
 use mathlib.Core.Option.{none, some}
 use lib.Dec.{eqb}
 use lib.ListN.{length, take, drop, getD, getElem?, replicate}
 use Rattle.bits.specs.Flat.{flat}
+use Rattle.rules.specs.ControllerState.{stateMost}
 use Rattle.rules.specs.Refusals.{passes}
 use Rattle.rules.specs.Settings.{shareSize, shareAt, markWords, placeOf}
 use Rattle.rules.specs.Units.{Unit, Write, units, touches, newly}
 use Rattle.rules.specs.StartData.{granularityOf, countOf, rangesOf, headerTests, placed}
 use Rattle.rules.specs.Report.{room, reportOn, marksLeft, reportBytes}
 use Rattle.rules.specs.ReportReader.{reportSize}
-use Rattle.rules.specs.Order.{Op, start, stop, write, startListed}
+use Rattle.rules.specs.Order.{Op, start, stop, write, Part, startListed}
 use Rattle.rules.specs.Device.{freshDevice}
 use Rattle.rules.specs.Machine.{refused, pendingIn, countsIn, slotOf, Call, step, lent, stored}
 use Rattle.rules.specs.History.{Did, PendingBy, pendingBy, tracksBy, suspendedBy, slotBy}
@@ -23,38 +24,41 @@ use Rattle.rules.specs.Demands.{sessionEnd, sessionHistory, lentBytes, UnitsLis
 use Rattle.rules.specs.declared.Range.{Range}
 use Rattle.rules.specs.declared.Tracking.{Tracking}
 use Rattle.rules.specs.declared.Tracking.the-variants.{Off, On}
+use Rattle.rules.specs.declared.Sequence.the-variants.{Nothing, Open}
 use Rattle.rules.specs.declared.Settings.{Settings}
 use Rattle.rules.specs.declared.Device.{Device}
-use Rattle.record.specs.Record.{controllerAt, withController}
-use Rattle.calls.specs.declared.Changed.{Changed}
-use Rattle.calls.specs.Calls.{Receipt, freshChange, startChange, stopChange, suspendChange, resumeChange, writeNote, receiveReceipt}
+use Rattle.record.specs.Record.{controllerAt, withController, withSequence}
+use Rattle.calls.specs.Calls.{Receipt, freshChange, startChange, stopChange, suspendChange, resumeChange, writeNote, receiveReceipt, partChange}
 use Rattle.demands.specs.View.{view}
-use Rattle.demands.specs.Sessions.{Left, outcome, endOf, historyIn, bytesIn}
+use Rattle.demands.specs.Sessions.{Left, Given, Sized, outcome, endOf, historyIn, bytesIn}
+use Rattle.demands.specs.Parts.{wholeBy, IsFinal, Arrives}
 
 -- ---- a session, beside the rules' session
 
 -- a controller's pending units
 abbrev pub pendingOf : Left → ℕ → List Unit
-pendingOf l a = pendingIn (slotOf (view (l .device) (l .marks)) a)
+pendingOf l a = pendingIn (slotOf (view (l .device) (l .marks) (l .area)) a)
 
 -- a session of the calls is for a controller what the rules give for some calls: every answer, every byte lent with its calls, its reports' among them, and
 -- its pending units
-pub record Equals (s : Settings) (a : ℕ) (ws : List ℕ) (ks ks′ : List Call) : Type 0 where
-  pub answers : historyIn s ws ks a ≡ sessionHistory s (length ws) ks′ a
-  pub bytes : bytesIn s ws ks a ≡ lentBytes a (sessionHistory s (length ws) ks′ a)
-  pub units : pendingOf (endOf s ws ks) a ≡ pendingIn (slotOf (sessionEnd s (length ws) ks′) a)
+pub record Equals (s : Settings) (a : ℕ) (m : Given) (ks ks′ : List Call) : Type 0 where
+  pub answers : historyIn s m ks a ≡ sessionHistory s (length (m .marks)) ks′ a
+  pub bytes : bytesIn s m ks a ≡ lentBytes a (sessionHistory s (length (m .marks)) ks′ a)
+  pub units : pendingOf (endOf s m ks) a ≡ pendingIn (slotOf (sessionEnd s (length (m .marks)) ks′) a)
 
 -- a record and marks that anyone may have made, of their sizes: eight controllers, of which none counts more ranges than it has places, and the marks' words.
 -- (A call on marks of another number of words, or on a record that counts more, answers 1.)
 pub record Shaped (l : Left) : Type 0 where
   pub controllers : length (l .device .controllers) ≡ 8
+  pub identifiers : length (l .device .settings .identifiers) ≡ 8
   pub listed : (i g n : ℕ) → controllerAt (l .device) (some i) .tracking ≡ On g n → n ≤ length (controllerAt (l .device) (some i) .ranges)
   pub words : length (l .marks) ≡ markWords
+  pub bytes : length (l .area) ≡ stateMost
 
 -- a call is a step of the rules, on the device that is seen in record and marks
 pub record Steps (l : Left) (k : Call) : Type 0 where
-  pub answer : outcome l k .answer ≡ (step (view (l .device) (l .marks)) k) .0
-  pub device : view (outcome l k .device) (outcome l k .marks) ≡ (step (view (l .device) (l .marks)) k) .1
+  pub answer : outcome l k .answer ≡ (step (view (l .device) (l .marks) (l .area)) k) .0
+  pub device : view (outcome l k .device) (outcome l k .marks) (outcome l k .area) ≡ (step (view (l .device) (l .marks) (l .area)) k) .1
   pub bytes : outcome l k .bytes ≡ stored (k .id) (lent (k .op)) (outcome l k .answer)
 
 -- ---- marks in words
@@ -85,11 +89,17 @@ toldOf h us = map (pendingBy h) us
 
 -- ---- an accepted call
 
--- a suspend or a resume of the controller at place i: its flag is set or clear, and all else is as it was
-abbrev pub Flagged : Device → ℕ → Bool → Changed → Type 0
-Flagged d i b c =
+-- the record with the flag of the controller at place i set or clear, and all else as it was
+abbrev pub flaggedAt : Device → ℕ → Bool → Device
+flaggedAt d i b =
     let was = controllerAt d (some i) in
-    c .device ≡ withController d i (record { tracking = was .tracking; suspended = b; ranges = was .ranges })
+    withController d i (record { tracking = was .tracking; suspended = b; ranges = was .ranges })
+
+-- a resume of controller a at place i makes its flag clear; W6: "its resume drops its unfinished sequence", and no other's
+pub record Resumed (d : Device) (a i : ℕ) (d′ : Device) : Type 0 where
+  pub flag : d′ ≡ withSequence (flaggedAt d i false) (d′ .sequence)
+  pub drops : (end : ℕ) → d .sequence ≡ Open a end → d′ .sequence ≡ Nothing
+  pub keeps : ((end : ℕ) → d .sequence ≢ Open a end) → d′ .sequence ≡ d .sequence
 
 -- a start or a stop of the controller at place i, on d and ws, leaves d′ and ws′: its record is replaced, its share is clear, and all else is as it was
 pub record Replaced (d : Device) (ws : List ℕ) (i : ℕ) (tracking : Tracking) (suspended : Bool) (ranges : List Range) (d′ : Device) (ws′ : List ℕ) : Type 0 where
@@ -154,7 +164,7 @@ pub data Moves : Op → Type 0 where
 -- any controller a of a device that was made from settings s and now tracks so many counts
 pub record Stands (s : Settings) (l : Left) (h : List Did) (counts a : ℕ) : Type 0 where
   -- what record and marks hold of it is what its calls and answers tell: granularity, ranges, the suspended flag, and each unit's mark
-  pub told : slotOf (view (l .device) (l .marks)) a ≡ slotBy h
+  pub told : slotOf (view (l .device) (l .marks) (l .area)) a ≡ slotBy h
   pub tracked : (i g : ℕ) (rs : List Range) → placeOf s a ≡ some i → tracksBy none h ≡ some (g, rs) → Tracked l h a i g rs
   -- "For a controller that isn't tracked a call not refused is done with count 0", and no mark changes
   pub untracked : (w : Write) → tracksBy none h ≡ none
@@ -162,7 +172,7 @@ pub record Stands (s : Settings) (l : Left) (h : List Did) (counts a : ℕ) : Ty
       (n .answer .count ≡ 0) × (n .marks ≡ l .marks)
   -- a suspended controller's start, stop and write are refused, and change nothing
   pub suspended : suspendedBy false h ≡ true → (o : Op) → Moves o
-      → outcome l (record { id = a; op = o }) ≡ record { answer = refused 4 0; device = l .device; marks = l .marks; bytes = lent o }
+      → outcome l (record { id = a; op = o }) ≡ record { answer = refused 4 0; device = l .device; marks = l .marks; area = l .area; bytes = lent o }
   -- a write and a start are refused for nothing but what document 01 says
   pub may-write : (i : ℕ) (w : Write) → placeOf s a ≡ some i → suspendedBy false h ≡ false → w .address + w .bytes ≤ 2 ^ 64
       → writeNote (l .device) (l .marks) a w .answer .number ≡ 0
@@ -180,17 +190,19 @@ pub record Stands (s : Settings) (l : Left) (h : List Did) (counts a : ℕ) : Ty
   -- "Suspend type 1 suspends, also where already suspended. Type 0 is a notice and changes nothing"; it is refused for another type alone
   pub suspends : (i kind : ℕ) → placeOf s a ≡ some i
       → let c = suspendChange (l .device) (length (l .marks)) a kind in
-      ((c .number ≡ 0) ↔ (kind ≤ 1)) × (c .number ≡ 0 → Flagged (l .device) i (suspendedBy false h || eqb kind 1) c)
+      ((c .number ≡ 0) ↔ (kind ≤ 1)) × (c .number ≡ 0 → c .device ≡ flaggedAt (l .device) i (suspendedBy false h || eqb kind 1))
   -- a resume makes the flag clear; it is refused for one that is not suspended alone
   pub resumes : (i : ℕ) → placeOf s a ≡ some i
       → let c = resumeChange (l .device) (length (l .marks)) a in
-      ((c .number ≡ 0) ↔ (suspendedBy false h ≡ true)) × (c .number ≡ 0 → Flagged (l .device) i false c)
+      ((c .number ≡ 0) ↔ (suspendedBy false h ≡ true)) × (c .number ≡ 0 → Resumed (l .device) a i (c .device))
+  -- W6: a state of its own that arrives in parts
+  pub parts : (i : ℕ) → placeOf s a ≡ some i → Arrives l h a
 
 -- ---- all of it
 
 pub record Demand2 : Type 1 where
   -- the rules are those of document 01: any session comes for each controller to what they give for the same calls
-  pub rules : (s : Settings) (a : ℕ) (ws : List ℕ) (ks : List Call) → length (s .identifiers) ≡ 8 → Equals s a ws ks ks
+  pub rules : (s : Settings) (a : ℕ) (m : Given) (ks : List Call) → Sized s m → Equals s a m ks ks
   -- and so does each call on a record that no session made
   pub steps : (l : Left) → Shaped l → (k : Call) → Steps l k
   -- a fresh device: nobody is tracked or suspended, and all marks are 0
@@ -203,10 +215,20 @@ pub record Demand2 : Type 1 where
   pub place : (s : Settings) (a i : ℕ) → length (s .identifiers) ≡ 8 → placeOf s a ≡ some i → (i < s .count) × (getD (s .identifiers) i 0 ≡ a)
   -- after any calls from it, each given what the last one left: the settings are those that it was made with, and each controller stands as its calls and
   -- answers tell
-  pub settings : (s : Settings) (ws : List ℕ) (ks : List Call) → length (s .identifiers) ≡ 8 → freshChange s ws .answer .number ≡ 0
-      → Kept s (endOf s ws ks .device .settings)
-  pub stands : (s : Settings) (ws : List ℕ) (ks : List Call) → length (s .identifiers) ≡ 8 → freshChange s ws .answer .number ≡ 0
-      → (a : ℕ) → Stands s (endOf s ws ks) (historyIn s ws ks a) (countsIn (sessionEnd s (length ws) ks)) a
+  pub settings : (s : Settings) (m : Given) (ks : List Call) → Sized s m → freshChange s (m .marks) .answer .number ≡ 0
+      → Kept s (endOf s m ks .device .settings)
+  pub stands : (s : Settings) (m : Given) (ks : List Call) → Sized s m → freshChange s (m .marks) .answer .number ≡ 0
+      → (a : ℕ) → Stands s (endOf s m ks) (historyIn s m ks a) (countsIn (sessionEnd s (length (m .marks)) ks)) a
+  -- W6: "the same however divided": where the data that two finishing parts complete are the same, in any two sessions and of any two controllers, so is what they
+  -- yield
+  pub divided : (s s′ : Settings) (m m′ : Given) (ks ks′ : List Call) → Sized s m → Sized s′ m′
+      → freshChange s (m .marks) .answer .number ≡ 0 → freshChange s′ (m′ .marks) .answer .number ≡ 0 → (a a′ : ℕ) (p p′ : Part)
+      → let l = endOf s m ks in
+      let l′ = endOf s′ m′ ks′ in
+      let r = partChange (l .device) (length (l .marks)) (l .area) a p in
+      let r′ = partChange (l′ .device) (length (l′ .marks)) (l′ .area) a′ p′ in
+      r .answer .number ≡ 0 → r′ .answer .number ≡ 0 → IsFinal p → IsFinal p′ → wholeBy (historyIn s m ks a) p ≡ wholeBy (historyIn s′ m′ ks′ a′) p′
+      → (r .answer .whole ≡ r′ .answer .whole) × (take (r .answer .whole) (r .area) ≡ take (r′ .answer .whole) (r′ .area))
   -- "A run is a longest row of consecutive pending units within one range"
   pub runs : Runs
   -- "A written range … touches each unit with which it shares a byte"

@@ -10,18 +10,18 @@ use Rattle.rules.specs.Machine.{Call}
 use Rattle.rules.specs.History.{only}
 use Rattle.rules.specs.Demands.{unhindered}
 use Rattle.rules.specs.declared.Settings.{Settings}
-use Rattle.demands.specs.Sessions.{endOf, historyIn, bytesIn}
+use Rattle.demands.specs.Sessions.{Given, Sized, endOf, historyIn, bytesIn}
 use Rattle.demands.specs.Demand2.{pendingOf, Equals}
 
 -- two sessions of the calls agree for a controller: every answer, every byte lent with its calls, its reports' among them, and its pending units
-pub record Agree (s : Settings) (a : ℕ) (ws ws′ : List ℕ) (ks ks′ : List Call) : Type 0 where
-  pub answers : historyIn s ws ks a ≡ historyIn s ws′ ks′ a
-  pub bytes : bytesIn s ws ks a ≡ bytesIn s ws′ ks′ a
-  pub units : pendingOf (endOf s ws ks) a ≡ pendingOf (endOf s ws′ ks′) a
+pub record Agree (s : Settings) (a : ℕ) (m m′ : Given) (ks ks′ : List Call) : Type 0 where
+  pub answers : historyIn s m ks a ≡ historyIn s m′ ks′ a
+  pub bytes : bytesIn s m ks a ≡ bytesIn s m′ ks′ a
+  pub units : pendingOf (endOf s m ks) a ≡ pendingOf (endOf s m′ ks′) a
 
 -- the words of two sessions may differ, as fresh makes them 0; that there are as many is meant, as fresh refuses another number of them
 pub record Demand3 : Type 0 where
-  pub together : (s : Settings) (a : ℕ) (ws ws′ : List ℕ) (ks ks′ : List Call) → length (s .identifiers) ≡ 8 → length ws ≡ length ws′
-      → only a ks ≡ only a ks′ → unhindered (historyIn s ws ks a) ≡ true → unhindered (historyIn s ws′ ks′ a) ≡ true → Agree s a ws ws′ ks ks′
-  pub alone : (s : Settings) (a : ℕ) (ws : List ℕ) (ks : List Call) → length (s .identifiers) ≡ 8
-      → unhindered (historyIn s ws ks a) ≡ true → Equals s a ws ks (only a ks)
+  pub together : (s : Settings) (a : ℕ) (m m′ : Given) (ks ks′ : List Call) → Sized s m → Sized s m′ → length (m .marks) ≡ length (m′ .marks)
+      → only a ks ≡ only a ks′ → unhindered (historyIn s m ks a) ≡ true → unhindered (historyIn s m′ ks′ a) ≡ true → Agree s a m m′ ks ks′
+  pub alone : (s : Settings) (a : ℕ) (m : Given) (ks : List Call) → Sized s m
+      → unhindered (historyIn s m ks a) ≡ true → Equals s a m ks (only a ks)

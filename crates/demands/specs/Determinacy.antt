@@ -17,6 +17,7 @@ use Rattle.writes.proofs.batch_of.Reads as batch-of
 use Rattle.track_receive.proofs.receive.Reads as receive
 use Rattle.migration_send.proofs.suspend.Reads as suspend
 use Rattle.migration_send.proofs.resume.Reads as resume
+use Rattle.controller_state.proofs.set_state.Reads as set-state
 use Rattle.start_data.proofs.read_header.Reads as read-header
 use Rattle.start_data.proofs.read_ranges.Reads as read-ranges
 use Rattle.start_data.proofs.read_start.Reads as read-start
@@ -48,6 +49,8 @@ pub record Calls : Type 1 where
       → (r ≡ r′) × (now (e .1 .0) ≡ now (e′ .1 .0)) × (now (e .1 .1 .1 .0) ≡ now (e′ .1 .1 .1 .0))
   pub suspend : Determinate suspend.Post
   pub resume : Determinate resume.Post
+  -- and every byte of the area
+  pub set-state : (κs : _) (a : _) (r r′ : _) (e e′ : _) → set-state.Post κs a r e → set-state.Post κs a r′ e′ → (r ≡ r′) × (now (e .1 .1 .0) ≡ now (e′ .1 .1 .0))
 
 -- the start structure's readers and its writer, with every byte of the buffer
 pub record Structure : Type 1 where

@@ -1,8 +1,11 @@
--- A session of the calls themselves: fresh, then any calls in any order, each given the record and the marks that the last one left.
+-- A session of the calls themselves: fresh, then any calls in any order, each given the record, the marks and the area for a state that the last one left.
 use Prim.Native.Nat.{ℕ}
+use mathlib.Core.Path.{_≡_}
 use mathlib.Core.Bool.{cond}
 use mathlib.Core.List.{List, [], _∷_, _++_}
 use lib.Dec.{eqb}
+use lib.ListN.{length}
+use Rattle.rules.specs.ControllerState.{stateMost}
 use Rattle.rules.specs.Order.{write}
 use Rattle.rules.specs.Machine.{Call, Event}
 use Rattle.rules.specs.History.{Did, historyOf, isAccepted}
@@ -16,17 +19,28 @@ use Rattle.demands.specs.View.{Outcome, run}
 pub record Left : Type 0 where
   pub device : Device
   pub marks : List ℕ
+  pub area : List ℕ
 
--- what fresh leaves, of settings and lent words
-abbrev pub begun : Settings → List ℕ → Left
-begun s ws = record { device = freshChange s ws .answer .device; marks = freshChange s ws .marks }
+-- what a session is lent: words for the marks, and an area for a state, which fresh does not touch
+pub record Given : Type 0 where
+  pub marks : List ℕ
+  pub area : List ℕ
+
+-- of the sizes that are meant: the eight places of the settings' type, and a state's bytes. (With an area of another size a part answers 1.)
+pub record Sized (s : Settings) (m : Given) : Type 0 where
+  pub places : length (s .identifiers) ≡ 8
+  pub area : length (m .area) ≡ stateMost
+
+-- what fresh leaves
+abbrev pub begun : Settings → Given → Left
+begun s m = record { device = freshChange s (m .marks) .answer .device; marks = freshChange s (m .marks) .marks; area = m .area }
 
 -- what a call comes to, and what it leaves
 abbrev pub outcome : Left → Call → Outcome
-outcome l k = run (l .device) (l .marks) k
+outcome l k = run (l .device) (l .marks) (l .area) k
 
 abbrev pub next : Left → Call → Left
-next l k = record { device = outcome l k .device; marks = outcome l k .marks }
+next l k = record { device = outcome l k .device; marks = outcome l k .marks; area = outcome l k .area }
 
 abbrev pub leftAfter : Left → List Call → Left
 leftAfter l [] = l
@@ -51,7 +65,7 @@ pub data Step : Type 0 where
 -- what a step leaves
 abbrev pub stepped : Left → Step → Left
 stepped l (one k) = next l k
-stepped l (batch rs) = record { device = l .device; marks = batchChange (l .device) (l .marks) rs .marks }
+stepped l (batch rs) = record { device = l .device; marks = batchChange (l .device) (l .marks) rs .marks; area = l .area }
 
 abbrev pub leftBy : Left → List Step → Left
 leftBy l [] = l
@@ -77,19 +91,19 @@ expand l (x ∷ xs) = callsOf l x ++ expand (stepped l x) xs
 
 -- ---- a session from fresh
 
-abbrev pub endOf : Settings → List ℕ → List Call → Left
-endOf s ws ks = leftAfter (begun s ws) ks
+abbrev pub endOf : Settings → Given → List Call → Left
+endOf s m ks = leftAfter (begun s m) ks
 
 -- the same of a session with batches, and the calls that it is
-abbrev pub endBy : Settings → List ℕ → List Step → Left
-endBy s ws xs = leftBy (begun s ws) xs
+abbrev pub endBy : Settings → Given → List Step → Left
+endBy s m xs = leftBy (begun s m) xs
 
-abbrev pub callsIn : Settings → List ℕ → List Step → List Call
-callsIn s ws xs = expand (begun s ws) xs
+abbrev pub callsIn : Settings → Given → List Step → List Call
+callsIn s m xs = expand (begun s m) xs
 
 -- a controller's calls and answers
-abbrev pub historyIn : Settings → List ℕ → List Call → ℕ → List Did
-historyIn s ws ks a = historyOf a (answersTo (begun s ws) ks)
+abbrev pub historyIn : Settings → Given → List Call → ℕ → List Did
+historyIn s m ks a = historyOf a (answersTo (begun s m) ks)
 
-abbrev pub bytesIn : Settings → List ℕ → List Call → ℕ → List (List ℕ)
-bytesIn s ws ks a = bytesTo a (begun s ws) ks
+abbrev pub bytesIn : Settings → Given → List Call → ℕ → List (List ℕ)
+bytesIn s m ks a = bytesTo a (begun s m) ks

@@ -9,7 +9,7 @@ use native.Mathlib.Numerals.{add-one}
 use native.Mathlib.Omega.{arith}
 use borrow.Author.Tests.{eq-eqb, ne-eqb}
 use lib.Dec.{eqb}
-use lib.ListN.{length, getD, take, drop, drop-of-length-le}
+use lib.ListN.{length, getD, take, drop, length-drop, drop-of-length-le}
 use lib.Seq.{drop-cons}
 use Rattle.fields.specs.Fields.{firstField, laterFields, sameBytes}
 
@@ -23,6 +23,9 @@ firstField-length (b ∷ s) = go (eqb b 32) (firstField-length s)
     go : (t : Bool) → length (firstField s) ≤ length s → length (cond t [] (b ∷ firstField s)) ≤ suc (length s)
     go true ih = omega arith
     go false ih = omega arith
+
+pub firstField-within : (s : List ℕ) (from to : ℕ) → to ≡ from + length (firstField (drop from s)) → from ≤ length s → (from ≤ to) × (to ≤ length s)
+firstField-within s from to e h = (omega (arith, e), omega (arith, e, firstField-length (drop from s), length-drop from s))
 
 pub firstField-take : (s : List ℕ) → take (length (firstField s)) s ≡ firstField s
 unfolding firstField

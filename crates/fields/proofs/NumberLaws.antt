@@ -98,3 +98,6 @@ module _ (most : ℕ) (f : List ℕ) where
   pub isNumber-fits : isNumber most f ≡ true → value f ≤ most
   unfolding isNumber
   isNumber-fits e = leb-true (value f) most (every-at (numberRules most f) 3 e)
+
+  pub number-fits : (v : ℕ) → numberOf most f ≡ Is v → v ≤ most
+  number-fits v e = omega (arith, number-value v e, isNumber-fits (number-is v e))

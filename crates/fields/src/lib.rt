@@ -1,7 +1,8 @@
 // Fields of a line of text, with a space between two, and the numbers that they spell in decimal. Any bytes are met with an answer.
 
 ghost use mathlib.Core.Path.{_≡_};
-ghost use Prim.Native.Nat.{_+_, _≤_};
+ghost use mathlib.Core.Bool.{true};
+ghost use Prim.Native.Nat.{_+_, _≤_, _<_};
 ghost use lib.ListN.{length, drop};
 ghost use Rattle.fields.specs.Fields.{firstField, isDigit, leadingZero, sameBytes, numberOf};
 
@@ -9,6 +10,13 @@ ghost use Rattle.fields.specs.Fields.{firstField, isDigit, leadingZero, 
 pub enum Number {
     Is(u64),
     None,
+}
+
+// A number in the field after a place: whether it is there and fits, and where its field ends.
+pub struct Taken {
+    pub ok: bool,
+    pub end: usize,
+    pub value: u64,
 }
 
 // ---- fields
@@ -103,4 +111,32 @@ pub fn read_number(field: &[u8], most: u64) -> Number
         i = i + 1;
     }
     Number::Is(v)
+}
+
+// The number in the field after the space at `at`, if it is at most `most`; where there is none, 0.
+pub fn take(line: &[u8], at: usize, most: u64) -> Taken
+    requires { ⌜ at ≤ length (now line) ⌝ }
+    ensures { λ r. ⌜ (at ≤ r .end) × (r .end ≤ length (now (line .entry))) × (r .value ≤ most) × (r .ok ≡ true → at < r .end) ⌝ }
+{
+    if at >= line.len() {
+        return Taken {
+            ok: false,
+            end: at,
+            value: 0,
+        };
+    }
+    let from = at + 1;
+    let to = field_end(line, from);
+    let Number::Is(value) = read_number(&line[from..to], most) else {
+        return Taken {
+            ok: false,
+            end: to,
+            value: 0,
+        };
+    };
+    Taken {
+        ok: true,
+        end: to,
+        value,
+    }
 }

@@ -5,11 +5,13 @@ use calls::Changed;
 use rules::Controller;
 use rules::Device;
 use rules::MARK_WORDS;
+use rules::Sequence;
 use rules::Settings;
 use rules::Tracking;
 ghost use mathlib.Core.Path.{_≡_};
 ghost use Prim.Native.Nat.{_≤_};
 ghost use lib.ListN.{replicate};
+ghost use Rattle.rules.specs.declared.Sequence.the-variants.{Nothing};
 ghost use Rattle.rules.specs.Device.{freshController, cleaned, closedDevice};
 ghost use Rattle.calls.specs.Calls.{freshChange};
 
@@ -27,9 +29,9 @@ fn clean(s: Settings) -> Settings
     t
 }
 
-// A device of these settings on which nobody is tracked or suspended.
+// A device of these settings on which nobody is tracked or suspended, and no state is under way.
 fn untracked(s: Settings) -> Device
-    ensures { λ r. ⌜ r ≡ record { settings = s; controllers = replicate 8 freshController } ⌝ }
+    ensures { λ r. ⌜ r ≡ record { settings = s; controllers = replicate 8 freshController; sequence = Nothing } ⌝ }
 {
     let off = Tracking::Off;
     let none = rules::no_ranges();
@@ -38,9 +40,11 @@ fn untracked(s: Settings) -> Device
         suspended: false,
         ranges: none,
     };
+    let sequence = Sequence::Nothing;
     Device {
         settings: s,
         controllers: [c; 8],
+        sequence,
     }
 }
 

@@ -1,8 +1,9 @@
-// A listing played from standard input to its end, each line answered on standard output: document 01's, or a shelf's, which has more lines (`bursts`).
-// A line is cut by `lines` and played by `playing` or by `bursts`. The loop owns the device, so that a line that leaves it as it is hands nothing back.
+// A listing played from standard input to its end, each line answered on standard output: document 01's, or a shelf's, which has more lines (`bursts`, `parts`).
+// A line is cut by `lines` and played by `playing`, `bursts` or `parts`. The loop owns the device, so that a line that leaves it as it is hands nothing back.
 
 use output::Buffer;
 use output::Waiting;
+use parts::Area;
 ghost use Prim.Native.Nat.{_≤_};
 ghost use lib.ListN.{length};
 
@@ -37,17 +38,32 @@ fn refill(input: &mut [u8], at: usize, end: usize, out: &Buffer, waiting: Waitin
     }
 }
 
-// Whether a line is one of those that only a shelf's listing has.
-fn shelf_line(shelf: bool, line: &[u8]) -> bool {
+// Whether a line is a batch or a burst, which only a shelf's listing has.
+fn burst_line(shelf: bool, line: &[u8]) -> bool {
     if shelf {
         return bursts::asks(line);
     }
     false
 }
 
+// Whether a line is a part of a state, which only a shelf's listing has.
+fn part_line(shelf: bool, line: &[u8]) -> bool {
+    if shelf {
+        return parts::asks(line);
+    }
+    false
+}
+
 // Plays the listing, to its end or until writing fails. A proved loop has to end, and nothing says that the input does: it counts its turns down, from a number
 // that no run uses up.
-pub fn run(shelf: bool, marks: &mut [u64], line: &mut [u8], out: &mut Buffer, input: &mut [u8]) {
+pub fn run(
+    shelf: bool,
+    marks: &mut [u64],
+    area: &mut Area,
+    line: &mut [u8],
+    out: &mut Buffer,
+    input: &mut [u8],
+) {
     let mut device = playing::none(marks);
     let mut waiting = Waiting::Bytes(0);
     let mut used: usize = 0;
@@ -74,8 +90,12 @@ pub fn run(shelf: bool, marks: &mut [u64], line: &mut [u8], out: &mut Buffer, in
         if taken.whole {
             let length = used;
             used = 0;
-            if shelf_line(shelf, &line[..length]) {
+            if burst_line(shelf, &line[..length]) {
                 waiting = bursts::answer(device, marks, &line[..length], out, waiting);
+            } else if part_line(shelf, &line[..length]) {
+                let played = parts::play(device, marks, area, &line[..length], out, waiting);
+                device = played.device;
+                waiting = played.waiting;
             } else {
                 let read = listing::read_line(&line[..length]);
                 let call = read.call;

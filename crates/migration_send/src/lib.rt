@@ -4,9 +4,10 @@
 use calls::Changed;
 use record::Place;
 use rules::Device;
+use rules::Sequence;
 ghost use mathlib.Core.Path.{_≡_};
 ghost use lib.ListN.{length};
-ghost use Rattle.calls.specs.Calls.{suspendChange, resumeChange};
+ghost use Rattle.calls.specs.Calls.{dropped, suspendChange, resumeChange};
 
 // Suspends a controller: type 1 suspends, also where it is suspended already; type 0 is a notice and changes nothing. Pending units stay. Refused, in
 // this order: 1, 2, 15 another type.
@@ -38,7 +39,20 @@ pub fn suspend(d: Device, marks: &[u64], id: u16, kind: u8) -> Changed
     }
 }
 
-// Resumes a controller. Pending units stay. Refused, in this order: 1, 2, 13 not suspended.
+// The sequence without one of this controller's own.
+fn without(q: Sequence, id: u16) -> Sequence
+    ensures { λ r. ⌜ r ≡ dropped id q ⌝ }
+{
+    let Sequence::Open(owner, end) = q else {
+        return q;
+    };
+    if owner == id {
+        return Sequence::Nothing;
+    }
+    q
+}
+
+// Resumes a controller: a state of its own that arrives in parts is dropped. Pending units stay. Refused, in this order: 1, 2, 13 not suspended.
 pub fn resume(d: Device, marks: &[u64], id: u16) -> Changed
     ensures { λ r. ⌜ r ≡ resumeChange d (length (now (marks .entry))) id ⌝ }
 {
@@ -56,8 +70,14 @@ pub fn resume(d: Device, marks: &[u64], id: u16) -> Changed
     }
     let mut e = d;
     e.controllers[i].suspended = false;
-    Changed {
-        number: 0,
-        device: e,
-    }
+    let settings = e.settings;
+    let controllers = e.controllers;
+    let q = e.sequence;
+    let sequence = without(q, id);
+    let device = Device {
+        settings,
+        controllers,
+        sequence,
+    };
+    Changed { number: 0, device }
 }

@@ -1,29 +1,33 @@
 -- Laws of the device record: its weights, what a sound one is known by, and what a call's place says of its table. All of it is the library's
 -- interface. Assumes nothing.
-use Prim.Native.Nat.{ℕ, zero, suc, _+_, _<_, _≤_}
+use Prim.Native.Nat.{ℕ, zero, suc, _+_, _%_, _<_, _≤_}
 use mathlib.Core.Path.{_≡_, refl, ap, sym, _∙_}
 use mathlib.Core.Bool.{Bool, true, false, _&&_, cond, and-true, and-false, true≢false}
-use mathlib.Core.List.{List, [], _∷_, map}
+use mathlib.Core.List.{List, [], _∷_, _++_, map}
 use mathlib.Core.Option.{Option, none, some}
 use native.Mathlib.Omega.{arith}
-use lib.ListN.{length, getD, take, length-take}
+use lib.ListN.{length, getD, take, replicate, length-take, length-append, length-replicate}
+use lib.Seq.{getD-take}
 use lib.Dec.{leb, eqb}
-use borrow.Author.Tests.{eqb-true, eq-eqb, ne-eqb, lt-leb}
+use borrow.Author.Tests.{eqb-true, eq-eqb, ne-eqb, lt-leb, le-leb, leb-true}
 use Rattle.rules.specs.Lists.{all, sum, isSome}
 use Rattle.rules.specs.Refusals.{Test, _else_, verdict, passes}
 use Rattle.rules.specs.Settings.{markWords, identifiersOf, settingsOk, placeOf, granularityOk}
 use Rattle.rules.specs.Ranges.{listTests}
-use Rattle.rules.specs.Device.{heldCount, heldIn, heldOf, heldOk, controllersOf, soundRules, sound, soundDevice}
+use Rattle.rules.specs.Device.{heldCount, heldIn, heldOf, heldOk, freshController, controllersOf, suspendedAt, frontOk, sequenceOk, soundRules, sound, soundDevice}
 use Rattle.rules.specs.declared.Range.{Range}
 use Rattle.rules.specs.declared.Tracking.{Tracking}
 use Rattle.rules.specs.declared.Tracking.the-variants.{Off, On}
+use Rattle.rules.specs.declared.Sequence.{Sequence}
+use Rattle.rules.specs.declared.Sequence.the-variants as sequence
+use Rattle.rules.specs.declared.Sequence.the-variants.{Open}
 use Rattle.rules.specs.declared.Controller.{Controller}
 use Rattle.rules.specs.declared.Settings.{Settings}
 use Rattle.rules.specs.declared.Device.{Device}
-use Rattle.rules.proofs.ListLaws.{every-not, all-map, and-left, and-right, placeFrom-is}
+use Rattle.rules.proofs.ListLaws.{every-not, getD-any, all-map, and-left, and-right, placeFrom-is}
 use Rattle.rules.proofs.RefusalLaws.{passes-Passed}
-use Rattle.rules.proofs.SoundLaws.{sound-settings, sound-held, sound-limit}
-use Rattle.record.specs.Record.{noController, countsOf, weightOf, weightsOf, soundWith, placeAt, whereIs, seenIn}
+use Rattle.rules.proofs.SoundLaws.{sound-settings, sound-held, sound-limit, sound-sequence}
+use Rattle.record.specs.Record.{noController, countsOf, weightOf, weightsOf, soundWith, placeAt, whereIs, seenIn, frontOf}
 use Rattle.settings.specs.Found.{foundAt}
 use Rattle.settings.specs.declared.Found.the-variants as found
 use Rattle.settings.specs.declared.Found.the-variants.{Nothing}
@@ -88,18 +92,85 @@ weightsTo-next d k total w h e f = omega (arith, sum-more (weightOf (d .settings
 pub weightsTo-all : (d : Device) (k total : ℕ) → d .settings .count ≡ k → total ≡ weightsTo d k → total ≡ weightsOf d
 weightsTo-all d k total e f = f ∙ ap (weightsTo d) (sym e)
 
+-- ---- W6: a state that arrives in parts
+
+-- the bytes of an area up to an end are so many; within the area they are its first ones
+pub frontOf-length : (end : ℕ) (area : List ℕ) → length (frontOf end area) ≡ end
+unfolding frontOf
+frontOf-length end area =
+    omega (arith, length-take end (area ++ replicate end 0), length-append area (replicate end 0), length-replicate {A = ℕ} end 0)
+
+take-front : (end : ℕ) (area rest : List ℕ) → end ≤ length area → take end (area ++ rest) ≡ take end area
+take-front zero area rest h = refl
+take-front (suc end) [] rest h = absurd (omega arith)
+take-front (suc end) (x ∷ area) rest h = ap (λ l. x ∷ l) (take-front end area rest (omega arith))
+
+pub frontOf-take : (end : ℕ) (area : List ℕ) → end ≤ length area → frontOf end area ≡ take end area
+unfolding frontOf
+frontOf-take end area h = take-front end area (replicate end 0) h
+
+-- how many bytes can be there of a state that is not whole yet
+pub front-short : (n : ℕ) → n < 4 → false ≡ frontOk n
+front-short n h = rw (lt-leb 4 n h)
+
+pub front-long : (n : ℕ) → 4096 < n → false ≡ frontOk n
+front-long n h = rw (lt-leb n 4096 h) (sym (and-false (leb 4 n)))
+
+pub front-rest : (n : ℕ) → 4 ≤ n → n ≤ 4096 → eqb (n % 4) 0 ≡ frontOk n
+front-rest n h k = rw (le-leb 4 n h, le-leb n 4096 k)
+
+-- a place that was found is in use
+pub found-used : (s : Settings) (id i : ℕ) → foundAt (placeOf s id) ≡ found.At i → i < s .count
+unfolding placeOf
+found-used s id i = go (placeOf s id) refl
+  where
+    go : (p : Option ℕ) → placeOf s id ≡ p → foundAt p ≡ found.At i → i < s .count
+    go none e f = let z : _≡_ {A = ℕ} 0 1 = cc in absurd (omega arith)
+    go (some j) e f =
+        let z : j ≡ i = cc in
+        let m = placeFrom-is (identifiersOf s) 0 id j e in
+        omega (arith, m .1, m .2, length-take (s .count) (s .identifiers))
+
+module _ (d : Device) where
+  pub sequence-none : (q : Sequence) → q ≡ sequence.Nothing → true ≡ sequenceOk (d .settings) (controllersOf d) q
+  sequence-none q e = rw e
+
+  module _ (q : Sequence) (owner end : ℕ) (e : q ≡ Open owner end) where
+    pub sequence-stray : foundAt (placeOf (d .settings) owner) ≡ Nothing → false ≡ sequenceOk (d .settings) (controllersOf d) q
+    sequence-stray f = rw e (go (placeOf (d .settings) owner) f)
+      where
+        go : (p : Option ℕ) → foundAt p ≡ Nothing → false ≡ (suspendedAt (controllersOf d) p && frontOk end)
+        go none f = refl
+        go (some i) f = let z : _≡_ {A = ℕ} 0 1 = cc in absurd (omega arith)
+
+    -- of a controller at a place: whether it is suspended
+    module _ (i : ℕ) (f : foundAt (placeOf (d .settings) owner) ≡ found.At i) (h : i < d .settings .count) (k : i < length (d .controllers)) where
+      pub sequence-owned : sequenceOk (d .settings) (controllersOf d) q ≡ (getD (d .controllers) i noController .suspended && frontOk end)
+      sequence-owned = rw e (go (placeOf (d .settings) owner) f)
+        where
+          same : getD (controllersOf d) i freshController ≡ getD (d .controllers) i noController
+          same = getD-take (d .settings .count) (d .controllers) i freshController h ∙ getD-any (d .controllers) i freshController noController k
+
+          go : (p : Option ℕ) → foundAt p ≡ found.At i → (suspendedAt (controllersOf d) p && frontOk end) ≡ (getD (d .controllers) i noController .suspended && frontOk end)
+          go none f = let z : _≡_ {A = ℕ} 0 1 = cc in absurd (omega arith)
+          go (some j) f = let z : j ≡ i = cc in rw z (ap (λ (c : Controller). c .suspended && frontOk end) same)
+
 -- ---- soundness, rule by rule
 
 module _ (d : Device) where
   pub soundDevice-settings-not : settingsOk (d .settings) ≡ false → soundDevice d ≡ false
   unfolding sound
-  soundDevice-settings-not e = every-not (soundRules (d .settings) (map heldOf (controllersOf d))) 0 e
+  soundDevice-settings-not e = every-not (soundRules (d .settings) (map heldOf (controllersOf d)) (sequenceOk (d .settings) (controllersOf d) (d .sequence))) 0 e
+
+  pub soundDevice-sequence-not : sequenceOk (d .settings) (controllersOf d) (d .sequence) ≡ false → soundDevice d ≡ false
+  unfolding sound
+  soundDevice-sequence-not e = every-not (soundRules (d .settings) (map heldOf (controllersOf d)) (sequenceOk (d .settings) (controllersOf d) (d .sequence))) 3 e
 
   -- where they pass, it is left that the weights are within the limit: a controller that may not hold what it does weighs more than every limit
-  pub soundDevice-weights : settingsOk (d .settings) ≡ true → leb (weightsOf d) (d .settings .limit) ≡ soundDevice d
+  pub soundDevice-weights : settingsOk (d .settings) ≡ true → sequenceOk (d .settings) (controllersOf d) (d .sequence) ≡ true → leb (weightsOf d) (d .settings .limit) ≡ soundDevice d
   unfolding sound
-  soundDevice-weights e =
-      rw (e, all-map (heldOk (d .settings)) heldOf (controllersOf d)) (go (all (λ c. heldOk (d .settings) (heldOf c)) (controllersOf d)) refl)
+  soundDevice-weights e q =
+      rw (e, q, all-map (heldOk (d .settings)) heldOf (controllersOf d)) (go (all (λ c. heldOk (d .settings) (heldOf c)) (controllersOf d)) refl)
     where
       go : (b : Bool) → all (λ c. heldOk (d .settings) (heldOf c)) (controllersOf d) ≡ b
           → leb (weightsOf d) (d .settings .limit) ≡ (b && (leb (countsOf d) (d .settings .limit) && true))
@@ -118,20 +189,28 @@ pub record SoundFacts (d : Device) : Type 0 where
 
 pub soundDevice-facts : (d : Device) → soundDevice d ≡ true → SoundFacts d
 soundDevice-facts d e =
-    let s = sound-settings (d .settings) (map heldOf (controllersOf d)) e in
+    let s = sound-settings (d .settings) (map heldOf (controllersOf d)) _ e in
     record {
       settings = s;
       count = settingsOk-count (d .settings) s;
       greatest = settingsOk-greatest (d .settings) s;
       limit = settingsOk-limit (d .settings) s;
-      counts = sound-limit (d .settings) (map heldOf (controllersOf d)) e;
+      counts = sound-limit (d .settings) (map heldOf (controllersOf d)) _ e;
     }
+
+-- W6: an open sequence ends within a state's bytes
+pub sequence-within : (d : Device) → soundDevice d ≡ true → (owner end : ℕ) → d .sequence ≡ Open owner end → end ≤ 4096
+sequence-within d e owner end q =
+    let k : sequenceOk (d .settings) (controllersOf d) (Open owner end) ≡ true =
+    sym (ap (sequenceOk (d .settings) (controllersOf d)) q) ∙ sound-sequence (d .settings) (map heldOf (controllersOf d)) _ e in
+    let f = and-right (suspendedAt (controllersOf d) (placeOf (d .settings) owner)) (frontOk end) k in
+    leb-true end 4096 (and-left (leb end 4096) _ (and-right (leb 4 end) _ f))
 
 -- its weights are its counts
 pub soundDevice-counts : (d : Device) → soundDevice d ≡ true → weightsOf d ≡ countsOf d
 soundDevice-counts d e =
     weights-counts (d .settings) (controllersOf d)
-    (sym (all-map (heldOk (d .settings)) heldOf (controllersOf d)) ∙ sound-held (d .settings) (map heldOf (controllersOf d)) e)
+    (sym (all-map (heldOk (d .settings)) heldOf (controllersOf d)) ∙ sound-held (d .settings) (map heldOf (controllersOf d)) _ e)
 
 -- and a controller of it that is on
 heldOk-facts : (s : Settings) (t : Tracking) (rs : List Range) (g n : ℕ) → s .greatest ≤ 20 → t ≡ On g n → heldOk s (heldIn t rs) ≡ true → HeldFacts s g n (take n rs)
@@ -148,7 +227,7 @@ soundDevice-held d i g n e h k t =
     let c = getD (d .controllers) i noController in
     heldOk-facts s (c .tracking) (c .ranges) g n (soundDevice-facts d e .greatest) t
     (all-front (λ c. heldOk s (heldOf c)) (d .controllers) (s .count) i noController h k
-    (sym (all-map (heldOk s) heldOf (controllersOf d)) ∙ sound-held s (map heldOf (controllersOf d)) e))
+    (sym (all-map (heldOk s) heldOf (controllersOf d)) ∙ sound-held s (map heldOf (controllersOf d)) _ e))
 
 -- ---- where a call finds its controller
 

@@ -1,17 +1,20 @@
 -- The device record as a call meets it: where its controller stands, and what it sees (rules' `Seen`). All of it is the library's interface.
 -- What makes a record sound, and which refusals follow, is defined in `rules`.
 use Prim.Native.Nat.{ℕ}
-use mathlib.Core.Bool.{Bool, true, false, _&&_, cond}
-use mathlib.Core.List.{[], map}
+use mathlib.Core.Bool.{Bool, true, false, _&&_, not, cond}
+use mathlib.Core.List.{List, [], _++_, map}
 use mathlib.Core.Option.{Option, none, some}
 use lib.Dec.{eqb}
-use lib.ListN.{getD, set}
+use lib.ListN.{length, take, getD, set, replicate}
 use Rattle.rules.specs.Lists.{sum, isSome}
 use Rattle.rules.specs.Settings.{markWords, placeOf}
-use Rattle.rules.specs.Order.{Seen}
+use Rattle.rules.specs.ControllerState.{stateMost}
+use Rattle.rules.specs.Order.{Seen, Arriving}
 use Rattle.rules.specs.Device.{heldCount, heldOf, heldOk, controllersOf, soundDevice}
 use Rattle.rules.specs.declared.Tracking.{Tracking}
 use Rattle.rules.specs.declared.Tracking.the-variants.{Off, On}
+use Rattle.rules.specs.declared.Sequence.{Sequence}
+use Rattle.rules.specs.declared.Sequence.the-variants.{Nothing, Open}
 use Rattle.rules.specs.declared.Controller.{Controller}
 use Rattle.rules.specs.declared.Settings.{Settings}
 use Rattle.rules.specs.declared.Device.{Device}
@@ -41,7 +44,11 @@ controllerAt d (some i) = getD (d .controllers) i noController
 
 -- a record with the controller at a place replaced
 abbrev pub withController : Device → ℕ → Controller → Device
-withController d i c = record { settings = d .settings; controllers = set (d .controllers) i c }
+withController d i c = record { settings = d .settings; controllers = set (d .controllers) i c; sequence = d .sequence }
+
+-- a record with another sequence
+abbrev pub withSequence : Device → Sequence → Device
+withSequence d q = record { settings = d .settings; controllers = d .controllers; sequence = q }
 
 abbrev pub isOn : Tracking → Bool
 isOn Off = false
@@ -69,3 +76,27 @@ seenIn d words p =
       tracked = isOn (controllerAt d p .tracking);
       counts = countsOf d;
     }
+
+-- ---- W6: a state that arrives in parts
+
+-- whether it is a controller's own, and whether it is another's
+abbrev pub ownedBy : ℕ → Sequence → Bool
+ownedBy id Nothing = false
+ownedBy id (Open owner end) = eqb owner id
+
+abbrev pub othersIn : ℕ → Sequence → Bool
+othersIn id Nothing = false
+othersIn id (Open owner end) = not (eqb owner id)
+
+-- the bytes of an area up to an end. (Zeros stand for those that it lacks; an area of another length than a state's is refused.)
+unfoldable pub frontOf : ℕ → List ℕ → List ℕ
+frontOf end area = take end (area ++ replicate end 0)
+
+-- the bytes so far of a controller's own
+abbrev pub frontIn : ℕ → Sequence → List ℕ → Option (List ℕ)
+frontIn id Nothing area = none
+frontIn id (Open owner end) area = cond (eqb owner id) (some (frontOf end area)) none
+
+-- what a part to a controller sees of the sequence and an area
+abbrev pub arrivingIn : Sequence → List ℕ → ℕ → Arriving
+arrivingIn q area id = record { area = eqb (length area) stateMost; others = othersIn id q; front = frontIn id q area }

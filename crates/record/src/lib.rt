@@ -4,15 +4,17 @@
 use rules::Controller;
 use rules::Device;
 use rules::MARK_WORDS;
+use rules::Sequence;
 use rules::Settings;
 use rules::Tracking;
 use settings::Found;
 ghost use mathlib.Core.Path.{_≡_};
 ghost use mathlib.Core.Bool.{true};
-ghost use Prim.Native.Nat.{_≤_};
+ghost use Prim.Native.Nat.{_<_, _≤_};
+ghost use lib.ListN.{getD};
 ghost use Rattle.rules.specs.Settings.{settingsOk};
-ghost use Rattle.rules.specs.Device.{heldOf, heldOk, heldCount, soundDevice};
-ghost use Rattle.record.specs.Record.{weightOf, weightsOf, whereIs};
+ghost use Rattle.rules.specs.Device.{heldOf, heldOk, heldCount, frontOk, controllersOf, sequenceOk, soundDevice};
+ghost use Rattle.record.specs.Record.{noController, weightOf, weightsOf, whereIs};
 
 // Where a call finds its controller, or the refusal's number, 1 or 2.
 pub enum Place {
@@ -97,13 +99,56 @@ pub fn weights(d: Device) -> usize
     total
 }
 
-// Whether a record is sound: its settings pass 16, each controller in use is off or holds what it may, and their counts are within the limit.
-// Unused places are not looked at.
+// Whether so many bytes can be there of a state that is not whole yet: whole dwords, 4 to 4,096 bytes.
+fn front_ok(end: u16) -> bool
+    ensures { λ r. ⌜ r ≡ frontOk end ⌝ }
+{
+    if end < 4 {
+        return false;
+    }
+    if end > 4096 {
+        return false;
+    }
+    end % 4 == 0
+}
+
+// Whether the controller at a place is suspended.
+fn suspended_at(d: Device, i: usize) -> bool
+    requires { ⌜ i < 8 ⌝ }
+    ensures { λ r. ⌜ r ≡ getD (d .controllers) i noController .suspended ⌝ }
+{
+    let c = d.controllers[i];
+    c.suspended
+}
+
+// Whether no state is arriving in parts, or one of a controller in the settings that is suspended, up to an end that parts can have.
+fn sequence_ok(d: Device) -> bool
+    requires { ⌜ settingsOk (d .settings) ≡ true ⌝ }
+    ensures { λ r. ⌜ r ≡ sequenceOk (d .settings) (controllersOf d) (d .sequence) ⌝ }
+{
+    let q = d.sequence;
+    let Sequence::Open(owner, end) = q else {
+        return true;
+    };
+    let Found::At(i) = settings::find(d.settings, owner) else {
+        return false;
+    };
+    if !suspended_at(d, i) {
+        return false;
+    }
+    front_ok(end)
+}
+
+// Whether a record is sound: its settings pass 16, each controller in use is off or holds what it may, their counts are within the limit, and a state that
+// arrives in parts is as it may be. Unused places are not looked at.
 pub fn sound(d: Device) -> bool
     ensures { λ r. ⌜ r ≡ soundDevice d ⌝ }
 {
     let s = d.settings;
     if !settings::settings_ok(s) {
+        return false;
+    }
+    if !sequence_ok(d) {
         return false;
     }
     weights(d) <= s.limit as usize

@@ -1,11 +1,12 @@
 // The records program: reads cases from standard input to its end, and answers each on standard output. A case is a device record of any kind, sound
 // or not, with lent marks, lent bytes and one call. The calls are `tracker`'s; here stand only the bytes of a case and of its answer, little-endian.
 //
-// A case has 2944 bytes: the record (1599 bytes: settings, and from 31 on 8 controllers of 196 bytes), how many mark words are lent (2) and the value of
-// each (8), the call (1, at 1609), its identifier (2), address (8), length in bytes (8) and type (1), how many bytes are lent (2), these (1024), how many
-// records a batch has (2), zeros. An answer has 7453: the number (1), a start's row (1), the count of a write or a batch (8), a receive's suspended, more and granularity
-// (1 each) and runs (8), how many notes a batch did (8) and what cut it (1), then the record (1599), 600 mark words and 1024 lent bytes as they are after the
-// call, with zeros past the lent ones.
+// A case has 2944 bytes: the record (1604 bytes: settings, from 31 on 8 controllers of 196 bytes, from 1599 on the sequence), how many mark words are lent (2)
+// and the value of each (8), the call (1, at 1614), its identifier (2), address (8), length in bytes (8) and type (1), how many bytes are lent (2), these
+// (1024; those past them are zeros), how many records a batch has (2), a part's indicator (1), low and high (4 each) and count (4), how many bytes of state area
+// are lent (2), the value of those past the first 64 (1), these 64, zeros. An answer has 11666: the number (1), a start's row (1), the count of a write or a
+// batch (8), a receive's suspended, more and granularity (1 each) and runs (8), how many notes a batch did (8) and what cut it (1), how many bytes a part yields
+// (8), then the record (1604), 600 mark words, 1024 lent bytes and 4200 bytes of state area as they are after the call, with zeros past the lent ones.
 
 use libc::STDIN_FILENO;
 use output::Buffer;
@@ -14,6 +15,7 @@ use rules::Bytes;
 use rules::Controller;
 use rules::Device;
 use rules::Range;
+use rules::Sequence;
 use rules::Settings;
 use rules::Tracking;
 use tracker::Changed;
@@ -28,14 +30,15 @@ struct State {
     waiting: Waiting,
 }
 
-// What a call answers, and the record after it. The row is a start's, the count a write's or a batch's, `done` and `cut` a batch's, and what was received is a
-// receive's: zeros, beside the number, where it is none.
+// What a call answers, and the record after it. The row is a start's, the count a write's or a batch's, `done` and `cut` a batch's, `whole` a part's, and what was
+// received is a receive's: zeros, beside the number, where it is none.
 struct Answer {
     received: Received,
     row: u8,
     count: usize,
     done: usize,
     cut: u8,
+    whole: usize,
     device: Device,
 }
 
@@ -177,13 +180,25 @@ fn read_settings(case: &[u8]) -> Settings {
     }
 }
 
+// The sequence.
+fn read_sequence(case: &[u8]) -> Sequence {
+    if byte_at(case, 1599) == 0 {
+        return Sequence::Nothing;
+    }
+    let owner = short_at(case, 1600);
+    let end = short_at(case, 1602);
+    Sequence::Open(owner, end)
+}
+
 // The record.
 fn read_device(case: &[u8]) -> Device {
     let settings = read_settings(case);
     let controllers = read_controllers(case);
+    let sequence = read_sequence(case);
     Device {
         settings,
         controllers,
+        sequence,
     }
 }
 
@@ -282,12 +297,26 @@ fn put_settings(out: &mut Buffer, waiting: Waiting, s: Settings) -> Waiting {
     put_identifiers(out, g, identifiers)
 }
 
+// Puts a sequence.
+fn put_sequence(out: &mut Buffer, waiting: Waiting, q: Sequence) -> Waiting {
+    match q {
+        Sequence::Nothing => put_number(out, waiting, 5, 0),
+        Sequence::Open(owner, end) => {
+            let a = output::put_byte(out, waiting, 1);
+            let b = put_number(out, a, 2, owner as u64);
+            put_number(out, b, 2, end as u64)
+        }
+    }
+}
+
 // Puts a record.
 fn put_device(out: &mut Buffer, waiting: Waiting, d: Device) -> Waiting {
     let settings = d.settings;
     let controllers = d.controllers;
+    let sequence = d.sequence;
     let a = put_settings(out, waiting, settings);
-    put_controllers(out, a, controllers)
+    let b = put_controllers(out, a, controllers);
+    put_sequence(out, b, sequence)
 }
 
 // Puts some words.
@@ -319,7 +348,8 @@ fn put_answer(out: &mut Buffer, waiting: Waiting, a: Answer) -> Waiting {
     let f = put_received(out, e, received);
     let g = put_number(out, f, 8, a.done as u64);
     let h = output::put_byte(out, g, a.cut);
-    put_device(out, h, device)
+    let i = put_number(out, h, 8, a.whole as u64);
+    put_device(out, i, device)
 }
 
 // How many there are: as a case says, and no more than there is room for.
@@ -353,6 +383,7 @@ fn changed(c: Changed) -> Answer {
         count: 0,
         done: 0,
         cut: 0,
+        whole: 0,
         device,
     }
 }
@@ -366,7 +397,7 @@ fn fresh(case: &[u8], marks: &mut [u64]) -> Answer {
 // Plays a start.
 fn start(case: &[u8], marks: &mut [u64], lent: &[u8]) -> Answer {
     let d = read_device(case);
-    let id = short_at(case, 1610);
+    let id = short_at(case, 1615);
     let started = tracker::start(d, marks, id, lent);
     let received = not_received(started.number);
     let device = started.device;
@@ -376,6 +407,7 @@ fn start(case: &[u8], marks: &mut [u64], lent: &[u8]) -> Answer {
         count: 0,
         done: 0,
         cut: 0,
+        whole: 0,
         device,
     }
 }
@@ -383,16 +415,16 @@ fn start(case: &[u8], marks: &mut [u64], lent: &[u8]) -> Answer {
 // Plays a stop.
 fn stop(case: &[u8], marks: &mut [u64]) -> Answer {
     let d = read_device(case);
-    let id = short_at(case, 1610);
+    let id = short_at(case, 1615);
     changed(tracker::stop(d, marks, id))
 }
 
 // Plays a write: the record stays as given.
 fn write(case: &[u8], marks: &mut [u64]) -> Answer {
     let device = read_device(case);
-    let id = short_at(case, 1610);
-    let at = long_at(case, 1612);
-    let bytes = long_at(case, 1620);
+    let id = short_at(case, 1615);
+    let at = long_at(case, 1617);
+    let bytes = long_at(case, 1625);
     let written = tracker::write(device, marks, id, at, Bytes(bytes));
     let received = not_received(written.number);
     Answer {
@@ -401,6 +433,7 @@ fn write(case: &[u8], marks: &mut [u64]) -> Answer {
         count: written.count,
         done: 0,
         cut: 0,
+        whole: 0,
         device,
     }
 }
@@ -408,7 +441,7 @@ fn write(case: &[u8], marks: &mut [u64]) -> Answer {
 // Plays a receive: the record stays as given.
 fn receive(case: &[u8], marks: &mut [u64], lent: &mut [u8]) -> Answer {
     let device = read_device(case);
-    let id = short_at(case, 1610);
+    let id = short_at(case, 1615);
     let received = tracker::receive(device, marks, id, lent);
     Answer {
         received,
@@ -416,6 +449,7 @@ fn receive(case: &[u8], marks: &mut [u64], lent: &mut [u8]) -> Answer {
         count: 0,
         done: 0,
         cut: 0,
+        whole: 0,
         device,
     }
 }
@@ -423,15 +457,15 @@ fn receive(case: &[u8], marks: &mut [u64], lent: &mut [u8]) -> Answer {
 // Plays a suspend.
 fn suspend(case: &[u8], marks: &[u64]) -> Answer {
     let d = read_device(case);
-    let id = short_at(case, 1610);
-    let kind = byte_at(case, 1628);
+    let id = short_at(case, 1615);
+    let kind = byte_at(case, 1633);
     changed(tracker::suspend(d, marks, id, kind))
 }
 
 // Plays a resume.
 fn resume(case: &[u8], marks: &[u64]) -> Answer {
     let d = read_device(case);
-    let id = short_at(case, 1610);
+    let id = short_at(case, 1615);
     changed(tracker::resume(d, marks, id))
 }
 
@@ -478,7 +512,7 @@ fn read_records(rows: &[u8]) -> [WriteRecord; 1025] {
 // Plays a batch: the record stays as given.
 fn batch(case: &[u8], marks: &mut [u64], lent: &[u8]) -> Answer {
     let device = read_device(case);
-    let n = lent_at(case, 2655, 1025);
+    let n = lent_at(case, 2660, 1025);
     let records = read_records(lent);
     let batched = tracker::batch_of(device, marks, records, n);
     let received = not_received(batched.number);
@@ -488,13 +522,36 @@ fn batch(case: &[u8], marks: &mut [u64], lent: &[u8]) -> Answer {
         count: batched.count,
         done: batched.done,
         cut: batched.refusal,
+        whole: 0,
+        device,
+    }
+}
+
+// Plays a part.
+fn part(case: &[u8], marks: &[u64], lent: &[u8], area: &mut [u8]) -> Answer {
+    let d = read_device(case);
+    let id = short_at(case, 1615);
+    let indicator = byte_at(case, 2662);
+    let low = word_at(case, 2663);
+    let high = word_at(case, 2667);
+    let count = word_at(case, 2671);
+    let set = tracker::set_state(d, marks, area, id, indicator, low, high, count, lent);
+    let received = not_received(set.number);
+    let device = set.device;
+    Answer {
+        received,
+        row: 0,
+        count: 0,
+        done: 0,
+        cut: 0,
+        whole: set.whole,
         device,
     }
 }
 
 // Plays a case's call on what is lent to it. A call past the form is taken for the last one.
-fn call(case: &[u8], marks: &mut [u64], lent: &mut [u8]) -> Answer {
-    match byte_at(case, 1609) {
+fn call(case: &[u8], marks: &mut [u64], lent: &mut [u8], area: &mut [u8]) -> Answer {
+    match byte_at(case, 1614) {
         0 => fresh(case, marks),
         1 => start(case, marks, lent),
         2 => stop(case, marks),
@@ -502,7 +559,8 @@ fn call(case: &[u8], marks: &mut [u64], lent: &mut [u8]) -> Answer {
         4 => receive(case, marks, lent),
         5 => suspend(case, marks),
         6 => resume(case, marks),
-        _ => batch(case, marks, lent),
+        7 => batch(case, marks, lent),
+        _ => part(case, marks, lent, area),
     }
 }
 
@@ -517,42 +575,83 @@ fn fill(words: &mut [u64], value: u64) {
     }
 }
 
-// Copies a case's lent bytes, as many as there is room for.
-fn copy_lent(case: &[u8], lent: &mut [u8]) {
-    let mut at: usize = 1631;
-    while at < case.len() {
-        let i = at - 1631;
-        if lent.len() <= i {
-            return;
-        }
-        lent[i] = case[at];
-        at = at + 1;
+// A lent byte: those past the ones that a case has room for are zeros.
+fn lent_byte(case: &[u8], i: usize) -> u8 {
+    if i < 1024 {
+        return byte_at(case, 1636 + i);
+    }
+    0
+}
+
+// Makes the lent bytes.
+fn fill_lent(case: &[u8], lent: &mut [u8]) {
+    let mut i: usize = 0;
+    while i < lent.len() {
+        lent[i] = lent_byte(case, i);
+        i = i + 1;
+    }
+}
+
+// A byte of the state area: the first ones are told one by one, those past them are all the same.
+fn area_byte(case: &[u8], i: usize) -> u8 {
+    if i < 64 {
+        return byte_at(case, 2678 + i);
+    }
+    byte_at(case, 2677)
+}
+
+// Makes the state area.
+fn fill_area(case: &[u8], area: &mut [u8]) {
+    let mut i: usize = 0;
+    while i < area.len() {
+        area[i] = area_byte(case, i);
+        i = i + 1;
     }
 }
 
 // Fills what a case lends, and plays its call on that.
-fn lend(case: &[u8], marks: &mut [u64], lent: &mut [u8]) -> Answer {
-    let value = long_at(case, 1601);
+fn lend(case: &[u8], marks: &mut [u64], lent: &mut [u8], area: &mut [u8]) -> Answer {
+    let value = long_at(case, 1606);
     fill(marks, value);
-    copy_lent(case, lent);
-    call(case, marks, lent)
+    fill_lent(case, lent);
+    fill_area(case, area);
+    call(case, marks, lent, area)
 }
 
 // Plays a case in this room, all zeros, for what it lends: what is past that stays zero.
-fn play_in(case: &[u8], marks: &mut [u64], lent: &mut [u8]) -> Answer {
-    let words = lent_at(case, 1599, marks.len());
-    let size = lent_at(case, 1629, lent.len());
-    lend(case, &mut marks[..words], &mut lent[..size])
+fn play_in(case: &[u8], marks: &mut [u64], lent: &mut [u8], area: &mut [u8]) -> Answer {
+    let words = lent_at(case, 1604, marks.len());
+    let size = lent_at(case, 1634, lent.len());
+    let bytes = lent_at(case, 2675, area.len());
+    lend(
+        case,
+        &mut marks[..words],
+        &mut lent[..size],
+        &mut area[..bytes],
+    )
 }
 
-// Plays a case, and puts its answer. There is room for more marks than a device has.
+// Puts the lent bytes that an answer has room for.
+fn put_told(out: &mut Buffer, waiting: Waiting, lent: &[u8; 4100]) -> Waiting {
+    let mut waiting = waiting;
+    let mut i: usize = 0;
+    while i < 1024 {
+        waiting = output::put_byte(out, waiting, lent[i]);
+        i = i + 1;
+    }
+    waiting
+}
+
+// Plays a case, and puts its answer. There is room for more marks and more state area than a device has.
 fn play(case: &[u8], out: &mut Buffer, waiting: Waiting) -> Waiting {
     let mut marks = [0u64; 600];
-    let mut lent = [0u8; 1024];
-    let answer = play_in(case, &mut marks, &mut lent);
+    let mut lent = [0u8; 4100];
+    let mut area = [0u8; 4200];
+    let answer = play_in(case, &mut marks, &mut lent, &mut area);
     let a = put_answer(out, waiting, answer);
     let b = put_words(out, a, &marks);
-    output::put_bytes(out, b, &lent)
+    let c = put_told(out, b, &lent);
+    output::put_bytes(out, c, &area)
 }
 
 // ---- input and output

@@ -11,13 +11,13 @@ use lib.Dec.{leb, eqb}
 use lib.ListN.{length, getD, set}
 use lib.Seq.{set-getD}
 use borrow.Author.Tests.{eqb-true, eqb-false, leb-true, le-leb}
-use Rattle.rules.specs.Lists.{member, sum, isSome}
+use Rattle.rules.specs.Lists.{any, member, sum, isSome}
 use Rattle.rules.specs.Refusals.{Test, _else_, verdict}
 use Rattle.rules.specs.Settings.{identifiersOf, placeOf}
 use Rattle.rules.specs.StartData.{countOf}
-use Rattle.rules.specs.Order.{Op, start, stop, write, receive, suspend, resume, Seen, startOwn, startShared, order}
-use Rattle.rules.specs.Device.{heldCount}
-use Rattle.rules.specs.Machine.{Answer, refused, off, on, Slot, slot, freshSlot, isSuspended, isTracked, heldBy, accepted, slotStep, State, fresh, soundState, countsIn, slotAt, withSlot, slotOf, seenAt, stepAt, Call, Event, step, after, events, numberOf}
+use Rattle.rules.specs.Order.{Op, start, stop, write, receive, suspend, resume, part, Seen, Arriving, startOwn, startShared, order}
+use Rattle.rules.specs.Device.{heldCount, cleaned, closedSettings}
+use Rattle.rules.specs.Machine.{Answer, refused, Marks, off, on, Slot, freshSlot, isSuspended, areOn, isTracked, heldOn, heldBy, isOpen, accepted, slotStep, State, fresh, soundState, countsIn, slotAt, withSlot, slotOf, seenAt, othersOpen, arrivingAt, stepAt, Call, Event, step, after, events, numberOf}
 use Rattle.rules.specs.History.{Did, only, historyOf}
 use Rattle.rules.specs.Demands.{unhindered, sharedRefusals}
 use Rattle.rules.specs.declared.Settings.{Settings}
@@ -32,11 +32,15 @@ use Rattle.rules.proofs.SoundLaws.{step-sound}
 abbrev seenFor : Bool → Settings → ℕ → Slot → ℕ → Seen
 seenFor b s a c n = record { sound = b; known = isSome (placeOf s a); suspended = isSuspended c; tracked = isTracked c; counts = n }
 
--- a slot's step with nobody else tracked
-abbrev aloneStep : Bool → Settings → ℕ → Slot → Op → Answer × Slot
-aloneStep b s a c o = slotStep s (seenFor b s a c 0) c o
+-- and what a part sees beside that, with a state of another under way or not (W6)
+abbrev arrivingFor : Bool → Slot → Arriving
+arrivingFor x c = record { area = true; others = x; front = c .front }
 
--- ---- the counts matter to a start that is refused with 12, and to nothing else
+-- a slot's step with nobody else tracked, and no other's state under way
+abbrev aloneStep : Bool → Settings → ℕ → Slot → Op → Answer × Slot
+aloneStep b s a c o = slotStep s (seenFor b s a c 0) (arrivingFor false c) c o
+
+-- ---- the counts matter to a start that is refused with 12, another's state to a part that is refused with 23, and both to nothing else
 
 limit-same : {A : Type 0} (k n l : ℕ) (y : A) (refuse : ℕ → ℕ → A) → verdict ((leb (k + n) l else 12) ∷ []) y refuse ≢ refuse 12 0
     → verdict ((leb (k + 0) l else 12) ∷ []) y refuse ≡ verdict ((leb (k + n) l else 12) ∷ []) y refuse
@@ -49,13 +53,14 @@ limit-same k n l y refuse = go (leb (k + n) l) refl
 not-limit : (n : ℕ) → not (member n (12 ∷ [])) ≡ true → n ≢ 12
 not-limit n e q = true≢false (sym e ∙ ap (λ m. not (member m (12 ∷ []))) q)
 
-slotStep-same : (b : Bool) (s : Settings) (a : ℕ) (c : Slot) (n : ℕ) (o : Op) → not (member (numberOf ((slotStep s (seenFor b s a c n) c o) .0)) (sharedRefusals o)) ≡ true
-    → aloneStep b s a c o ≡ slotStep s (seenFor b s a c n) c o
+slotStep-same : (b : Bool) (s : Settings) (a : ℕ) (c : Slot) (n : ℕ) (q : Bool) (o : Op)
+    → not (member (numberOf ((slotStep s (seenFor b s a c n) (arrivingFor q c) c o) .0)) (sharedRefusals o)) ≡ true
+    → aloneStep b s a c o ≡ slotStep s (seenFor b s a c n) (arrivingFor q c) c o
 unfolding order
-slotStep-same b s a c n (start x) f =
+slotStep-same b s a c n q (start x) f =
     verdict-append before (last 0) y refuse
     ∙ verdict-same (refuse 12 0) before (verdict (last n) y refuse) (verdict (last 0) y refuse) refuse (limit-same (countOf x) n (s .limit) y refuse)
-    (λ e. not-limit (numberOf ((slotStep s (seenFor b s a c n) c (start x)) .0)) f (ap (λ (r : Answer × Slot). numberOf (r .0)) (verdict-append before (last n) y refuse ∙ e)))
+    (λ e. not-limit (numberOf ((slotStep s (seenFor b s a c n) (arrivingFor q c) c (start x)) .0)) f (ap (λ (r : Answer × Slot). numberOf (r .0)) (verdict-append before (last n) y refuse ∙ e)))
     ∙ sym (verdict-append before (last n) y refuse)
   where
     before : List Test
@@ -69,33 +74,45 @@ slotStep-same b s a c n (start x) f =
 
     refuse : ℕ → ℕ → Answer × Slot
     refuse k i = (refused k i, c)
-slotStep-same b s a c n stop f = refl
-slotStep-same b s a c n (write w) f = refl
-slotStep-same b s a c n (receive x) f = refl
-slotStep-same b s a c n (suspend kind) f = refl
-slotStep-same b s a c n resume f = refl
+slotStep-same b s a c n q stop f = refl
+slotStep-same b s a c n q (write w) f = refl
+slotStep-same b s a c n q (receive x) f = refl
+slotStep-same b s a c n q (suspend kind) f = refl
+slotStep-same b s a c n q resume f = refl
+slotStep-same b s a c n q (part x) f = go b (isSome (placeOf s a)) (c .suspended) q f
+  where
+    at : Bool → Bool → Bool → ℕ → Bool → Answer × Slot
+    at b known u m q = slotStep s (record { sound = b; known = known; suspended = u; tracked = isTracked c; counts = m }) (arrivingFor q c) c (part x)
+
+    go : (b known u q : Bool) → not (member (numberOf ((at b known u n q) .0)) (23 ∷ [])) ≡ true → at b known u 0 false ≡ at b known u n q
+    go false known u q f = refl
+    go true false u q f = refl
+    go true true false q f = refl
+    go true true true false f = refl
+    go true true true true f = absurd (true≢false (sym f))
 
 -- ---- an unsound device stays as it is, so a device is as sound after a call as it was before
 
-slotStep-unsound : (s : Settings) (v : Seen) (c : Slot) (o : Op) → v .sound ≡ false → slotStep s v c o ≡ (refused 1 0, c)
+slotStep-unsound : (s : Settings) (v : Seen) (a : Arriving) (c : Slot) (o : Op) → v .sound ≡ false → slotStep s v a c o ≡ (refused 1 0, c)
 unfolding order
-slotStep-unsound s v c (start x) e = rw e
-slotStep-unsound s v c stop e = rw e
-slotStep-unsound s v c (write w) e = rw e
-slotStep-unsound s v c (receive x) e = rw e
-slotStep-unsound s v c (suspend kind) e = rw e
-slotStep-unsound s v c resume e = rw e
+slotStep-unsound s v a c (start x) e = rw e
+slotStep-unsound s v a c stop e = rw e
+slotStep-unsound s v a c (write w) e = rw e
+slotStep-unsound s v a c (receive x) e = rw e
+slotStep-unsound s v a c (suspend kind) e = rw e
+slotStep-unsound s v a c resume e = rw e
+slotStep-unsound s v a c (part x) e = rw e
 
 pub withSlot-slotAt : (st : State) (p : Option ℕ) → withSlot st p (slotAt st p) ≡ st
 withSlot-slotAt st none = refl
-withSlot-slotAt st (some i) = ap (λ l. record { settings = st .settings; slots = l }) (set-getD (st .slots) i freshSlot)
+withSlot-slotAt st (some i) = ap (λ l. record { settings = st .settings; slots = l; stray = st .stray }) (set-getD (st .slots) i freshSlot)
 
 pub step-unsound : (st : State) (k : Call) → soundState st ≡ false → step st k ≡ (refused 1 0, st)
 unfolding step
 step-unsound st k e = go (placeOf (st .settings) (k .id))
   where
     go : (p : Option ℕ) → stepAt st p (k .op) ≡ (refused 1 0, st)
-    go p = rw (slotStep-unsound (st .settings) (seenAt st p) (slotAt st p) (k .op) e) (ap (λ (t : State). (refused 1 0, t)) (withSlot-slotAt st p))
+    go p = rw (slotStep-unsound (st .settings) (seenAt st p) (arrivingAt st p) (slotAt st p) (k .op) e) (ap (λ (t : State). (refused 1 0, t)) (withSlot-slotAt st p))
 
 step-sound-same : (st : State) (k : Call) → soundState ((step st k) .1) ≡ soundState st
 step-sound-same st k = go (soundState st) refl
@@ -170,33 +187,35 @@ seems-unhindered a (k ∷ ks) st z f =
         let free : not (member (numberOf ((ownStep st a (k .op)) .0)) (sharedRefusals (k .op))) ≡ true =
         subst (λ (x : Answer). not (member (numberOf x) (sharedRefusals (k .op))) ≡ true) (step-own-answer st k a own)
         (and-left (not (member (numberOf ((step st k) .0)) (sharedRefusals (k .op)))) (unhindered (historyOf a es)) f) in
-        seems-own a st k ks (ops a ks) z own (sym (slotStep-same (soundState st) (st .settings) a (slotOf st a) (countsIn st) (k .op) free))
+        seems-own a st k ks (ops a ks) z own (sym (slotStep-same (soundState st) (st .settings) a (slotOf st a) (countsIn st) (othersOpen st (placeOf (st .settings) a)) (k .op) free))
         (ih (and-right (not (member (numberOf ((step st k) .0)) (sharedRefusals (k .op)))) (unhindered (historyOf a es)) f))
     go false q ih f = seems-other a st k ks (ops a ks) (eqb-false (k .id) a q) (ih f)
 
 -- ---- a session of its calls alone: the counts are its own, which do not matter to it
 
-own-count : (b : Bool) (s : Settings) (a : ℕ) (c : Slot) (o : Op) → slotStep s (seenFor b s a c (heldCount (heldBy c))) c o ≡ aloneStep b s a c o
+own-count : (b : Bool) (s : Settings) (a : ℕ) (c : Slot) (o : Op) → slotStep s (seenFor b s a c (heldCount (heldBy c))) (arrivingFor false c) c o ≡ aloneStep b s a c o
 unfolding order
-own-count b s a (slot f off) o = refl
-own-count b s a (slot f (on g rs p)) (start x) = go b (isSome (placeOf s a)) f
+own-count b s a c (start x) = go b (isSome (placeOf s a)) (c .suspended) (c .marks)
   where
-    go : (b known f : Bool)
-        → slotStep s (record { sound = b; known = known; suspended = f; tracked = true; counts = length rs }) (slot f (on g rs p)) (start x)
-        ≡ slotStep s (record { sound = b; known = known; suspended = f; tracked = true; counts = 0 }) (slot f (on g rs p)) (start x)
-    go true true true = refl
-    go true true false = refl
-    go true false f = refl
-    go false known f = refl
-own-count b s a (slot f (on g rs p)) stop = refl
-own-count b s a (slot f (on g rs p)) (write w) = refl
-own-count b s a (slot f (on g rs p)) (receive x) = refl
-own-count b s a (slot f (on g rs p)) (suspend kind) = refl
-own-count b s a (slot f (on g rs p)) resume = refl
+    go : (b known f : Bool) (t : Marks)
+        → slotStep s (record { sound = b; known = known; suspended = f; tracked = areOn t; counts = heldCount (heldOn t) }) (arrivingFor false c) c (start x)
+        ≡ slotStep s (record { sound = b; known = known; suspended = f; tracked = areOn t; counts = 0 }) (arrivingFor false c) c (start x)
+    go b known f off = refl
+    go true true true (on g rs p) = refl
+    go true true false (on g rs p) = refl
+    go true false f (on g rs p) = refl
+    go false known f (on g rs p) = refl
+own-count b s a c stop = refl
+own-count b s a c (write w) = refl
+own-count b s a c (receive x) = refl
+own-count b s a c (suspend kind) = refl
+own-count b s a c resume = refl
+own-count b s a c (part x) = refl
 
--- nobody but a is tracked
-abbrev Lonely : ℕ → State → Type 0
-Lonely a st = countsIn st ≡ heldCount (heldBy (slotOf st a))
+-- nobody but a is tracked, and no other's state is under way
+pub record Lonely (a : ℕ) (st : State) : Type 0 where
+  pub counts : countsIn st ≡ heldCount (heldBy (slotOf st a))
+  pub shut : othersOpen st (placeOf (st .settings) a) ≡ false
 
 sum-set : (cs : List Slot) (i : ℕ) (c : Slot) → i < length cs
     → sum (map heldCount (map heldBy (set cs i c))) + heldCount (heldBy (getD cs i freshSlot)) ≡ sum (map heldCount (map heldBy cs)) + heldCount (heldBy c)
@@ -204,9 +223,10 @@ sum-set [] i c h = absurd (omega arith)
 sum-set (x ∷ cs) zero c h = omega arith
 sum-set (x ∷ cs) (suc i) c h = omega (arith, sum-set cs i c (omega arith))
 
-lonely-step : (a : ℕ) (st : State) (k : Call) → Sized st → k .id ≡ a → Lonely a st → Lonely a ((step st k) .1)
+counts-step : (a : ℕ) (st : State) (k : Call) → Sized st → k .id ≡ a → countsIn st ≡ heldCount (heldBy (slotOf st a))
+    → countsIn ((step st k) .1) ≡ heldCount (heldBy (slotOf ((step st k) .1) a))
 unfolding step
-lonely-step a st k z own l =
+counts-step a st k z own l =
     rw (step-own st k a z own) (rw own (go (placeOf (st .settings) a) refl (placeOf-fits st z a)))
   where
     go : (p : Option ℕ) → placeOf (st .settings) a ≡ p → Fits p (st .slots) → countsIn ((stepAt st p (k .op)) .1) ≡ heldCount (heldBy ((ownStep st a (k .op)) .1))
@@ -217,7 +237,27 @@ lonely-step a st k z own l =
         rw q z0
     go (some i) e h =
         let was : countsIn st ≡ heldCount (heldBy (getD (st .slots) i freshSlot)) = rw e at l in
-        rw e (omega (arith, sum-set (st .slots) i ((slotStep (st .settings) (seenAt st (some i)) (getD (st .slots) i freshSlot) (k .op)) .1) h, was))
+        rw e (omega (arith, sum-set (st .slots) i ((slotStep (st .settings) (seenAt st (some i)) (arrivingAt st (some i)) (getD (st .slots) i freshSlot) (k .op)) .1) h, was))
+
+set-twice : (cs : List Slot) (i : ℕ) (x y : Slot) → set (set cs i x) i y ≡ set cs i y
+set-twice [] i x y = refl
+set-twice (c ∷ cs) zero x y = refl
+set-twice (c ∷ cs) (suc i) x y = ap (λ l. c ∷ l) (set-twice cs i x y)
+
+shut-step : (a : ℕ) (st : State) (k : Call) → k .id ≡ a → othersOpen ((step st k) .1) (placeOf (st .settings) a) ≡ othersOpen st (placeOf (st .settings) a)
+unfolding step
+shut-step a st k own = rw own (go (placeOf (st .settings) a))
+  where
+    go : (p : Option ℕ) → othersOpen ((stepAt st p (k .op)) .1) p ≡ othersOpen st p
+    go none = refl
+    go (some i) = ap (any isOpen) (set-twice (st .slots) i _ freshSlot)
+
+lonely-step : (a : ℕ) (st : State) (k : Call) → Sized st → k .id ≡ a → Lonely a st → Lonely a ((step st k) .1)
+lonely-step a st k z own l =
+    record {
+      counts = counts-step a st k z own (l .counts);
+      shut = ap (λ (s : Settings). othersOpen ((step st k) .1) (placeOf s a)) (step-settings st k) ∙ shut-step a st k own ∙ l .shut;
+    }
 
 pub seems-alone : (a : ℕ) (ks : List Call) (st : State) → Sized st → Lonely a st → Seems a st (only a ks) (ops a ks)
 seems-alone a [] st z l = record { history = refl; end = refl }
@@ -228,7 +268,7 @@ seems-alone a (k ∷ ks) st z l = go (eqb (k .id) a) refl (λ t. seems-alone a k
     go true q ih =
         let own : k .id ≡ a = eqb-true (k .id) a q in
         let same : ownStep st a (k .op) ≡ aloneStep (soundState st) (st .settings) a (slotOf st a) (k .op) =
-        ap (λ n. slotStep (st .settings) (seenFor (soundState st) (st .settings) a (slotOf st a) n) (slotOf st a) (k .op)) l
+        ap₂ (λ n x. slotStep (st .settings) (seenFor (soundState st) (st .settings) a (slotOf st a) n) (arrivingFor x (slotOf st a)) (slotOf st a) (k .op)) (l .counts) (l .shut)
         ∙ own-count (soundState st) (st .settings) a (slotOf st a) (k .op) in
         let r = seems-own a st k (only a ks) (ops a ks) z own same (ih ((step st k) .1) (step-sized st k z) (lonely-step a st k z own l)) in
         record { history = rw q (r .0); end = r .1 }
@@ -240,8 +280,25 @@ fresh-counts : (xs : List ℕ) → sum (map heldCount (map heldBy (map (λ (i : 
 fresh-counts [] = refl
 fresh-counts (x ∷ xs) = zero-add _ ∙ fresh-counts xs
 
+fresh-all-shut : (xs : List ℕ) → any isOpen (map (λ (i : ℕ). freshSlot) xs) ≡ false
+fresh-all-shut [] = refl
+fresh-all-shut (x ∷ xs) = fresh-all-shut xs
+
+fresh-shut : (s : Settings) (xs : List ℕ) (p : Option ℕ) → othersOpen (record { settings = s; slots = map (λ (i : ℕ). freshSlot) xs; stray = false }) p ≡ false
+fresh-shut s xs none = fresh-all-shut xs
+fresh-shut s xs (some i) = go xs i
+  where
+    go : (xs : List ℕ) (i : ℕ) → any isOpen (set (map (λ (i : ℕ). freshSlot) xs) i freshSlot) ≡ false
+    go [] i = refl
+    go (x ∷ xs) zero = fresh-all-shut xs
+    go (x ∷ xs) (suc i) = go xs i
+
 fresh-lonely : (s : Settings) (words a : ℕ) → Lonely a (fresh s words)
-fresh-lonely s words a = rw (fresh-slot s words a) (fresh-has (λ st. countsIn st ≡ 0) s words (fresh-counts (identifiersOf s)) refl)
+fresh-lonely s words a =
+    record {
+      counts = rw (fresh-slot s words a) (fresh-has (λ st. countsIn st ≡ 0) s words (fresh-counts (identifiersOf s)) refl);
+      shut = fresh-has (λ st. othersOpen st (placeOf (st .settings) a) ≡ false) s words (fresh-shut (cleaned s) (identifiersOf s) (placeOf (cleaned s) a)) (fresh-shut closedSettings [] (placeOf closedSettings a));
+    }
 
 -- a session in which a is not hindered is, for it, the session of its calls alone
 pub history-alone : (s : Settings) (words a : ℕ) (ks : List Call) → unhindered (historyOf a (events (fresh s words) ks)) ≡ true

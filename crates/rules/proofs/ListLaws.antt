@@ -173,6 +173,12 @@ Pairwise-at R (z ∷ xs) h (suc m) (suc n) x y l e f = Pairwise-at R xs (h .1) m
 eqb-comm : (x y : ℕ) → eqb x y ≡ eqb y x
 eqb-comm x y = bool-ext (eqb x y) (eqb y x) (λ e. eq-eqb y x (sym (eqb-true x y e))) (λ e. eq-eqb x y (sym (eqb-true y x e)))
 
+-- what stands past the end makes no difference to what is there
+pub getD-any : {A : Type 0} (xs : List A) (i : ℕ) (d e : A) → i < length xs → getD xs i d ≡ getD xs i e
+getD-any [] i d e h = absurd (omega arith)
+getD-any (x ∷ xs) zero d e h = refl
+getD-any (x ∷ xs) (suc i) d e h = getD-any xs i d e (omega arith)
+
 pub every-at : (bs : List Bool) (i : ℕ) → every bs ≡ true → getD bs i true ≡ true
 every-at [] i e = refl
 every-at (b ∷ bs) zero e = and-left b (every bs) e
@@ -295,6 +301,10 @@ pub any-from : {A : Type 0} (p : A → Bool) (xs : List A) (j : ℕ) (d : A) →
 any-from p [] j d h e = absurd (omega arith)
 any-from p (x ∷ xs) zero d h e = or-intro-left (p x) (any p xs) e
 any-from p (x ∷ xs) (suc j) d h e = or-intro-right (p x) (any p xs) (any-from p xs j d (omega arith) e)
+
+pub any-nowhere : {A : Type 0} (p : A → Bool) (xs : List A) (d : A) → ((j : ℕ) → j < length xs → p (getD xs j d) ≡ false) → any p xs ≡ false
+any-nowhere p [] d f = refl
+any-nowhere p (x ∷ xs) d f = or-neither (p x) (any p xs) (f 0 (omega arith)) (any-nowhere p xs d (λ j h. f (suc j) (omega arith)))
 
 pub any-where : {A : Type 0} (p : A → Bool) (xs : List A) → any p xs ≡ true → (m : ℕ) × (x : A) × (getElem? xs m ≡ some x) × (p x ≡ true)
 any-where p [] e = absurd (true≢false (sym e))

@@ -12,14 +12,14 @@ use Rattle.rules.specs.Settings.{unitSize}
 use Rattle.rules.specs.Units.{Unit, Write, units, touches, clear, mark, newly}
 use Rattle.rules.specs.StartData.{granularityOf, countOf, rangesOf}
 use Rattle.rules.specs.Report.{room, reportOn, marksLeft}
-use Rattle.rules.specs.Order.{Op, start, stop, write, receive, suspend, resume, Seen, order}
-use Rattle.rules.specs.Machine.{Answer, refused, done, wrote, reported, Marks, off, on, Slot, slot, accepted, slotStep}
-use Rattle.rules.specs.History.{Did, isAccepted, touchedBy, startedBy, reportedBy, quietSince, pendingBy, PendingBy, tracksAfter, tracksBy, suspendsAfter, suspendedBy, marksBy, slotBy}
+use Rattle.rules.specs.Order.{Op, start, stop, write, receive, suspend, resume, part, Part, offsetOf, isFirst, isLast, followsOn, follows, soFar, joinedWith, Seen, Arriving, order}
+use Rattle.rules.specs.Machine.{Answer, refused, done, wrote, reported, assembled, Marks, off, on, Slot, freshSlot, wroteIn, reportedIn, accepted, slotStep}
+use Rattle.rules.specs.History.{Did, isAccepted, touchedBy, startedBy, reportedBy, quietSince, pendingBy, PendingBy, toldBy, tracksAfter, tracksBy, suspendsAfter, suspendedBy, opensAfter, openBy, joinsAfter, joinedBy, frontBy, marksBy, slotBy}
 use Rattle.rules.specs.declared.Range.{Range}
 use Rattle.rules.specs.declared.Settings.{Settings}
 use Rattle.rules.proofs.ListLaws.{map-same}
 use Rattle.rules.proofs.RefusalLaws.{Passed, verdict-has}
-use Rattle.rules.proofs.OrderLaws.{startOrder-passed, listTests-aligned}
+use Rattle.rules.proofs.OrderLaws.{startOrder-passed, listTests-aligned, partOrder-passed}
 use Rattle.rules.proofs.UnitLaws.{Apart, unitSize-pos, unitsFrom-apart, unitsFrom-sized, mark-map}
 use Rattle.rules.proofs.RunLaws.{marksLeft-map}
 
@@ -66,13 +66,9 @@ pendingBy-snoc (x ∷ h) d u =
     ap₂ (λ a b. touchedBy x u && a || b) (quietSince-snoc h d u) (pendingBy-snoc h d u)
     ∙ regroup (touchedBy x u) (quietSince h u) (not (ends d u)) (pendingBy h u) (touchedBy d u)
 
-tracksBy-snoc : (h : List Did) (d : Did) (t : Option (ℕ × List Range)) → tracksBy t (h ++ d ∷ []) ≡ cond (isAccepted (d .answer)) (tracksAfter (tracksBy t h) (d .op)) (tracksBy t h)
-tracksBy-snoc [] d t = refl
-tracksBy-snoc (x ∷ h) d t = tracksBy-snoc h d (cond (isAccepted (x .answer)) (tracksAfter t (x .op)) t)
-
-suspendedBy-snoc : (h : List Did) (d : Did) (b : Bool) → suspendedBy b (h ++ d ∷ []) ≡ cond (isAccepted (d .answer)) (suspendsAfter (suspendedBy b h) (d .op)) (suspendedBy b h)
-suspendedBy-snoc [] d b = refl
-suspendedBy-snoc (x ∷ h) d b = suspendedBy-snoc h d (cond (isAccepted (x .answer)) (suspendsAfter b (x .op)) b)
+pub toldBy-snoc : {A : Type 0} (f : A → Op → A) (h : List Did) (d : Did) (x : A) → toldBy f x (h ++ d ∷ []) ≡ cond (isAccepted (d .answer)) (f (toldBy f x h) (d .op)) (toldBy f x h)
+toldBy-snoc f [] d x = refl
+toldBy-snoc f (e ∷ h) d x = toldBy-snoc f h d (cond (isAccepted (e .answer)) (f x (e .op)) x)
 
 -- ---- the invariant
 
@@ -86,21 +82,24 @@ abbrev pub tracking : Marks → Option (ℕ × List Range)
 tracking off = none
 tracking (on g rs p) = some (g, rs)
 
-pub record Known (h : List Did) (b : Bool) (t : Marks) : Type 0 where
-  pub marks : Told h t
-  pub tracked : tracking t ≡ tracksBy none h
-  pub suspended : b ≡ suspendedBy false h
-
-abbrev pub KnownSlot : List Did → Slot → Type 0
-KnownSlot h (slot b t) = Known h b t
+pub record Known (h : List Did) (c : Slot) : Type 0 where
+  pub marks : Told h (c .marks)
+  pub tracked : tracking (c .marks) ≡ tracksBy none h
+  pub suspended : c .suspended ≡ suspendedBy false h
+  pub front : c .front ≡ frontBy h
 
 -- it says what the slot is
-pub known-is : (h : List Did) (c : Slot) → KnownSlot h c → c ≡ slotBy h
-known-is h (slot b off) k = ap₂ slot (k .suspended) (ap (marksBy h) (k .tracked))
-known-is h (slot b (on g rs p)) k = ap₂ slot (k .suspended) (ap (on g rs) (k .marks .0) ∙ ap (marksBy h) (k .tracked))
+told-is : (h : List Did) (t : Marks) → Told h t → t ≡ marksBy h (tracking t)
+told-is h off k = refl
+told-is h (on g rs p) k = ap (on g rs) (k .0)
 
-pub known-fresh : Known [] false off
-known-fresh = record { marks = tt; tracked = refl; suspended = refl }
+pub known-is : (h : List Did) (c : Slot) → Known h c → c ≡ slotBy h
+known-is h c k =
+    ap₂ (λ b t. record { suspended = b; marks = t; front = c .front }) (k .suspended) (told-is h (c .marks) (k .marks) ∙ ap (marksBy h) (k .tracked))
+    ∙ ap (λ (f : Option (List ℕ)). record { suspended = suspendedBy false h; marks = marksBy h (tracksBy none h); front = f }) (k .front)
+
+pub known-fresh : Known [] freshSlot
+known-fresh = record { marks = tt; tracked = refl; suspended = refl; front = refl }
 
 abbrev pub did : Op → Answer → Did
 did o a = record { op = o; answer = a }
@@ -116,23 +115,17 @@ told-idle h d (on g rs p) e w k = (k .0 ∙ map-same same (units g rs), k .1)
     same u = sym (pendingBy-snoc h d u ∙ ap₂ (λ a b. pendingBy h u && not a || b) (e u) (w u) ∙ or-false (pendingBy h u && true) ∙ and-true (pendingBy h u))
 
 -- a refused call
-known-refused : (h : List Did) (o : Op) (n i : ℕ) (b : Bool) (t : Marks) → Known h b t → Known (h ++ did o (refused n i) ∷ []) b t
-known-refused h o n i b t k =
+known-refused : (h : List Did) (o : Op) (n i : ℕ) (c : Slot) → Known h c → Known (h ++ did o (refused n i) ∷ []) c
+known-refused h o n i c k =
     record {
-      marks = told-idle h (did o (refused n i)) t (λ u. refl) (λ u. refl) (k .marks);
-      tracked = k .tracked ∙ sym (tracksBy-snoc h (did o (refused n i)) none);
-      suspended = k .suspended ∙ sym (suspendedBy-snoc h (did o (refused n i)) false);
+      marks = told-idle h d (c .marks) (λ u. refl) (λ u. refl) (k .marks);
+      tracked = k .tracked ∙ sym (toldBy-snoc tracksAfter h d none);
+      suspended = k .suspended ∙ sym (toldBy-snoc suspendsAfter h d false);
+      front = k .front ∙ ap₂ (λ b x. cond b (some x) none) (sym (toldBy-snoc opensAfter h d false)) (sym (toldBy-snoc joinsAfter h d []));
     }
-
--- an accepted call, from its marks and what becomes of its flag and ranges
-known-accepted : (h : List Did) (o : Op) (a : Answer) (b b′ : Bool) (t t′ : Marks) → isAccepted a ≡ true → Known h b t
-    → Told (h ++ did o a ∷ []) t′ → tracking t′ ≡ tracksAfter (tracking t) o → b′ ≡ suspendsAfter b o → Known (h ++ did o a ∷ []) b′ t′
-known-accepted h o a b b′ t t′ ok k m r f =
-    record {
-      marks = m;
-      tracked = r ∙ ap (λ x. tracksAfter x o) (k .tracked) ∙ sym (tracksBy-snoc h (did o a) none ∙ ap (λ x. cond x (tracksAfter (tracksBy none h) o) (tracksBy none h)) ok);
-      suspended = f ∙ ap (λ x. suspendsAfter x o) (k .suspended) ∙ sym (suspendedBy-snoc h (did o a) false ∙ ap (λ x. cond x (suspendsAfter (suspendedBy false h) o) (suspendedBy false h)) ok);
-    }
+  where
+    d : Did
+    d = did o (refused n i)
 
 -- the marks after each accepted call
 told-start : (h : List Did) (x : List ℕ) → Apart (units (granularityOf x) (rangesOf x))
@@ -142,17 +135,24 @@ told-start h x free = (map-same none-pending (units (granularityOf x) (rangesOf 
     none-pending : (u : Unit) → false ≡ pendingBy (h ++ did (start x) done ∷ []) u
     none-pending u = sym (pendingBy-snoc h (did (start x) done) u ∙ or-false (pendingBy h u && false) ∙ and-false (pendingBy h u))
 
-told-write : (h : List Did) (w : Write) (g : ℕ) (rs : List Range) (p : List Bool) (n : ℕ) → Told h (on g rs p)
-    → Told (h ++ did (write w) (wrote n) ∷ []) (on g rs (mark w (units g rs) p))
-told-write h w g rs p n k = (ap (mark w (units g rs)) (k .0) ∙ mark-map w (pendingBy h) (units g rs) ∙ map-same more (units g rs), k .1)
+told-write : (h : List Did) (w : Write) (t : Marks) → Told h t → Told (h ++ did (write w) ((wroteIn w t) .0) ∷ []) ((wroteIn w t) .1)
+told-write h w off i = tt
+told-write h w (on g rs p) i = (ap (mark w (units g rs)) (i .0) ∙ mark-map w (pendingBy h) (units g rs) ∙ map-same more (units g rs), i .1)
   where
-    more : (u : Unit) → (pendingBy h u || touches w u) ≡ pendingBy (h ++ did (write w) (wrote n) ∷ []) u
-    more u = sym (pendingBy-snoc h (did (write w) (wrote n)) u ∙ ap (λ z. z || touches w u) (and-true (pendingBy h u)))
+    d : Did
+    d = did (write w) (wrote (newly w (units g rs) p))
 
-told-receive : (h : List Did) (x : List ℕ) (b : Bool) (g : ℕ) (rs : List Range) (p : List Bool) (k : ℕ) → Told h (on g rs p)
-    → Told (h ++ did (receive x) (reported (reportOn b g k (units g rs) p)) ∷ []) (on g rs (marksLeft k (units g rs) p))
-told-receive h x b g rs p k i = (left ∙ map-same same us, i .1)
+    more : (u : Unit) → (pendingBy h u || touches w u) ≡ pendingBy (h ++ d ∷ []) u
+    more u = sym (pendingBy-snoc h d u ∙ ap (λ z. z || touches w u) (and-true (pendingBy h u)))
+
+told-receive : (h : List Did) (x : List ℕ) (b : Bool) (t : Marks) → Told h t
+    → Told (h ++ did (receive x) ((reportedIn b (length x) t) .0) ∷ []) ((reportedIn b (length x) t) .1)
+told-receive h x b off i = tt
+told-receive h x b (on g rs p) i = (left ∙ map-same same us, i .1)
   where
+    k : ℕ
+    k = room (length x)
+
     us : List Unit
     us = units g rs
 
@@ -167,45 +167,132 @@ told-receive h x b g rs p k i = (left ∙ map-same same us, i .1)
     same : (u : Unit) → (pendingBy h u && not (reportedBy d u)) ≡ pendingBy (h ++ d ∷ []) u
     same u = sym (pendingBy-snoc h d u ∙ or-false (pendingBy h u && not (reportedBy d u)))
 
--- what the tests of a call give its slot: the units of a start are apart
-abbrev Allowed : Op → Type 0
-Allowed (start x) = Apart (units (granularityOf x) (rangesOf x))
-Allowed stop = Prim.Unit {0}
-Allowed (write w) = Prim.Unit {0}
-Allowed (receive x) = Prim.Unit {0}
-Allowed (suspend kind) = Prim.Unit {0}
-Allowed resume = Prim.Unit {0}
+-- what the tests of a call give its slot: the units of a start are apart, and a part follows
+abbrev Allowed : Slot → Op → Type 0
+Allowed c (start x) = Apart (units (granularityOf x) (rangesOf x))
+Allowed c stop = Prim.Unit {0}
+Allowed c (write w) = Prim.Unit {0}
+Allowed c (receive x) = Prim.Unit {0}
+Allowed c (suspend kind) = Prim.Unit {0}
+Allowed c resume = Prim.Unit {0}
+Allowed c (part p) = follows (c .front) p ≡ true
 
-allowed : (s : Settings) (v : Seen) (o : Op) → Passed (order s v o) → Allowed o
+allowed : (s : Settings) (v : Seen) (a : Arriving) (c : Slot) (o : Op) → a .front ≡ c .front → Passed (order s v a o) → Allowed c o
 unfolding order
-allowed s v (start x) h =
+allowed s v a c (start x) e h =
     unitsFrom-apart (unitSize (granularityOf x)) 0 [] (rangesOf x) (unitSize-pos (granularityOf x)) (listTests-aligned s (granularityOf x) (countOf x) (rangesOf x) (startOrder-passed s v x h .list))
-allowed s v stop h = tt
-allowed s v (write w) h = tt
-allowed s v (receive x) h = tt
-allowed s v (suspend kind) h = tt
-allowed s v resume h = tt
+allowed s v a c stop e h = tt
+allowed s v a c (write w) e h = tt
+allowed s v a c (receive x) e h = tt
+allowed s v a c (suspend kind) e h = tt
+allowed s v a c resume e h = tt
+allowed s v a c (part p) e h = subst (λ y. follows y p ≡ true) e (partOrder-passed v a p h .follow)
 
-known-done : (h : List Did) (c : Slot) (o : Op) → Allowed o → KnownSlot h c → KnownSlot (h ++ did o ((accepted c o) .0) ∷ []) ((accepted c o) .1)
-known-done h (slot b t) (start x) free k = known-accepted h (start x) done b b t (on (granularityOf x) (rangesOf x) _) refl k (told-start h x free) refl refl
-known-done h (slot b t) stop free k = known-accepted h stop done b b t off refl k tt refl refl
-known-done h (slot b off) (write w) free k = known-accepted h (write w) (wrote 0) b b off off refl k tt refl refl
-known-done h (slot b (on g rs p)) (write w) free k =
-    known-accepted h (write w) (wrote (newly w (units g rs) p)) b b (on g rs p) (on g rs (mark w (units g rs) p)) refl k
-    (told-write h w g rs p (newly w (units g rs) p) (k .marks)) refl refl
-known-done h (slot b off) (receive x) free k = known-accepted h (receive x) done b b off off refl k tt refl refl
-known-done h (slot b (on g rs p)) (receive x) free k =
-    known-accepted h (receive x) (reported (reportOn b g (room (length x)) (units g rs) p)) b b (on g rs p) (on g rs (marksLeft (room (length x)) (units g rs) p)) refl k
-    (told-receive h x b g rs p (room (length x)) (k .marks)) refl refl
-known-done h (slot b t) (suspend kind) free k =
-    known-accepted h (suspend kind) done b (b || eqb kind 1) t t refl k (told-idle h (did (suspend kind) done) t (λ u. refl) (λ u. refl) (k .marks)) refl refl
-known-done h (slot b t) resume free k =
-    known-accepted h resume done b false t t refl k (told-idle h (did resume done) t (λ u. refl) (λ u. refl) (k .marks)) refl refl
+-- an accepted call: its answer, and what becomes of its ranges, its flag and its marks
+pub accepted-done : (c : Slot) (o : Op) → isAccepted ((accepted c o) .0) ≡ true
+accepted-done c (start x) = refl
+accepted-done c stop = refl
+accepted-done c (write w) = go (c .marks)
+  where
+    go : (t : Marks) → isAccepted ((wroteIn w t) .0) ≡ true
+    go off = refl
+    go (on g rs p) = refl
+accepted-done c (receive x) = go (c .marks)
+  where
+    go : (t : Marks) → isAccepted ((reportedIn (c .suspended) (length x) t) .0) ≡ true
+    go off = refl
+    go (on g rs p) = refl
+accepted-done c (suspend kind) = refl
+accepted-done c resume = refl
+accepted-done c (part p) = go (isLast p)
+  where
+    go : (b : Bool) → isAccepted ((cond {A = Answer × Option (List ℕ)} b (assembled (joinedWith (c .front) p), none) (done, some (joinedWith (c .front) p))) .0) ≡ true
+    go true = refl
+    go false = refl
+
+accepted-tracks : (c : Slot) (o : Op) → tracking ((accepted c o) .1 .marks) ≡ tracksAfter (tracking (c .marks)) o
+accepted-tracks c (start x) = refl
+accepted-tracks c stop = refl
+accepted-tracks c (write w) = go (c .marks)
+  where
+    go : (t : Marks) → tracking ((wroteIn w t) .1) ≡ tracking t
+    go off = refl
+    go (on g rs p) = refl
+accepted-tracks c (receive x) = go (c .marks)
+  where
+    go : (t : Marks) → tracking ((reportedIn (c .suspended) (length x) t) .1) ≡ tracking t
+    go off = refl
+    go (on g rs p) = refl
+accepted-tracks c (suspend kind) = refl
+accepted-tracks c resume = refl
+accepted-tracks c (part p) = refl
+
+accepted-suspends : (c : Slot) (o : Op) → (accepted c o) .1 .suspended ≡ suspendsAfter (c .suspended) o
+accepted-suspends c (start x) = refl
+accepted-suspends c stop = refl
+accepted-suspends c (write w) = refl
+accepted-suspends c (receive x) = refl
+accepted-suspends c (suspend kind) = refl
+accepted-suspends c resume = refl
+accepted-suspends c (part p) = refl
+
+-- what a part that follows makes of the bytes so far is what the history tells
+pub joinedWith-told : (h : List Did) (p : Part) (y : Option (List ℕ)) → y ≡ frontBy h → follows y p ≡ true → joinedWith y p ≡ joinsAfter (joinedBy h) (part p)
+joinedWith-told h p y e o = go (isFirst p) (openBy h) e o
+  where
+    go : (f b : Bool) → y ≡ cond b (some (joinedBy h)) none → cond f (eqb (offsetOf p) 0) (followsOn y p) ≡ true
+        → cond f (p .bytes) (soFar y ++ p .bytes) ≡ cond f (p .bytes) (joinedBy h ++ p .bytes)
+    go true b e o = refl
+    go false true e o = rw e
+    go false false e o = absurd (true≢false (sym o ∙ ap (λ z. followsOn z p) e))
+
+accepted-front : (h : List Did) (c : Slot) (o : Op) → Allowed c o → c .front ≡ frontBy h
+    → (accepted c o) .1 .front ≡ cond (opensAfter (openBy h) o) (some (joinsAfter (joinedBy h) o)) none
+accepted-front h c (start x) free k = k
+accepted-front h c stop free k = k
+accepted-front h c (write w) free k = k
+accepted-front h c (receive x) free k = k
+accepted-front h c (suspend kind) free k = k
+accepted-front h c resume free k = refl
+accepted-front h c (part p) free k = go (isLast p) (joinedWith-told h p (c .front) k free)
+  where
+    go : (l : Bool) {x : List ℕ} → joinedWith (c .front) p ≡ x
+        → (cond {A = Answer × Option (List ℕ)} l (assembled (joinedWith (c .front) p), none) (done, some (joinedWith (c .front) p))) .1 ≡ cond (not l) (some x) none
+    go true e = refl
+    go false e = ap some e
+
+accepted-told : (h : List Did) (c : Slot) (o : Op) → Allowed c o → Told h (c .marks) → Told (h ++ did o ((accepted c o) .0) ∷ []) ((accepted c o) .1 .marks)
+accepted-told h c (start x) free i = told-start h x free
+accepted-told h c stop free i = tt
+accepted-told h c (write w) free i = told-write h w (c .marks) i
+accepted-told h c (receive x) free i = told-receive h x (c .suspended) (c .marks) i
+accepted-told h c (suspend kind) free i = told-idle h (did (suspend kind) done) (c .marks) (λ u. refl) (λ u. refl) i
+accepted-told h c resume free i = told-idle h (did resume done) (c .marks) (λ u. refl) (λ u. refl) i
+accepted-told h c (part p) free i = go (isLast p)
+  where
+    go : (b : Bool) → Told (h ++ did (part p) ((cond {A = Answer × Option (List ℕ)} b (assembled (joinedWith (c .front) p), none) (done, some (joinedWith (c .front) p))) .0) ∷ []) (c .marks)
+    go true = told-idle h (did (part p) (assembled (joinedWith (c .front) p))) (c .marks) (λ u. refl) (λ u. refl) i
+    go false = told-idle h (did (part p) done) (c .marks) (λ u. refl) (λ u. refl) i
+
+known-accepted : (h : List Did) (c : Slot) (o : Op) → Allowed c o → Known h c → Known (h ++ did o ((accepted c o) .0) ∷ []) ((accepted c o) .1)
+known-accepted h c o free k =
+    record {
+      marks = accepted-told h c o free (k .marks);
+      tracked = accepted-tracks c o ∙ ap (λ x. tracksAfter x o) (k .tracked) ∙ sym (told tracksAfter none);
+      suspended = accepted-suspends c o ∙ ap (λ x. suspendsAfter x o) (k .suspended) ∙ sym (told suspendsAfter false);
+      front = accepted-front h c o free (k .front) ∙ ap₂ (λ b x. cond b (some x) none) (sym (told opensAfter false)) (sym (told joinsAfter []));
+    }
+  where
+    d : Did
+    d = did o ((accepted c o) .0)
+
+    told : {A : Type 0} (f : A → Op → A) (x : A) → toldBy f x (h ++ d ∷ []) ≡ f (toldBy f x h) o
+    told f x = toldBy-snoc f h d x ∙ ap (λ b. cond b (f (toldBy f x h) o) (toldBy f x h)) (accepted-done c o)
 
 -- any call
-pub known-step : (s : Settings) (v : Seen) (h : List Did) (c : Slot) (o : Op) → KnownSlot h c
-    → KnownSlot (h ++ did o ((slotStep s v c o) .0) ∷ []) ((slotStep s v c o) .1)
-known-step s v h (slot b t) o k =
-    verdict-has (λ (r : Answer × Slot). KnownSlot (h ++ did o (r .0) ∷ []) (r .1)) (λ n i. (refused n i, slot b t))
-    (λ n i. known-refused h o n i b t k) (order s v o) (accepted (slot b t) o)
-    (λ p. known-done h (slot b t) o (allowed s v o p) k)
+pub known-step : (s : Settings) (v : Seen) (a : Arriving) (h : List Did) (c : Slot) (o : Op) → a .front ≡ c .front → Known h c
+    → Known (h ++ did o ((slotStep s v a c o) .0) ∷ []) ((slotStep s v a c o) .1)
+known-step s v a h c o e k =
+    verdict-has (λ (r : Answer × Slot). Known (h ++ did o (r .0) ∷ []) (r .1)) (λ n i. (refused n i, c))
+    (λ n i. known-refused h o n i c k) (order s v a o) (accepted c o)
+    (λ p. known-accepted h c o (allowed s v a c o e p) k)

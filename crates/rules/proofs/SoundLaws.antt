@@ -1,53 +1,60 @@
 -- From a fresh device no sequence of calls leads to an unsound one: a call leaves its own slot sound and the counts within the limit.
 -- Assumes nothing.
-use mathlib.Core.Path.{_≡_, refl, _∙_}
+use mathlib.Core.Path.{_≡_, refl, sym, ap, subst, _∙_}
 use mathlib.Core.Logic.{_≢_}
-use mathlib.Core.Bool.{Bool, true, false, _||_, cond}
+use mathlib.Core.Bool.{Bool, true, false, _&&_, _||_, not, cond, true≢false}
 use mathlib.Core.List.{List, [], _∷_, map}
 use mathlib.Core.Option.{Option, none, some}
-use Prim.Native.Nat.{ℕ, zero, suc, _+_, _≤_}
+use Prim.Native.Nat.{ℕ, zero, suc, _+_, _%_, _≤_}
 use native.Mathlib.Omega.{arith}
-use lib.Dec.{eqb}
+use lib.Dec.{leb, eqb}
 use lib.ListN.{length, getD, set}
-use borrow.Author.Tests.{leb-true, le-leb}
+use borrow.Author.Tests.{leb-true, le-leb, eqb-true}
 use Rattle.rules.specs.Lists.{all, sum}
 use Rattle.rules.specs.Refusals.{refusal}
 use Rattle.rules.specs.Settings.{markWords, settingsOk, identifiersOf, placeOf}
+use Rattle.rules.specs.Units.{Write}
 use Rattle.rules.specs.Ranges.{listTests}
 use Rattle.rules.specs.StartData.{granularityOf, countOf, rangesOf}
-use Rattle.rules.specs.Order.{Op, start, stop, write, receive, suspend, resume, Seen, freshOrder, order}
-use Rattle.rules.specs.Device.{Held, heldOk, heldCount, sound, soundRules, cleaned}
-use Rattle.rules.specs.Machine.{Answer, refused, Marks, off, on, Slot, slot, freshSlot, heldBy, accepted, slotStep, State, closed, opened, fresh, soundState, seenAt, stepAt, Call, step, after}
+use Rattle.rules.specs.ControllerState.{stateMost}
+use Rattle.rules.specs.Order.{Op, start, stop, write, receive, suspend, resume, part, isLast, joinedWith, Seen, Arriving, freshOrder, order}
+use Rattle.rules.specs.Device.{Held, heldOk, heldCount, frontOk, sound, soundRules, cleaned}
+use Rattle.rules.specs.Machine.{Answer, refused, done, assembled, Marks, off, on, Slot, freshSlot, heldOn, heldBy, frontKept, openOk, wroteIn, reportedIn, accepted, slotStep, State, closed, opened, fresh, soundState, seenAt, arrivingAt, stepAt, Call, step, after}
 use Rattle.rules.specs.declared.Settings.{Settings}
-use Rattle.rules.proofs.ListLaws.{all-set, every-at, and-left, and-right, and-intro, map-set}
+use Rattle.rules.proofs.ListLaws.{all-set, all-getD, every-at, and-left, and-right, and-intro, map-set}
 use Rattle.rules.proofs.RefusalLaws.{Passed, verdict-has, verdict-refused, passes-all}
 use Rattle.rules.proofs.StartLaws.{rangesOf-length}
-use Rattle.rules.proofs.OrderLaws.{StartPassed, startOrder-passed}
+use Rattle.rules.proofs.OrderLaws.{StartPassed, startOrder-passed, PartPassed, partOrder-passed, joined-front}
 use Rattle.rules.proofs.StateLaws.{cleaned-identifiers}
 
 -- ---- what soundness says
 
-pub sound-settings : (s : Settings) (hs : List (Option Held)) → sound s hs ≡ true → settingsOk s ≡ true
-unfolding sound
-sound-settings s hs e = every-at (soundRules s hs) 0 e
+module _ (s : Settings) (hs : List (Option Held)) (q : Bool) where
+  pub sound-settings : sound s hs q ≡ true → settingsOk s ≡ true
+  unfolding sound
+  sound-settings e = every-at (soundRules s hs q) 0 e
 
-pub sound-held : (s : Settings) (hs : List (Option Held)) → sound s hs ≡ true → all (heldOk s) hs ≡ true
-unfolding sound
-sound-held s hs e = every-at (soundRules s hs) 1 e
+  pub sound-held : sound s hs q ≡ true → all (heldOk s) hs ≡ true
+  unfolding sound
+  sound-held e = every-at (soundRules s hs q) 1 e
 
-pub sound-limit : (s : Settings) (hs : List (Option Held)) → sound s hs ≡ true → sum (map heldCount hs) ≤ s .limit
-unfolding sound
-sound-limit s hs e = leb-true (sum (map heldCount hs)) (s .limit) (every-at (soundRules s hs) 2 e)
+  pub sound-limit : sound s hs q ≡ true → sum (map heldCount hs) ≤ s .limit
+  unfolding sound
+  sound-limit e = leb-true (sum (map heldCount hs)) (s .limit) (every-at (soundRules s hs q) 2 e)
 
-pub sound-intro : (s : Settings) (hs : List (Option Held)) → settingsOk s ≡ true → all (heldOk s) hs ≡ true → sum (map heldCount hs) ≤ s .limit → sound s hs ≡ true
-unfolding sound
-sound-intro s hs e f l = rw (e, f, le-leb (sum (map heldCount hs)) (s .limit) l)
+  pub sound-sequence : sound s hs q ≡ true → q ≡ true
+  unfolding sound
+  sound-sequence e = every-at (soundRules s hs q) 3 e
+
+  pub sound-intro : settingsOk s ≡ true → all (heldOk s) hs ≡ true → sum (map heldCount hs) ≤ s .limit → q ≡ true → sound s hs q ≡ true
+  unfolding sound
+  sound-intro e f l z = rw (e, f, le-leb (sum (map heldCount hs)) (s .limit) l, z)
 
 -- ---- one slot
 
--- it holds what it may, and n counts that had its old count in them are within the limit with its new one
-abbrev Stays : Settings → ℕ → Slot → Slot → Type 0
-Stays s n c c′ = (heldOk s (heldBy c′) ≡ true) × (n + heldCount (heldBy c′) ≤ s .limit + heldCount (heldBy c))
+-- it holds what it may, and n counts that had its old count in them are within the limit with its new one: from what it held and what it holds
+abbrev Stays : Settings → ℕ → Option Held → Option Held → Type 0
+Stays s n x y = (heldOk s y ≡ true) × (n + heldCount y ≤ s .limit + heldCount x)
 
 started-ok : (s : Settings) (v : Seen) (x : List ℕ) → StartPassed s v x
     → heldOk s (some (record { granularity = granularityOf x; count = length (rangesOf x); ranges = rangesOf x })) ≡ true
@@ -55,32 +62,76 @@ unfolding heldOk
 started-ok s v x p = rw (rangesOf-length x, p .granularity) (passes-all (listTests s (granularityOf x) (countOf x) (rangesOf x)) (p .list))
 
 -- a slot that holds the same
-stays-same : (s : Settings) (n : ℕ) (b b′ : Bool) (t : Marks) → heldOk s (heldBy (slot b t)) ≡ true → n ≤ s .limit → Stays s n (slot b t) (slot b′ t)
-stays-same s n b b′ off e h = (e, omega arith)
-stays-same s n b b′ (on g rs p) e h = (e, omega arith)
+stays-same : (s : Settings) (n : ℕ) (x y : Option Held) → y ≡ x → heldOk s x ≡ true → n ≤ s .limit → Stays s n x y
+stays-same s n x y q e h = (ap (heldOk s) q ∙ e, omega (arith, ap heldCount q))
+
+-- a write and a report leave what is held
+wroteIn-held : (w : Write) (t : Marks) → heldOn ((wroteIn w t) .1) ≡ heldOn t
+wroteIn-held w off = refl
+wroteIn-held w (on g rs p) = refl
+
+reportedIn-held : (b : Bool) (bytes : ℕ) (t : Marks) → heldOn ((reportedIn b bytes t) .1) ≡ heldOn t
+reportedIn-held b bytes off = refl
+reportedIn-held b bytes (on g rs p) = refl
 
 heldOk-none : (s : Settings) → heldOk s none ≡ true
 unfolding heldOk
 heldOk-none s = refl
 
-accepted-stays : (s : Settings) (v : Seen) (c : Slot) (o : Op) → Passed (order s v o) → heldOk s (heldBy c) ≡ true → v .counts ≤ s .limit → Stays s (v .counts) c ((accepted c o) .1)
+accepted-stays : (s : Settings) (v : Seen) (a : Arriving) (c : Slot) (o : Op) → Passed (order s v a o) → heldOk s (heldBy c) ≡ true → v .counts ≤ s .limit → Stays s (v .counts) (heldBy c) (heldBy ((accepted c o) .1))
 unfolding order
-accepted-stays s v (slot b t) (start x) p e h =
+accepted-stays s v a c (start x) p e h =
     let q = startOrder-passed s v x p in
     (started-ok s v x q, omega (arith, q .limit, rangesOf-length x))
-accepted-stays s v (slot b t) stop p e h = (heldOk-none s, omega arith)
-accepted-stays s v (slot b off) (write w) p e h = stays-same s (v .counts) b b off e h
-accepted-stays s v (slot b (on g rs q)) (write w) p e h = (e, omega arith)
-accepted-stays s v (slot b off) (receive x) p e h = stays-same s (v .counts) b b off e h
-accepted-stays s v (slot b (on g rs q)) (receive x) p e h = (e, omega arith)
-accepted-stays s v (slot b t) (suspend kind) p e h = stays-same s (v .counts) b (b || eqb kind 1) t e h
-accepted-stays s v (slot b t) resume p e h = stays-same s (v .counts) b false t e h
+accepted-stays s v a c stop p e h = (heldOk-none s, omega arith)
+accepted-stays s v a c (write w) p e h = stays-same s (v .counts) (heldBy c) _ (wroteIn-held w (c .marks)) e h
+accepted-stays s v a c (receive x) p e h = stays-same s (v .counts) (heldBy c) _ (reportedIn-held (c .suspended) (length x) (c .marks)) e h
+accepted-stays s v a c (suspend kind) p e h = stays-same s (v .counts) (heldBy c) (heldBy c) refl e h
+accepted-stays s v a c resume p e h = stays-same s (v .counts) (heldBy c) (heldBy c) refl e h
+accepted-stays s v a c (part x) p e h = stays-same s (v .counts) (heldBy c) (heldBy c) refl e h
 
-slotStep-stays : (s : Settings) (v : Seen) (c : Slot) (o : Op) → heldOk s (heldBy c) ≡ true → v .counts ≤ s .limit → Stays s (v .counts) c ((slotStep s v c o) .1)
-slotStep-stays s v (slot b t) o e h =
-    verdict-has (λ (r : Answer × Slot). Stays s (v .counts) (slot b t) (r .1)) (λ n i. (refused n i, slot b t))
-    (λ n i. stays-same s (v .counts) b b t e h) (order s v o) (accepted (slot b t) o)
-    (λ p. accepted-stays s v (slot b t) o p e h)
+slotStep-stays : (s : Settings) (v : Seen) (a : Arriving) (c : Slot) (o : Op) → heldOk s (heldBy c) ≡ true → v .counts ≤ s .limit
+    → Stays s (v .counts) (heldBy c) (heldBy ((slotStep s v a c o) .1))
+slotStep-stays s v a c o e h =
+    verdict-has (λ (r : Answer × Slot). Stays s (v .counts) (heldBy c) (heldBy (r .1))) (λ n i. (refused n i, c))
+    (λ n i. stays-same s (v .counts) (heldBy c) (heldBy c) refl e h) (order s v a o) (accepted c o)
+    (λ p. accepted-stays s v a c o p e h)
+
+-- W6: a state that is under way stays as it may be
+kept-more : (b k : Bool) (f : Option (List ℕ)) → frontKept b f ≡ true → frontKept (b || k) f ≡ true
+kept-more true k f e = e
+kept-more false k none e = refl
+kept-more false k (some f) e = absurd (true≢false (sym e))
+
+kept-dwords : (b : Bool) (g : Option (List ℕ)) → frontKept b g ≡ true → (f : List ℕ) → g ≡ some f → length f % 4 ≡ 0
+kept-dwords b g e f z =
+    let k : (b && frontOk (length f)) ≡ true = sym (ap (frontKept b) z) ∙ e in
+    let r = and-right b (frontOk (length f)) k in
+    eqb-true (length f % 4) 0 (and-right (leb (length f) stateMost) _ (and-right (leb 4 (length f)) _ r))
+
+accepted-open : (s : Settings) (v : Seen) (a : Arriving) (c : Slot) (o : Op) → Passed (order s v a o) → v .suspended ≡ c .suspended → a .front ≡ c .front → openOk c ≡ true
+    → openOk ((accepted c o) .1) ≡ true
+unfolding order
+accepted-open s v a c (start x) p f g e = e
+accepted-open s v a c stop p f g e = e
+accepted-open s v a c (write w) p f g e = e
+accepted-open s v a c (receive x) p f g e = e
+accepted-open s v a c (suspend kind) p f g e = kept-more (c .suspended) (eqb kind 1) (c .front) e
+accepted-open s v a c resume p f g e = refl
+accepted-open s v a c (part x) p f g e = go (isLast x) refl
+  where
+    q : PartPassed v a x
+    q = partOrder-passed v a x p
+
+    go : (b : Bool) → isLast x ≡ b → frontKept (c .suspended) ((cond {A = Answer × Option (List ℕ)} b (assembled (joinedWith (c .front) x), none) (done, some (joinedWith (c .front) x))) .1) ≡ true
+    go true l = refl
+    go false l =
+        and-intro (c .suspended) _ (sym f ∙ q .suspended)
+        (subst (λ (w : Option (List ℕ)). frontOk (length (joinedWith w x)) ≡ true) g (joined-front v a x q l (λ y z. kept-dwords (c .suspended) (c .front) e y (sym g ∙ z))))
+
+slotStep-open : (s : Settings) (v : Seen) (a : Arriving) (c : Slot) (o : Op) → v .suspended ≡ c .suspended → a .front ≡ c .front → openOk c ≡ true → openOk ((slotStep s v a c o) .1) ≡ true
+slotStep-open s v a c o f g e =
+    verdict-has (λ (r : Answer × Slot). openOk (r .1) ≡ true) (λ n i. (refused n i, c)) (λ n i. e) (order s v a o) (accepted c o) (λ p. accepted-open s v a c o p f g e)
 
 -- ---- the device
 
@@ -108,11 +159,18 @@ step-sound st k e = go (placeOf s (k .id))
     go : (p : Option ℕ) → soundState ((stepAt st p (k .op)) .1) ≡ true
     go none = e
     go (some i) =
-        let c : Slot = (slotStep s (seenAt st (some i)) (getD cs i freshSlot) (k .op)) .1 in
-        let w = slotStep-stays s (seenAt st (some i)) (getD cs i freshSlot) (k .op) (all-heldBy s cs i (sound-held s (map heldBy cs) e)) (sound-limit s (map heldBy cs) e) in
-        sound-intro s (map heldBy (set cs i c)) (sound-settings s (map heldBy cs) e)
-        (rw (map-set heldBy cs i c) (all-set (heldOk s) (map heldBy cs) i (heldBy c) (sound-held s (map heldBy cs) e) (w .0)))
-        (omega (arith, sum-set cs i c, w .1))
+        let v = seenAt st (some i) in
+        let w = arrivingAt st (some i) in
+        let x = getD cs i freshSlot in
+        let c : Slot = (slotStep s v w x (k .op)) .1 in
+        let stays = slotStep-stays s v w x (k .op) (all-heldBy s cs i (sound-held s (map heldBy cs) _ e)) (sound-limit s (map heldBy cs) _ e) in
+        let apart = sound-sequence s (map heldBy cs) _ e in
+        let opens = and-right (not (st .stray)) (all openOk cs) apart in
+        sound-intro s (map heldBy (set cs i c)) _ (sound-settings s (map heldBy cs) _ e)
+        (rw (map-set heldBy cs i c) (all-set (heldOk s) (map heldBy cs) i (heldBy c) (sound-held s (map heldBy cs) _ e) (stays .0)))
+        (omega (arith, sum-set cs i c, stays .1))
+        (and-intro (not (st .stray)) (all openOk (set cs i c)) (and-left (not (st .stray)) (all openOk cs) apart)
+        (all-set openOk cs i c opens (slotStep-open s v w x (k .op) refl refl (all-getD openOk cs i freshSlot refl opens))))
 
 pub after-sound : (ks : List Call) (st : State) → soundState st ≡ true → soundState (after st ks) ≡ true
 after-sound [] st e = e
@@ -124,13 +182,17 @@ fresh-held : (s : Settings) (xs : List ℕ) → (all (heldOk s) (map heldBy (map
 fresh-held s [] = (refl, omega arith)
 fresh-held s (x ∷ xs) = (and-intro (heldOk s none) _ (heldOk-none s) (fresh-held s xs .0), omega (arith, fresh-held s xs .1))
 
+fresh-closed-off : (xs : List ℕ) → all openOk (map (λ (i : ℕ). freshSlot) xs) ≡ true
+fresh-closed-off [] = refl
+fresh-closed-off (x ∷ xs) = fresh-closed-off xs
+
 cleaned-ok : (s : Settings) → settingsOk (cleaned s) ≡ settingsOk s
 unfolding settingsOk
 cleaned-ok s = rw (cleaned-identifiers s)
 
 opened-sound : (s : Settings) → settingsOk s ≡ true → soundState (opened s) ≡ true
 opened-sound s e =
-    sound-intro (cleaned s) _ (cleaned-ok s ∙ e) (fresh-held (cleaned s) (identifiersOf s) .0) (omega (arith, fresh-held (cleaned s) (identifiersOf s) .1))
+    sound-intro (cleaned s) _ _ (cleaned-ok s ∙ e) (fresh-held (cleaned s) (identifiersOf s) .0) (omega (arith, fresh-held (cleaned s) (identifiersOf s) .1)) (fresh-closed-off (identifiersOf s))
 
 -- the closed device is unsound
 pub closed-unsound : soundState closed ≡ false

@@ -11,9 +11,9 @@ use lib.ListN.{length, take, getD, length-set, length-map, replicate}
 use lib.Seq.{getD-set-same, getD-set-other}
 use Rattle.rules.specs.Lists.{placeFrom}
 use Rattle.rules.specs.Settings.{identifiersOf, placeOf}
-use Rattle.rules.specs.Order.{Op, start, stop, write, receive, suspend, resume, Seen, freshOrder, order}
+use Rattle.rules.specs.Order.{Op, start, stop, write, receive, suspend, resume, part, Seen, Arriving, freshOrder, order}
 use Rattle.rules.specs.Device.{cleaned, closedSettings}
-use Rattle.rules.specs.Machine.{Answer, refused, Slot, freshSlot, slotStep, State, closed, opened, fresh, slotAt, withSlot, slotOf, seenAt, stepAt, Call, step, after}
+use Rattle.rules.specs.Machine.{Answer, refused, Slot, freshSlot, slotStep, State, closed, opened, fresh, slotAt, withSlot, slotOf, seenAt, arrivingAt, stepAt, Call, step, after}
 use Rattle.rules.specs.declared.Settings.{Settings}
 use Rattle.rules.proofs.ListLaws.{placeFrom-is}
 use Rattle.rules.proofs.RefusalLaws.{verdict-has}
@@ -49,11 +49,11 @@ placeOf-fits st z a = go (placeOf (st .settings) a) refl
 
 -- ---- a call to a controller that the settings lack
 
-pub slotStep-unknown : (s : Settings) (v : Seen) (c : Slot) (o : Op) → v .known ≡ false → slotStep s v c o ≡ (refused (cond (v .sound) 2 1) 0, c)
+pub slotStep-unknown : (s : Settings) (v : Seen) (a : Arriving) (c : Slot) (o : Op) → v .known ≡ false → a .area ≡ true → slotStep s v a c o ≡ (refused (cond (v .sound) 2 1) 0, c)
 unfolding order
-slotStep-unknown s v c o e = go o (v .sound)
+slotStep-unknown s v a c o e r = go o (v .sound)
   where
-    go : (o : Op) (b : Bool) → slotStep s (record { sound = b; known = v .known; suspended = v .suspended; tracked = v .tracked; counts = v .counts }) c o ≡ (refused (cond b 2 1) 0, c)
+    go : (o : Op) (b : Bool) → slotStep s (record { sound = b; known = v .known; suspended = v .suspended; tracked = v .tracked; counts = v .counts }) a c o ≡ (refused (cond b 2 1) 0, c)
     go (start x) true = rw e
     go (start x) false = refl
     go stop true = rw e
@@ -66,12 +66,14 @@ slotStep-unknown s v c o e = go o (v .sound)
     go (suspend kind) false = refl
     go resume true = rw e
     go resume false = refl
+    go (part p) true = rw (r, e)
+    go (part p) false = refl
 
 -- ---- one call
 
 -- what a controller's call does to its slot
 abbrev pub ownStep : State → ℕ → Op → Answer × Slot
-ownStep st a o = slotStep (st .settings) (seenAt st (placeOf (st .settings) a)) (slotOf st a) o
+ownStep st a o = slotStep (st .settings) (seenAt st (placeOf (st .settings) a)) (arrivingAt st (placeOf (st .settings) a)) (slotOf st a) o
 
 pub step-settings : (st : State) (k : Call) → (step st k) .1 .settings ≡ st .settings
 unfolding step
@@ -108,7 +110,7 @@ step-own st k a z e =
     ∙ rw e (withSlot-same st (placeOf (st .settings) a) ((ownStep st a (k .op)) .1) (placeOf-fits st z a) unknown)
   where
     unknown : placeOf (st .settings) a ≡ none → (ownStep st a (k .op)) .1 ≡ freshSlot
-    unknown q = rw q (ap (λ (r : Answer × Slot). r .1) (slotStep-unknown (st .settings) (seenAt st none) freshSlot (k .op) refl))
+    unknown q = rw q (ap (λ (r : Answer × Slot). r .1) (slotStep-unknown (st .settings) (seenAt st none) (arrivingAt st none) freshSlot (k .op) refl refl))
 
 pub step-other : (st : State) (k : Call) (a : ℕ) → (k .id ≡ a → ⊥) → slotOf ((step st k) .1) a ≡ slotOf st a
 unfolding step
@@ -149,7 +151,7 @@ fresh-has P s words o c = verdict-has P (λ n i. closed) (λ n i. c) (freshOrder
 pub fresh-sized : (s : Settings) (words : ℕ) → Sized (fresh s words)
 fresh-sized s words = fresh-has Sized s words (length-map (identifiersOf s) (λ (i : ℕ). freshSlot) ∙ ap length (sym (cleaned-identifiers s))) refl
 
-fresh-slots : (xs : List ℕ) (p : Option ℕ) (s : Settings) → slotAt (record { settings = s; slots = map (λ (i : ℕ). freshSlot) xs }) p ≡ freshSlot
+fresh-slots : (xs : List ℕ) (p : Option ℕ) (s : Settings) → slotAt (record { settings = s; slots = map (λ (i : ℕ). freshSlot) xs; stray = false }) p ≡ freshSlot
 fresh-slots xs none s = refl
 fresh-slots [] (some i) s = refl
 fresh-slots (x ∷ xs) (some zero) s = refl

@@ -1,7 +1,7 @@
 -- The demands, proved of the rules: one declaration for each statement of specs/Demands.antt. Assumes nothing.
 use mathlib.Core.Path.{_≡_, refl, sym, ap, _∙_}
 use mathlib.Core.Logic.{_↔_}
-use mathlib.Core.Bool.{true}
+use mathlib.Core.Bool.{true, true≢false}
 use mathlib.Core.List.{List, [], _∷_}
 use mathlib.Core.Option.{Option, none, some}
 use Prim.Native.Nat.{ℕ, _+_, _-_, _%_, _^_, _≤_, _<_}
@@ -15,19 +15,20 @@ use Rattle.rules.specs.Units.{Unit, Write, units, touches}
 use Rattle.rules.specs.Ranges.{rangeTests, powersOk, unitsOk}
 use Rattle.rules.specs.StartData.{rangesOf, startBytes}
 use Rattle.rules.specs.Report.{reportBytes}
-use Rattle.rules.specs.Order.{Op, start, stop, write, receive, suspend, resume, order}
+use Rattle.rules.specs.Order.{Op, order}
 use Rattle.rules.specs.Device.{sound, heldOk}
-use Rattle.rules.specs.Machine.{Answer, refused, off, on, Slot, slot, pendingIn, accepted, State, opened, fresh, closed, slotAt, withSlot, slotOf, seenAt, stepAt, Call, step, after}
-use Rattle.rules.specs.History.{Did, only, pendingBy}
+use Rattle.rules.specs.Machine.{Answer, refused, on, Slot, pendingIn, accepted, State, opened, fresh, closed, slotAt, withSlot, slotOf, seenAt, arrivingAt, stepAt, Call, step, after}
+use Rattle.rules.specs.History.{Did, only, isAccepted, pendingBy}
 use Rattle.rules.specs.Demands.{sessionEnd, sessionHistory, Refusals, Soundness, Pending, Demand2, Agree, unhindered, lentBytes, Demand3, Granularities}
-use Rattle.rules.specs.Worked.{cases, Worked}
+use Rattle.rules.specs.ControllerState.{stateOk}
+use Rattle.rules.specs.Worked.{cases, Worked, WorkedStates}
 use Rattle.rules.specs.Layouts.{Layouts}
 use Rattle.rules.specs.declared.Settings.{Settings}
 use Rattle.rules.proofs.ListLaws.{map-at, some-inj}
 use Rattle.rules.proofs.RefusalLaws.{verdict-has}
 use Rattle.rules.proofs.ListedLaws.{units-listed}
 use Rattle.rules.proofs.UnitLaws.{unitsFrom-sized, touches-iff}
-use Rattle.rules.proofs.SlotHistory.{Known, pendingBy-iff}
+use Rattle.rules.proofs.SlotHistory.{Told, pendingBy-iff, accepted-done}
 use Rattle.rules.proofs.SoundLaws.{after-sound, fresh-opens, fresh-closed, closed-unsound}
 use Rattle.rules.proofs.Sessions.{known-session, slot-told}
 use Rattle.rules.proofs.Isolation.{withSlot-slotAt, step-unsound, history-alone, slot-alone}
@@ -36,14 +37,7 @@ use Rattle.rules.proofs.ReportLaws.{reports-map, runs-are, writes-alway
 -- ---- refusals
 
 accepted-not-refused : (c : Slot) (o : Op) (n i : ℕ) → (accepted c o) .0 ≡ refused n i → ⊥
-accepted-not-refused (slot b t) (start x) n i e = let z : _≡_ {A = ℕ} 0 1 = cc in omega arith
-accepted-not-refused (slot b t) stop n i e = let z : _≡_ {A = ℕ} 0 1 = cc in omega arith
-accepted-not-refused (slot b off) (write w) n i e = let z : _≡_ {A = ℕ} 0 1 = cc in omega arith
-accepted-not-refused (slot b (on g rs p)) (write w) n i e = let z : _≡_ {A = ℕ} 0 1 = cc in omega arith
-accepted-not-refused (slot b off) (receive x) n i e = let z : _≡_ {A = ℕ} 0 1 = cc in omega arith
-accepted-not-refused (slot b (on g rs p)) (receive x) n i e = let z : _≡_ {A = ℕ} 0 1 = cc in omega arith
-accepted-not-refused (slot b t) (suspend kind) n i e = let z : _≡_ {A = ℕ} 0 1 = cc in omega arith
-accepted-not-refused (slot b t) resume n i e = let z : _≡_ {A = ℕ} 0 1 = cc in omega arith
+accepted-not-refused c o n i e = true≢false (sym (accepted-done c o) ∙ ap isAccepted e)
 
 refused-unchanged : (st : State) (k : Call) (n i : ℕ) → (step st k) .0 ≡ refused n i → (step st k) .1 ≡ st
 unfolding step
@@ -52,7 +46,7 @@ refused-unchanged st k n i = go (placeOf (st .settings) (k .id))
     go : (p : Option ℕ) → (stepAt st p (k .op)) .0 ≡ refused n i → (stepAt st p (k .op)) .1 ≡ st
     go p =
         verdict-has (λ (r : Answer × Slot). r .0 ≡ refused n i → withSlot st p (r .1) ≡ st) (λ m j. (refused m j, slotAt st p))
-        (λ m i e. withSlot-slotAt st p) (order (st .settings) (seenAt st p) (k .op)) (accepted (slotAt st p) (k .op))
+        (λ m i e. withSlot-slotAt st p) (order (st .settings) (seenAt st p) (arrivingAt st p) (k .op)) (accepted (slotAt st p) (k .op))
         (λ h e. absurd (accepted-not-refused (slotAt st p) (k .op) n i e))
 
 pub refusals : Refusals
@@ -61,7 +55,7 @@ refusals =
       unchanged = refused-unchanged;
       bytes = λ id x n i. refl;
       number = λ n i. refl;
-      zeros = λ n i. (refl, refl);
+      zeros = λ n i. (refl, refl, refl);
     }
 
 -- ---- soundness
@@ -84,10 +78,10 @@ pending-exactly : (s : Settings) (words : ℕ) (ks : List Call) (a : ℕ) → Pe
 pending-exactly s words ks a =
     record {
       told = slot-told s words a ks;
-      exactly = λ b g rs p e n u at.
+      exactly = λ g rs p e n u at.
           let h : List Did = sessionHistory s words ks a in
-          let k : Known h b (on g rs p) = rw e at (known-session s words a ks) in
-          let m : getElem? p n ≡ some (pendingBy h u) = ap (λ l. getElem? l n) (k .marks .0) ∙ map-at (pendingBy h) (units g rs) n u at in (
+          let k : Told h (on g rs p) = rw e at (known-session s words a ks .marks) in
+          let m : getElem? p n ≡ some (pendingBy h u) = ap (λ l. getElem? l n) (k .0) ∙ map-at (pendingBy h) (units g rs) n u at in (
             (λ t. pendingBy-iff h u .0 (some-inj (sym m ∙ t))),
             (λ w. m ∙ ap some (pendingBy-iff h u .1 w)),
           );
@@ -105,10 +99,10 @@ demand-2 =
     record {
       listed = units-listed;
       pending = pending-exactly;
-      reports = λ s words ks a b g rs p e k.
+      reports = λ s words ks a b g rs p f e k.
           let h : List Did = sessionHistory s words ks a in
-          let w : Known h b (on g rs p) = rw e at (known-session s words a ks) in
-          rw (w .marks .0) (reports-map b (pendingBy h) g k (units g rs) (unitsFrom-sized (unitSize g) 0 [] rs) (w .marks .1));
+          let w : Told h (on g rs p) = rw e at (known-session s words a ks .marks) in
+          rw (w .0) (reports-map b (pendingBy h) g k (units g rs) (unitsFrom-sized (unitSize g) 0 [] rs) (w .1));
       touches = λ w u. record { exactly = λ z. shares-a-byte w u z; none = λ e. rw e };
       runs = runs-are;
       room = λ bytes h. record { fits = omega arith; no-more = omega arith };
@@ -154,11 +148,15 @@ granularity g h =
         let e : 64 ≡ 12 + g + (52 - g) = omega arith in
         ap (λ k. 2 ^ k % unitSize g) e ∙ ap (λ n. n % unitSize g) (pow-add 2 (12 + g) (52 - g)) ∙ mul-mod-right (unitSize g) (2 ^ (52 - g))
 
--- ---- the worked numbers of document 01
+-- ---- the worked numbers
 
 pub worked : Worked
-unfolding cases settingsOk placeOf granularityOk rangeTests powersOk unitsOk rangesOf startBytes fresh step order sound heldOk numberAt numberBytes records recordsAt
+unfolding cases settingsOk placeOf granularityOk rangeTests powersOk unitsOk rangesOf startBytes stateOk fresh step order sound heldOk numberAt numberBytes records recordsAt
 worked = refl
+
+pub worked-states : WorkedStates
+unfolding stateOk numberAt
+worked-states = refl
 
 -- ---- the bytes of a start structure and of a report
 

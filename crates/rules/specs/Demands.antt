@@ -16,9 +16,9 @@ use Rattle.rules.specs.Ranges.{rowsOk, powersOk}
 use Rattle.rules.specs.StartData.{noRange, startSize, startBytes, startData, startWritten, placed}
 use Rattle.rules.specs.Report.{follows, runs, Descriptor, descriptor, Report, room, reportOn, marksLeft}
 use Rattle.rules.specs.ReportReader.{reportSize, bit, reportRefusal, reportSuspended, reportMore, reportIdentifier, reportGranularity, reportCount, reportRefusalAt, reportAddress, reportLength}
-use Rattle.rules.specs.Order.{Op, start, stop, write, receive, suspend, resume, freshOrder}
+use Rattle.rules.specs.Order.{Op, start, stop, write, receive, suspend, resume, freshOrder, part}
 use Rattle.rules.specs.Device.{heldOk}
-use Rattle.rules.specs.Machine.{refused, slot, on, pendingIn, State, fresh, soundState, slotOf, Call, step, after, events, lent, stored, numberOf, newlyOf, noReport, reportOf}
+use Rattle.rules.specs.Machine.{refused, on, pendingIn, State, fresh, soundState, slotOf, Call, step, after, events, lent, stored, numberOf, newlyOf, noReport, reportOf, assembledOf}
 use Rattle.rules.specs.History.{Did, only, historyOf, PendingBy, lists, slotBy}
 use Rattle.rules.specs.declared.Range.{Range}
 use Rattle.rules.specs.declared.Settings.{Settings}
@@ -38,7 +38,7 @@ pub record Refusals : Type 0 where
   pub unchanged : (st : State) (k : Call) (n i : ℕ) → (step st k) .0 ≡ refused n i → (step st k) .1 ≡ st
   pub bytes : (id : ℕ) (x : List ℕ) (n i : ℕ) → stored id x (refused n i) ≡ x
   pub number : (n i : ℕ) → numberOf (refused n i) ≡ n
-  pub zeros : (n i : ℕ) → (newlyOf (refused n i) ≡ 0) × (reportOf (refused n i) ≡ noReport)
+  pub zeros : (n i : ℕ) → (newlyOf (refused n i) ≡ 0) × (reportOf (refused n i) ≡ noReport) × (assembledOf (refused n i) ≡ [])
 
 -- W3: "Say which rule and row, counted from 0, the earliest row first; within a row length 0, unaligned, past the end"
 
@@ -92,7 +92,7 @@ pub record Soundness : Type 0 where
 pub record Pending (s : Settings) (words : ℕ) (ks : List Call) (a : ℕ) : Type 0 where
   -- what the controller's slot holds is told by its calls and answers alone
   pub told : slotOf (sessionEnd s words ks) a ≡ slotBy (sessionHistory s words ks a)
-  pub exactly : (b : Bool) (g : ℕ) (rs : List Range) (p : List Bool) → slotOf (sessionEnd s words ks) a ≡ slot b (on g rs p)
+  pub exactly : (g : ℕ) (rs : List Range) (p : List Bool) → slotOf (sessionEnd s words ks) a .marks ≡ on g rs p
       → (n : ℕ) (u : Unit) → getElem? (units g rs) n ≡ some u
       → (getElem? p n ≡ some true) ↔ PendingBy (sessionHistory s words ks a) u
 
@@ -204,7 +204,7 @@ pub record Demand2 : Type 1 where
   pub listed : (g : ℕ) (rs : List Range) → rowsOk g rs ≡ true → UnitsListed g rs
   pub pending : (s : Settings) (words : ℕ) (ks : List Call) (a : ℕ) → Pending s words ks a
   pub reports : (s : Settings) (words : ℕ) (ks : List Call) (a : ℕ) (b : Bool) (g : ℕ) (rs : List Range) (p : List Bool)
-      → slotOf (sessionEnd s words ks) a ≡ slot b (on g rs p) → (k : ℕ) → Reports b g k (units g rs) p
+      → slotOf (sessionEnd s words ks) a .suspended ≡ b → slotOf (sessionEnd s words ks) a .marks ≡ on g rs p → (k : ℕ) → Reports b g k (units g rs) p
   pub runs : Runs
   pub room : (bytes : ℕ) → 16 ≤ bytes → Room bytes
   pub touches : (w : Write) (u : Unit) → Touches w u
@@ -250,7 +250,8 @@ pub record ReadBack (id : ℕ) (r : Report) (x : List ℕ) : Type 0 where
 
 -- ---- demand 3
 
--- the refusals of a call that tell of what controllers share: of a start the descriptor limit, and of no other call any
+-- the refusals of a call that tell of what controllers share: of a start the descriptor limit, of a part of a state that another's is under way (W6), and of no
+-- other call any
 abbrev pub sharedRefusals : Op → List ℕ
 sharedRefusals (start x) = 12 ∷ []
 sharedRefusals stop = []
@@ -258,6 +259,7 @@ sharedRefusals (write w) = []
 sharedRefusals (receive x) = []
 sharedRefusals (suspend kind) = []
 sharedRefusals resume = []
+sharedRefusals (part p) = 23 ∷ []
 
 -- none of a controller's calls was refused for what it shares
 abbrev pub unhindered : List Did → Bool

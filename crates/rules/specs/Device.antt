@@ -1,20 +1,23 @@
 -- Document 01, "Refusal numbers": when a record is sound (refusal 1), a fresh device and the closed one. Unused places are not looked at, and
 -- fresh fills them with zeros.
-use Prim.Native.Nat.{ℕ, _+_, _-_}
-use mathlib.Core.Bool.{Bool, true, false}
+use Prim.Native.Nat.{ℕ, _+_, _-_, _%_}
+use mathlib.Core.Bool.{Bool, true, false, _&&_}
 use mathlib.Core.List.{List, [], _∷_, _++_, map}
 use mathlib.Core.Option.{Option, none, some}
-use lib.Dec.{leb}
-use lib.ListN.{length, take, replicate}
+use lib.Dec.{leb, eqb}
+use lib.ListN.{length, take, getD, replicate}
 use Rattle.rules.specs.Lists.{all, every, sum}
 use Rattle.rules.specs.Refusals.{_else_, passes, verdict}
-use Rattle.rules.specs.Settings.{settingsOk, granularityOk, identifiersOf}
+use Rattle.rules.specs.Settings.{settingsOk, granularityOk, identifiersOf, placeOf}
 use Rattle.rules.specs.Ranges.{listTests}
 use Rattle.rules.specs.StartData.{placed}
+use Rattle.rules.specs.ControllerState.{stateMost}
 use Rattle.rules.specs.Order.{freshOrder}
 use Rattle.rules.specs.declared.Range.{Range}
 use Rattle.rules.specs.declared.Tracking.{Tracking}
 use Rattle.rules.specs.declared.Tracking.the-variants.{Off, On}
+use Rattle.rules.specs.declared.Sequence.{Sequence}
+use Rattle.rules.specs.declared.Sequence.the-variants.{Nothing, Open}
 use Rattle.rules.specs.declared.Controller.{Controller}
 use Rattle.rules.specs.declared.Settings.{Settings}
 use Rattle.rules.specs.declared.Device.{Device}
@@ -37,16 +40,21 @@ abbrev pub heldCount : Option Held → ℕ
 heldCount none = 0
 heldCount (some h) = h .count
 
--- the settings pass 16, each controller holds what it may, and the counts together are within the limit
-abbrev pub soundRules : Settings → List (Option Held) → List Bool
-soundRules s hs =
+-- W6: so many bytes can be there of a state that is not whole yet: "whole dwords, 4 to 4,096 bytes"
+abbrev pub frontOk : ℕ → Bool
+frontOk n = leb 4 n && (leb n stateMost && eqb (n % 4) 0)
+
+-- the settings pass 16, each controller holds what it may, the counts together are within the limit, and an open sequence is as it may be
+abbrev pub soundRules : Settings → List (Option Held) → Bool → List Bool
+soundRules s hs sequence =
     settingsOk s
     ∷ all (heldOk s) hs
     ∷ leb (sum (map heldCount hs)) (s .limit)
+    ∷ sequence
     ∷ []
 
-unfoldable pub sound : Settings → List (Option Held) → Bool
-sound s hs = every (soundRules s hs)
+unfoldable pub sound : Settings → List (Option Held) → Bool → Bool
+sound s hs sequence = every (soundRules s hs sequence)
 
 -- ---- the record
 
@@ -58,13 +66,27 @@ heldIn (On g n) rs = some (record { granularity = g; count = n; ranges = take n 
 abbrev pub heldOf : Controller → Option Held
 heldOf c = heldIn (c .tracking) (c .ranges)
 
+-- a controller that is neither tracked nor suspended
+abbrev pub freshController : Controller
+freshController = record { tracking = Off; suspended = false; ranges = placed [] }
+
 -- the controllers in use
 abbrev pub controllersOf : Device → List Controller
 controllersOf d = take (d .settings .count) (d .controllers)
 
+-- W6: whether the controller at a place in use is suspended
+abbrev pub suspendedAt : List Controller → Option ℕ → Bool
+suspendedAt cs none = false
+suspendedAt cs (some i) = getD cs i freshController .suspended
+
+-- no sequence is open, or its owner is in the settings and suspended, and its end is one that parts can have
+abbrev pub sequenceOk : Settings → List Controller → Sequence → Bool
+sequenceOk s cs Nothing = true
+sequenceOk s cs (Open owner end) = suspendedAt cs (placeOf s owner) && frontOk end
+
 -- whether a record is sound
 abbrev pub soundDevice : Device → Bool
-soundDevice d = sound (d .settings) (map heldOf (controllersOf d))
+soundDevice d = sound (d .settings) (map heldOf (controllersOf d)) (sequenceOk (d .settings) (controllersOf d) (d .sequence))
 
 -- ---- fresh
 
@@ -81,19 +103,15 @@ cleaned s =
       identifiers = identifiersOf s ++ replicate (length (s .identifiers) - s .count) 0;
     }
 
--- a controller that is neither tracked nor suspended
-abbrev pub freshController : Controller
-freshController = record { tracking = Off; suspended = false; ranges = placed [] }
-
 abbrev pub freshDevice : Settings → Device
-freshDevice s = record { settings = cleaned s; controllers = replicate 8 freshController }
+freshDevice s = record { settings = cleaned s; controllers = replicate 8 freshController; sequence = Nothing }
 
 -- the device of a refused fresh: all zeros, which no settings rule passes
 abbrev pub closedSettings : Settings
 closedSettings = record { manager = 0; least = 0; greatest = 0; powers = false; limit = 0; count = 0; identifiers = replicate 8 0 }
 
 abbrev pub closedDevice : Device
-closedDevice = record { settings = closedSettings; controllers = replicate 8 freshController }
+closedDevice = record { settings = closedSettings; controllers = replicate 8 freshController; sequence = Nothing }
 
 -- what fresh returns, from settings and a number of mark words
 unfoldable pub freshOf : Settings → ℕ → Device

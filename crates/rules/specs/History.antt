@@ -11,8 +11,8 @@ use Rattle.rules.specs.Settings.{unitSize}
 use Rattle.rules.specs.Units.{Unit, covers, touches, units}
 use Rattle.rules.specs.StartData.{granularityOf, rangesOf}
 use Rattle.rules.specs.Report.{Descriptor, rangeOf}
-use Rattle.rules.specs.Order.{Op, start, stop, write, receive, suspend, resume}
-use Rattle.rules.specs.Machine.{Answer, refused, done, wrote, reported, reportOf, Call, Event, Marks, off, on, Slot, slot}
+use Rattle.rules.specs.Order.{Op, start, stop, write, receive, suspend, resume, part, isFirst, isLast}
+use Rattle.rules.specs.Machine.{Answer, refused, done, wrote, reported, assembled, reportOf, Call, Event, Marks, off, on, Slot}
 use Rattle.rules.specs.declared.Range.{Range}
 
 -- a call to a controller with its answer
@@ -36,6 +36,7 @@ isAccepted (refused n i) = false
 isAccepted done = true
 isAccepted (wrote n) = true
 isAccepted (reported r) = true
+isAccepted (assembled y) = true
 
 abbrev pub writes : Op → Unit → Bool
 writes (write w) u = touches w u
@@ -44,6 +45,7 @@ writes stop u = false
 writes (receive x) u = false
 writes (suspend kind) u = false
 writes resume u = false
+writes (part p) u = false
 
 abbrev pub starts : Op → Bool
 starts (start x) = true
@@ -52,6 +54,7 @@ starts (write w) = false
 starts (receive x) = false
 starts (suspend kind) = false
 starts resume = false
+starts (part p) = false
 
 -- an accepted write touched the unit
 abbrev pub touchedBy : Did → Unit → Bool
@@ -92,6 +95,11 @@ pub record PendingBy (h : List Did) (u : Unit) : Type 0 where
 
 -- ---- what a history says of a controller
 
+-- what its accepted calls make of something, one after another
+abbrev pub toldBy : {A : Type 0} → (A → Op → A) → A → List Did → A
+toldBy f x [] = x
+toldBy f x (d ∷ h) = toldBy f (cond (isAccepted (d .answer)) (f x (d .op)) x) h
+
 -- with what granularity and ranges it is tracked: those of the last accepted start, unless a stop was accepted after it
 abbrev pub tracksAfter : Option (ℕ × List Range) → Op → Option (ℕ × List Range)
 tracksAfter t (start x) = some (granularityOf x, rangesOf x)
@@ -100,10 +108,10 @@ tracksAfter t (write w) = t
 tracksAfter t (receive x) = t
 tracksAfter t (suspend kind) = t
 tracksAfter t resume = t
+tracksAfter t (part p) = t
 
 abbrev pub tracksBy : Option (ℕ × List Range) → List Did → Option (ℕ × List Range)
-tracksBy t [] = t
-tracksBy t (d ∷ h) = tracksBy (cond (isAccepted (d .answer)) (tracksAfter t (d .op)) t) h
+tracksBy t h = toldBy tracksAfter t h
 
 -- whether it is suspended: by the last accepted suspend of type 1 or resume
 abbrev pub suspendsAfter : Bool → Op → Bool
@@ -113,10 +121,39 @@ suspendsAfter b (start x) = b
 suspendsAfter b stop = b
 suspendsAfter b (write w) = b
 suspendsAfter b (receive x) = b
+suspendsAfter b (part p) = b
 
 abbrev pub suspendedBy : Bool → List Did → Bool
-suspendedBy b [] = b
-suspendedBy b (d ∷ h) = suspendedBy (cond (isAccepted (d .answer)) (suspendsAfter b (d .op)) b) h
+suspendedBy b h = toldBy suspendsAfter b h
+
+-- W6: whether a state of its own is under way: from an accepted part that is not the last one on, until a last or only one or a resume is accepted
+abbrev pub opensAfter : Bool → Op → Bool
+opensAfter b (part p) = not (isLast p)
+opensAfter b resume = false
+opensAfter b (start x) = b
+opensAfter b stop = b
+opensAfter b (write w) = b
+opensAfter b (receive x) = b
+opensAfter b (suspend kind) = b
+
+abbrev pub openBy : List Did → Bool
+openBy h = toldBy opensAfter false h
+
+-- and its bytes so far: the data of the accepted parts since and with the last accepted first or only one, joined
+abbrev pub joinsAfter : List ℕ → Op → List ℕ
+joinsAfter x (part p) = cond (isFirst p) (p .bytes) (x ++ p .bytes)
+joinsAfter x (start y) = x
+joinsAfter x stop = x
+joinsAfter x (write w) = x
+joinsAfter x (receive y) = x
+joinsAfter x (suspend kind) = x
+joinsAfter x resume = x
+
+abbrev pub joinedBy : List Did → List ℕ
+joinedBy h = toldBy joinsAfter [] h
+
+abbrev pub frontBy : List Did → Option (List ℕ)
+frontBy h = cond (openBy h) (some (joinedBy h)) none
 
 -- the slot that a history tells: each unit of the tracked ranges is pending as the history says
 abbrev pub marksBy : List Did → Option (ℕ × List Range) → Marks
@@ -124,4 +161,4 @@ marksBy h none = off
 marksBy h (some t) = on (t .0) (t .1) (map (pendingBy h) (units (t .0) (t .1)))
 
 abbrev pub slotBy : List Did → Slot
-slotBy h = slot (suspendedBy false h) (marksBy h (tracksBy none h))
+slotBy h = record { suspended = suspendedBy false h; marks = marksBy h (tracksBy none h); front = frontBy h }

@@ -6,6 +6,7 @@ pub mod Ranges
 pub mod StartData
 pub mod Report
 pub mod ReportReader
+pub mod ControllerState
 pub mod Order
 pub mod Device
 pub mod Machine

@@ -1,20 +1,20 @@
 -- Document 01 as a machine: a device is its settings and a slot for each controller; a call to a controller is answered and leaves a device.
 -- One call sees the settings, its own controller's slot and what `Seen` says of the device, and changes that slot alone.
 use Prim.Native.Nat.{ℕ}
-use mathlib.Core.Bool.{Bool, true, false, _||_}
+use mathlib.Core.Bool.{Bool, true, false, _&&_, _||_, not, cond}
 use mathlib.Core.List.{List, [], _∷_, map}
 use mathlib.Core.Option.{Option, none, some}
 use lib.Dec.{eqb}
 use lib.ListN.{length, getD, set}
 use Rattle.little.specs.Little.{put}
-use Rattle.rules.specs.Lists.{sum, isSome}
+use Rattle.rules.specs.Lists.{all, any, sum, isSome}
 use Rattle.rules.specs.Refusals.{verdict}
 use Rattle.rules.specs.Settings.{identifiersOf, placeOf}
-use Rattle.rules.specs.Units.{Unit, units, clear, mark, newly, pending}
+use Rattle.rules.specs.Units.{Unit, Write, units, clear, mark, newly, pending}
 use Rattle.rules.specs.StartData.{granularityOf, rangesOf}
 use Rattle.rules.specs.Report.{Report, room, reportOn, marksLeft, reportBytes}
-use Rattle.rules.specs.Order.{Op, start, stop, write, receive, suspend, resume, Seen, freshOrder, order}
-use Rattle.rules.specs.Device.{Held, heldCount, sound, cleaned, closedSettings}
+use Rattle.rules.specs.Order.{Op, start, stop, write, receive, suspend, resume, part, Part, isLast, joinedWith, Seen, Arriving, freshOrder, order}
+use Rattle.rules.specs.Device.{Held, heldCount, frontOk, sound, cleaned, closedSettings}
 use Rattle.rules.specs.declared.Range.{Range}
 use Rattle.rules.specs.declared.Settings.{Settings}
 
@@ -25,73 +25,126 @@ pub data Marks : Type 0 where
   off : Marks
   on : ℕ → List Range → List Bool → Marks
 
--- suspended or running, and how it is tracked
-pub data Slot : Type 0 where
-  slot : Bool → Marks → Slot
+-- suspended or running, how it is tracked, and the bytes so far of a state of its own that arrives in parts (W6), if one does
+pub record Slot : Type 0 where
+  pub suspended : Bool
+  pub marks : Marks
+  pub front : Option (List ℕ)
 
 abbrev pub freshSlot : Slot
-freshSlot = slot false off
+freshSlot = record { suspended = false; marks = off; front = none }
+
+-- the same slot with other marks, with its flag set or clear, and with other bytes so far
+abbrev pub withMarksOf : Slot → Marks → Slot
+withMarksOf c t = record { suspended = c .suspended; marks = t; front = c .front }
+
+abbrev pub withFlag : Slot → Bool → Slot
+withFlag c b = record { suspended = b; marks = c .marks; front = c .front }
+
+abbrev pub withFront : Slot → Option (List ℕ) → Slot
+withFront c f = record { suspended = c .suspended; marks = c .marks; front = f }
 
 abbrev pub isSuspended : Slot → Bool
-isSuspended (slot b t) = b
+isSuspended c = c .suspended
+
+-- whether it is tracked
+abbrev pub areOn : Marks → Bool
+areOn off = false
+areOn (on g rs p) = true
 
 abbrev pub isTracked : Slot → Bool
-isTracked (slot b off) = false
-isTracked (slot b (on g rs p)) = true
+isTracked c = areOn (c .marks)
 
 -- what it holds
+abbrev pub heldOn : Marks → Option Held
+heldOn off = none
+heldOn (on g rs p) = some (record { granularity = g; count = length rs; ranges = rs })
+
 abbrev pub heldBy : Slot → Option Held
-heldBy (slot b off) = none
-heldBy (slot b (on g rs p)) = some (record { granularity = g; count = length rs; ranges = rs })
+heldBy c = heldOn (c .marks)
+
+-- whether a state of its own is under way, and whether that is as it may be: of a suspended controller, and as long as parts can be
+abbrev pub isOpen : Slot → Bool
+isOpen c = isSome (c .front)
+
+abbrev pub frontKept : Bool → Option (List ℕ) → Bool
+frontKept b none = true
+frontKept b (some f) = b && frontOk (length f)
+
+abbrev pub openOk : Slot → Bool
+openOk c = frontKept (c .suspended) (c .front)
 
 -- its pending units
+abbrev pub pendingOn : Marks → List Unit
+pendingOn off = []
+pendingOn (on g rs p) = pending (units g rs) p
+
 abbrev pub pendingIn : Slot → List Unit
-pendingIn (slot b off) = []
-pendingIn (slot b (on g rs p)) = pending (units g rs) p
+pendingIn c = pendingOn (c .marks)
 
 -- ---- one call
 
--- a refusal's number, and its row, which is 0 save where a rule of a row is broken (W3); or done, for a write with its count and for a report with the report
+-- a refusal's number, and its row, which is 0 save where a rule of a row is broken (W3); or done, for a write with its count, for a report with the report, and for
+-- the last part of a state with its assembled bytes (W6)
 pub data Answer : Type 0 where
   refused : ℕ → ℕ → Answer
   done : Answer
   wrote : ℕ → Answer
   reported : Report → Answer
+  assembled : List ℕ → Answer
 
--- what a call that is not refused answers and leaves. (A report of a controller that is not tracked is refused with 5.)
+-- what a write answers and leaves of the marks
+abbrev pub wroteIn : Write → Marks → Answer × Marks
+wroteIn w off = (wrote 0, off)
+wroteIn w (on g rs p) = (wrote (newly w (units g rs) p), on g rs (mark w (units g rs) p))
+
+-- the same of a report into a buffer of so many bytes, which says whether the controller is suspended. (Of one that is not tracked it is refused with 5.)
+abbrev pub reportedIn : Bool → ℕ → Marks → Answer × Marks
+reportedIn b bytes off = (done, off)
+reportedIn b bytes (on g rs p) = (reported (reportOn b g (room bytes) (units g rs) p), on g rs (marksLeft (room bytes) (units g rs) p))
+
+-- what a part answers and leaves of the bytes so far: the last one yields them all
+abbrev pub arrivedIn : Part → Option (List ℕ) → Answer × Option (List ℕ)
+arrivedIn p f = cond (isLast p) (assembled (joinedWith f p), none) (done, some (joinedWith f p))
+
+-- an answer, and the slot with the marks that it leaves
+abbrev pub leaving : Slot → Answer × Marks → Answer × Slot
+leaving c r = (r .0, withMarksOf c (r .1))
+
+-- what a call that is not refused answers and leaves
 abbrev pub accepted : Slot → Op → Answer × Slot
-accepted (slot b t) (start x) = (done, slot b (on (granularityOf x) (rangesOf x) (clear (units (granularityOf x) (rangesOf x)))))
-accepted (slot b t) stop = (done, slot b off)
-accepted (slot b off) (write w) = (wrote 0, slot b off)
-accepted (slot b (on g rs p)) (write w) = (wrote (newly w (units g rs) p), slot b (on g rs (mark w (units g rs) p)))
-accepted (slot b off) (receive x) = (done, slot b off)
-accepted (slot b (on g rs p)) (receive x) =
-    (reported (reportOn b g (room (length x)) (units g rs) p), slot b (on g rs (marksLeft (room (length x)) (units g rs) p)))
-accepted (slot b t) (suspend kind) = (done, slot (b || eqb kind 1) t)
-accepted (slot b t) resume = (done, slot false t)
+accepted c (start x) = (done, withMarksOf c (on (granularityOf x) (rangesOf x) (clear (units (granularityOf x) (rangesOf x)))))
+accepted c stop = (done, withMarksOf c off)
+accepted c (write w) = leaving c (wroteIn w (c .marks))
+accepted c (receive x) = leaving c (reportedIn (c .suspended) (length x) (c .marks))
+accepted c (suspend kind) = (done, withFlag c (c .suspended || eqb kind 1))
+accepted c resume = (done, withFront (withFlag c false) none)
+accepted c (part p) = ((arrivedIn p (c .front)) .0, withFront c ((arrivedIn p (c .front)) .1))
 
 -- a refused call leaves the slot as it was
-abbrev pub slotStep : Settings → Seen → Slot → Op → Answer × Slot
-slotStep s v c o = verdict (order s v o) (accepted c o) (λ n i. (refused n i, c))
+abbrev pub slotStep : Settings → Seen → Arriving → Slot → Op → Answer × Slot
+slotStep s v w c o = verdict (order s v w o) (accepted c o) (λ n i. (refused n i, c))
 
 -- ---- the device
 
+-- `stray`: a state arrives for a controller that the settings lack, which no calls from a fresh device lead to
 pub record State : Type 0 where
   pub settings : Settings
   pub slots : List Slot
+  pub stray : Bool
 
 abbrev pub closed : State
-closed = record { settings = closedSettings; slots = [] }
+closed = record { settings = closedSettings; slots = []; stray = false }
 
 -- the device that fresh makes of settings and a number of mark words (a refused one is closed)
 abbrev pub opened : Settings → State
-opened s = record { settings = cleaned s; slots = map (λ (i : ℕ). freshSlot) (identifiersOf s) }
+opened s = record { settings = cleaned s; slots = map (λ (i : ℕ). freshSlot) (identifiersOf s); stray = false }
 
 unfoldable pub fresh : Settings → ℕ → State
 fresh s words = verdict (freshOrder s words) (opened s) (λ n i. closed)
 
 abbrev pub soundState : State → Bool
-soundState st = sound (st .settings) (map heldBy (st .slots))
+soundState st = sound (st .settings) (map heldBy (st .slots)) (not (st .stray) && all openOk (st .slots))
 
 -- the counts of all controllers now tracked
 abbrev pub countsIn : State → ℕ
@@ -104,7 +157,7 @@ slotAt st (some i) = getD (st .slots) i freshSlot
 
 abbrev pub withSlot : State → Option ℕ → Slot → State
 withSlot st none c = st
-withSlot st (some i) c = record { settings = st .settings; slots = set (st .slots) i c }
+withSlot st (some i) c = record { settings = st .settings; slots = set (st .slots) i c; stray = st .stray }
 
 -- the slot of a controller
 abbrev pub slotOf : State → ℕ → Slot
@@ -121,9 +174,18 @@ seenAt st i =
       counts = countsIn st;
     }
 
+-- whether a state is under way in another slot than that at a place
+abbrev pub othersOpen : State → Option ℕ → Bool
+othersOpen st none = any isOpen (st .slots)
+othersOpen st (some i) = any isOpen (set (st .slots) i freshSlot)
+
+-- what a part sees beside that. The area that a session hands on has its bytes
+abbrev pub arrivingAt : State → Option ℕ → Arriving
+arrivingAt st i = record { area = true; others = othersOpen st i; front = slotAt st i .front }
+
 abbrev pub stepAt : State → Option ℕ → Op → Answer × State
 stepAt st i o =
-    let r = slotStep (st .settings) (seenAt st i) (slotAt st i) o in
+    let r = slotStep (st .settings) (seenAt st i) (arrivingAt st i) (slotAt st i) o in
     (r .0, withSlot st i (r .1))
 
 pub record Call : Type 0 where
@@ -159,6 +221,7 @@ lent (write w) = []
 lent (receive x) = x
 lent (suspend kind) = []
 lent resume = []
+lent (part p) = p .bytes
 
 -- lent bytes after an answer to a controller's call: a report is stored at the buffer's front, all else is as it was
 abbrev pub stored : ℕ → List ℕ → Answer → List ℕ
@@ -166,6 +229,7 @@ stored id x (reported r) = put x 0 (reportBytes id r)
 stored id x (refused n i) = x
 stored id x done = x
 stored id x (wrote n) = x
+stored id x (assembled y) = x
 
 -- ---- what an answer says in numbers; a refusal says zero beside its own number
 
@@ -174,12 +238,14 @@ numberOf (refused n i) = n
 numberOf done = 0
 numberOf (wrote n) = 0
 numberOf (reported r) = 0
+numberOf (assembled y) = 0
 
 abbrev pub newlyOf : Answer → ℕ
 newlyOf (wrote n) = n
 newlyOf (refused n i) = 0
 newlyOf done = 0
 newlyOf (reported r) = 0
+newlyOf (assembled y) = 0
 
 abbrev pub noReport : Report
 noReport = record { suspended = false; more = false; granularity = 0; descriptors = [] }
@@ -189,3 +255,12 @@ reportOf (reported r) = r
 reportOf (refused n i) = noReport
 reportOf done = noReport
 reportOf (wrote n) = noReport
+reportOf (assembled y) = noReport
+
+-- the bytes that a finished state has, none otherwise
+abbrev pub assembledOf : Answer → List ℕ
+assembledOf (assembled y) = y
+assembledOf (refused n i) = []
+assembledOf done = []
+assembledOf (wrote n) = []
+assembledOf (reported r) = []

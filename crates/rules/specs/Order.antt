@@ -1,18 +1,28 @@
 -- Document 01, "Refusal numbers": the calls, and the order of each call's refusals, a table each, first hit answers. What a call that is not refused
 -- does stands in Machine.antt.
-use Prim.Native.Nat.{ℕ, _+_, _^_}
-use mathlib.Core.Bool.{Bool, not}
+use Prim.Native.Nat.{ℕ, _+_, _*_, _%_, _^_}
+use mathlib.Core.Bool.{Bool, false, _&&_, _||_, not, cond}
 use mathlib.Core.List.{List, [], _∷_, _++_}
-use lib.Dec.{leb, eqb}
+use mathlib.Core.Option.{Option, none, some}
+use lib.Dec.{leb, ltb, eqb}
 use lib.ListN.{length}
 use Rattle.rules.specs.Refusals.{Test, _else_}
 use Rattle.rules.specs.Settings.{markWords, mostNotes, settingsOk, granularityOk}
 use Rattle.rules.specs.Units.{Write}
 use Rattle.rules.specs.Ranges.{listTests}
 use Rattle.rules.specs.StartData.{headerTests, rangesThere, granularityOf, countOf, rangesOf}
+use Rattle.rules.specs.ControllerState.{stateMost, stateOk}
 use Rattle.rules.specs.declared.Settings.{Settings}
 
--- a call to one controller, with the bytes that are lent with it: a start structure, or a report's buffer
+-- W6: a part of a controller's state as it is sent: its sequence indicator, its offset in two words of 32 bits, its count of dwords, and its data
+pub record Part : Type 0 where
+  pub indicator : ℕ
+  pub low : ℕ
+  pub high : ℕ
+  pub count : ℕ
+  pub bytes : List ℕ
+
+-- a call to one controller, with the bytes that are lent with it: a start structure, a report's buffer, or a part's data
 pub data Op : Type 0 where
   start : List ℕ → Op
   stop : Op
@@ -20,6 +30,7 @@ pub data Op : Type 0 where
   receive : List ℕ → Op
   suspend : ℕ → Op
   resume : Op
+  part : Part → Op
 
 -- what a call sees of its device: whether the record is sound and the marks are there, whether the identifier is in the settings (the manager's
 -- own never is in sound ones), how its controller stands, and the counts of all controllers now tracked, together
@@ -29,6 +40,12 @@ pub record Seen : Type 0 where
   pub suspended : Bool
   pub tracked : Bool
   pub counts : ℕ
+
+-- W6: what a part sees beside that: whether the lent area has its bytes, whether a sequence of another controller is open, and the bytes of its own, if one is
+pub record Arriving : Type 0 where
+  pub area : Bool
+  pub others : Bool
+  pub front : Option (List ℕ)
 
 -- Fresh, from settings and a number of mark words
 abbrev pub freshOrder : Settings → ℕ → List Test
@@ -115,11 +132,81 @@ resumeOrder v =
     ∷ (v .suspended else 13)
     ∷ []
 
+-- ---- W6: a part of a controller's state
+
+-- where it begins, in bytes
+abbrev pub offsetOf : Part → ℕ
+offsetOf p = p .low + 2 ^ 32 * p .high
+
+-- sequence indicators: 01b and 11b the first or only part of a sequence, 10b and 11b the last or only one
+abbrev pub firstBy : ℕ → Bool
+firstBy indicator = eqb indicator 1 || eqb indicator 3
+
+abbrev pub lastBy : ℕ → Bool
+lastBy indicator = eqb indicator 2 || eqb indicator 3
+
+abbrev pub isFirst : Part → Bool
+isFirst p = firstBy (p .indicator)
+
+abbrev pub isLast : Part → Bool
+isLast p = lastBy (p .indicator)
+
+-- 24: whole dwords, and within the area
+abbrev pub isOffset : ℕ → Bool
+isOffset n = eqb (n % 4) 0 && leb n stateMost
+
+abbrev pub offsetOk : Part → Bool
+offsetOk p = isOffset (offsetOf p)
+
+-- 25: an indicator of two bits, no dwords with 10b alone, and data of as many dwords as counted
+abbrev pub areCounted : ℕ → ℕ → ℕ → Bool
+areCounted indicator count bytes = leb indicator 3 && ((ltb 0 count || eqb indicator 2) && eqb bytes (4 * count))
+
+abbrev pub dataOk : Part → Bool
+dataOk p = areCounted (p .indicator) (p .count) (length (p .bytes))
+
+-- 26: "a first or only part begins anew at offset 0, every other where the open sequence's last accepted part ended"
+abbrev pub followsOn : Option (List ℕ) → Part → Bool
+followsOn none p = false
+followsOn (some f) p = eqb (offsetOf p) (length f)
+
+abbrev pub follows : Option (List ℕ) → Part → Bool
+follows front p = cond (isFirst p) (eqb (offsetOf p) 0) (followsOn front p)
+
+-- the bytes so far, with its own behind them
+abbrev pub soFar : Option (List ℕ) → List ℕ
+soFar none = []
+soFar (some f) = f
+
+abbrev pub joinedWith : Option (List ℕ) → Part → List ℕ
+joinedWith front p = cond (isFirst p) (p .bytes) (soFar front ++ p .bytes)
+
+-- 27: within the area, and where it is the last, a finished state
+abbrev pub joinedOk : Option (List ℕ) → Part → Bool
+joinedOk front p = leb (length (joinedWith front p)) stateMost && (not (isLast p) || stateOk (joinedWith front p))
+
+abbrev pub partTests : Arriving → Part → List Test
+partTests a p =
+    (not (a .others) else 23)
+    ∷ (offsetOk p else 24)
+    ∷ (dataOk p else 25)
+    ∷ (follows (a .front) p else 26)
+    ∷ (joinedOk (a .front) p else 27)
+    ∷ []
+
+abbrev pub partOrder : Seen → Arriving → Part → List Test
+partOrder v a p =
+    (v .sound && a .area else 1)
+    ∷ (v .known else 2)
+    ∷ (v .suspended else 13)
+    ∷ partTests a p
+
 -- the table of a call
-unfoldable pub order : Settings → Seen → Op → List Test
-order s v (start x) = startOrder s v x
-order s v stop = stopOrder v
-order s v (write w) = writeOrder v w
-order s v (receive x) = receiveOrder v x
-order s v (suspend kind) = suspendOrder v kind
-order s v resume = resumeOrder v
+unfoldable pub order : Settings → Seen → Arriving → Op → List Test
+order s v a (start x) = startOrder s v x
+order s v a stop = stopOrder v
+order s v a (write w) = writeOrder v w
+order s v a (receive x) = receiveOrder v x
+order s v a (suspend kind) = suspendOrder v kind
+order s v a resume = resumeOrder v
+order s v a (part p) = partOrder v a p

@@ -1,16 +1,17 @@
 -- Document 01, "Settled by worked numbers": the marked cases (*), in their order, as one table of sessions with the answers that the document gives; then
--- the numbers and rows of document 02, W3.
--- That the rules give these answers is one claim, `Worked`, proved by computing (proofs/Theorems.antt).
+-- the numbers and rows of document 02, W3, and parts of states, W6; and states of controllers as W6 judges them.
+-- That the rules give these answers is a claim for each table, `Worked` and `WorkedStates`, proved by computing (proofs/Theorems.antt).
 use Prim.Native.Nat.{ℕ, zero, suc, _+_, _-_, _^_}
 use mathlib.Core.Path.{_≡_}
 use mathlib.Core.Bool.{Bool, true, false}
-use mathlib.Core.List.{List, [], _∷_, map}
-use lib.ListN.{replicate}
+use mathlib.Core.List.{List, [], _∷_, _++_, map}
+use lib.ListN.{take, drop, replicate, set}
 use Rattle.rules.specs.Settings.{markWords}
 use Rattle.rules.specs.StartData.{startBytes}
 use Rattle.rules.specs.Report.{Descriptor}
-use Rattle.rules.specs.Order.{start, write, receive}
-use Rattle.rules.specs.Machine.{Answer, refused, done, wrote, reported, Call, Event, events, fresh}
+use Rattle.rules.specs.ControllerState.{stateOk}
+use Rattle.rules.specs.Order.{start, write, receive, suspend, resume, part}
+use Rattle.rules.specs.Machine.{Answer, refused, done, wrote, reported, assembled, Call, Event, events, fresh}
 use Rattle.rules.specs.declared.Range.{Range}
 use Rattle.rules.specs.declared.Settings.{Settings}
 
@@ -36,6 +37,28 @@ writes a n = record { id = 5; op = write (record { address = a; bytes = n }) }
 
 abbrev receives : ℕ → Call
 receives bytes = record { id = 5; op = receive (replicate bytes 0) }
+
+-- W6: calls to a controller: suspended, resumed, and sent a part by its indicator, offset, count of dwords and data
+abbrev suspends : ℕ → Call
+suspends id = record { id = id; op = suspend 1 }
+
+abbrev resumes : ℕ → Call
+resumes id = record { id = id; op = resume }
+
+abbrev sends : ℕ → ℕ → ℕ → ℕ → List ℕ → Call
+sends id indicator offset count bytes = record { id = id; op = part (record { indicator = indicator; low = offset; high = 0; count = count; bytes = bytes }) }
+
+-- bytes of which nothing matters but how many
+abbrev zeros : ℕ → List ℕ
+zeros n = replicate n 0
+
+-- n zeros with v at a place
+abbrev with : ℕ → ℕ → ℕ → List ℕ
+with n at v = set (zeros n) at v
+
+-- a state of one dword of NVMe's and two of the vendor's
+abbrev state60 : List ℕ
+state60 = set (with 60 16 1) 32 2
 
 -- a report of some runs with More To Report set or clear
 abbrev report : Bool → List Descriptor → Answer
@@ -91,6 +114,38 @@ cases =
     ∷ case (starts 0 (range 4097 0 ∷ []) ∷ starts 0 (range (2 ^ 64 - 1) 0 ∷ []) ∷ starts 0 (range (2 ^ 64 - 1) 1 ∷ []) ∷ []) (refused 19 0 ∷ refused 19 0 ∷ refused 20 0 ∷ [])
     -- all of it before the power-of-two rule, and behind the granularity, which name no row
     ∷ record { powers = true; calls = starts 0 (range 65536 3 ∷ range 4096 0 ∷ []) ∷ starts 9 (range 0 0 ∷ []) ∷ []; answers = refused 19 1 ∷ refused 7 0 ∷ [] }
+    -- W6: 13 for one that runs; a header alone is a state, and 4 bytes less or more are none
+    ∷ case (sends 5 3 0 12 (zeros 48) ∷ suspends 5 ∷ sends 5 3 0 12 (zeros 48) ∷ sends 5 3 0 11 (zeros 44) ∷ sends 5 3 0 13 (zeros 52) ∷ [])
+    (refused 13 0 ∷ done ∷ assembled (zeros 48) ∷ refused 27 0 ∷ refused 27 0 ∷ [])
+    -- a state in three parts: a last one that leaves it short is refused, and the sender goes on
+    ∷ case
+    (suspends 5 ∷ sends 5 1 0 4 (take 16 state60) ∷ sends 5 0 16 7 (take 28 (drop 16 state60)) ∷ sends 5 2 44 3 (take 12 (drop 44 state60)) ∷ sends 5 2 44 4 (drop 44 state60) ∷ [])
+    (done ∷ done ∷ done ∷ refused 27 0 ∷ assembled state60 ∷ [])
+    -- 24: bits 1:0, past the area, a high word; before 25
+    ∷ case
+    (suspends 5 ∷ sends 5 1 2 1 (zeros 4) ∷ sends 5 1 4100 1 (zeros 4) ∷ sends 5 4 2 1 (zeros 4)
+    ∷ record { id = 5; op = part (record { indicator = 1; low = 0; high = 1; count = 1; bytes = zeros 4 }) } ∷ [])
+    (done ∷ refused 24 0 ∷ refused 24 0 ∷ refused 24 0 ∷ refused 24 0 ∷ [])
+    -- 25: an indicator above 3, no dwords but in a last part, data that are not the counted dwords; before 26
+    ∷ case
+    (suspends 5 ∷ sends 5 4 0 1 (zeros 4) ∷ sends 5 1 0 0 [] ∷ sends 5 0 0 0 [] ∷ sends 5 3 0 0 [] ∷ sends 5 2 4 0 (zeros 4) ∷ sends 5 1 4 1 (zeros 3) ∷ sends 5 1 0 1 (zeros 8) ∷ [])
+    (done ∷ refused 25 0 ∷ refused 25 0 ∷ refused 25 0 ∷ refused 25 0 ∷ refused 25 0 ∷ refused 25 0 ∷ refused 25 0 ∷ [])
+    -- 26: a first or only part elsewhere than at 0, any other with nothing open or elsewhere than at its end
+    ∷ case
+    (suspends 5 ∷ sends 5 1 4 1 (zeros 4) ∷ sends 5 3 4 12 (zeros 48) ∷ sends 5 0 0 1 (zeros 4) ∷ sends 5 2 0 0 [] ∷ sends 5 1 0 2 (zeros 8) ∷ sends 5 0 4 1 (zeros 4) ∷ sends 5 2 12 9 (zeros 36) ∷ [])
+    (done ∷ refused 26 0 ∷ refused 26 0 ∷ refused 26 0 ∷ refused 26 0 ∷ done ∷ refused 26 0 ∷ refused 26 0 ∷ [])
+    -- 27: past 4,096 bytes
+    ∷ case (suspends 5 ∷ sends 5 1 0 1025 (zeros 4100) ∷ sends 5 1 0 1024 (zeros 4096) ∷ sends 5 0 4096 1 (zeros 4) ∷ []) (done ∷ refused 27 0 ∷ done ∷ refused 27 0 ∷ [])
+    -- 23 before 24; another's resume leaves the sequence, its owner's drops it
+    ∷ case
+    (suspends 5 ∷ suspends 6 ∷ sends 5 1 0 4 (zeros 16) ∷ sends 6 1 2 1 (zeros 4) ∷ resumes 6 ∷ sends 5 0 16 1 (zeros 4) ∷ resumes 5 ∷ suspends 5 ∷ sends 5 0 20 1 (zeros 4) ∷ [])
+    (done ∷ done ∷ done ∷ refused 23 0 ∷ done ∷ done ∷ done ∷ done ∷ refused 26 0 ∷ [])
+    -- a refused only part leaves what is open; an accepted one begins anew and ends it
+    ∷ case
+    (suspends 5 ∷ sends 5 1 0 5 (zeros 20) ∷ sends 5 3 0 12 (with 48 1 1) ∷ sends 5 2 20 7 (zeros 28) ∷ sends 5 1 0 1 (replicate 4 238) ∷ sends 5 3 0 12 (zeros 48) ∷ sends 5 2 48 0 [] ∷ [])
+    (done ∷ done ∷ refused 27 0 ∷ assembled (zeros 48) ∷ done ∷ assembled (zeros 48) ∷ refused 26 0 ∷ [])
+    -- a last part of no dwords closes what is complete
+    ∷ case (suspends 5 ∷ sends 5 1 0 12 (zeros 48) ∷ sends 5 2 48 0 [] ∷ []) (done ∷ done ∷ assembled (zeros 48) ∷ [])
     ∷ []
 
 -- ---- the claim
@@ -115,3 +170,43 @@ answered c = map (λ (e : Event). e .answer) (events (fresh (settings (c .powers
 -- each case is answered as the document says
 abbrev pub Worked : Type 0
 Worked = map answered cases ≡ map (λ (c : Case). c .answers) cases
+
+-- ---- W6: states, and whether each is accepted as finished
+
+pub record StateCase : Type 0 where
+  pub bytes : List ℕ
+  pub ok : Bool
+
+abbrev finished : List ℕ → StateCase
+finished x = record { bytes = x; ok = true }
+
+abbrev unfinished : List ℕ → StateCase
+unfinished x = record { bytes = x; ok = false }
+
+abbrev pub states : List StateCase
+states =
+    -- a header alone, with anything in its attributes and its reserved bytes; one byte less
+    finished (set (with 48 2 255) 15 255)
+    ∷ unfinished (replicate 47 0)
+    -- a version in either byte
+    ∷ unfinished (with 48 0 1)
+    ∷ unfinished (with 48 1 1)
+    -- a dword of either kind is 4 bytes more
+    ∷ finished (with 52 16 1)
+    ∷ finished (with 52 32 1)
+    ∷ finished state60
+    ∷ unfinished (replicate 52 0)
+    -- 4 dwords are 16 bytes
+    ∷ finished (with 64 16 4)
+    ∷ unfinished (with 52 16 4)
+    -- a size has 16 bytes, and each counts
+    ∷ unfinished (with 48 18 1)
+    ∷ unfinished (with 48 31 1)
+    ∷ unfinished (with 48 47 1)
+    -- the sizes are added as they are: 2^128 - 1 and 1, and 2^64 - 1 and 1
+    ∷ unfinished (replicate 16 0 ++ (replicate 16 255 ++ with 16 0 1))
+    ∷ unfinished (replicate 16 0 ++ ((replicate 8 255 ++ replicate 8 0) ++ with 16 0 1))
+    ∷ []
+
+abbrev pub WorkedStates : Type 0
+WorkedStates = map (λ (c : StateCase). stateOk (c .bytes)) states ≡ map (λ (c : StateCase). c .ok) states

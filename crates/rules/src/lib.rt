@@ -13,6 +13,9 @@ pub const MOST_UNITS: u64 = 4096;
 // The most records of a batch.
 pub const MOST_NOTES: usize = 1024;
 
+// The bytes of the lent area for a controller's state, and the most that a state may have.
+pub const STATE_BYTES: usize = 4096;
+
 // A length in units.
 pub struct Units(pub u64);
 
@@ -49,10 +52,17 @@ pub struct Settings {
     pub identifiers: [u16; 8],
 }
 
+// A controller's state that arrives in parts: none is under way, or one of the controller with this identifier, whose parts so far end at this byte.
+pub enum Sequence {
+    Nothing,
+    Open(u16, u16),
+}
+
 // The device record. The controllers stand in the order of their identifiers in the settings.
 pub struct Device {
     pub settings: Settings,
     pub controllers: [Controller; 8],
+    pub sequence: Sequence,
 }
 
 // A start structure's header: its granularity and its count of ranges, or a refusal's number and the byte where reading stopped.

@@ -8,7 +8,7 @@ use Prim.Native.Nat.{ℕ, _+_, _^_, _≤_, _<_}
 use native.Mathlib.Omega.{arith}
 use native.Mathlib.Nat.{zero-add}
 use lib.ListN.{length, getD, take, drop}
-use lib.Dec.{leb}
+use lib.Dec.{leb, eqb}
 use borrow.Author.Tests.{le-leb, lt-leb, leb-true, eq-eqb, ne-eqb, eqb-true}
 use Rattle.bits.specs.Flat.{flat, Words}
 use Rattle.bits.specs.Share.{Holds, putShare}
@@ -37,7 +37,7 @@ use Rattle.record.proofs.RecordLaws.{whereIs-at, whereIs-refused}
 use Rattle.calls.specs.Calls.{Note, withMarks, marksAt, noted, noteIn, writeDone, writeNote}
 use Rattle.calls.proofs.PlaceLaws.{held-at, share-within}
 use Rattle.writes.specs.declared.Single.{Single}
-use Rattle.writes.specs.Inner.{Lies, MayNote, noteTests, noteOn, isOne, Fronts, alone}
+use Rattle.writes.specs.Inner.{Lies, MayNote, noteTests, noteOn, isOne, singleOf, Fronts, alone}
 
 -- ---- the place, on a record that is known to be sound
 

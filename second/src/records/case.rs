@@ -1,20 +1,28 @@
 //! The form of a case (tests/RECORDS.md), and the device record as bytes in that form.
 
 use crate::little_endian::{get, put};
-use crate::rules::{Controller, Note, Range, Record, Settings, Tracking};
+use crate::rules::{Controller, Note, Range, Record, Sequence, Settings, Tracking};
 
 /// A case is exactly so long; what stands after its last field is not looked at.
 pub const CASE_BYTES: usize = 2944;
 /// A case may lend more words or fewer than the 512 that document 01 wants, so that both are refused.
 pub const MOST_WORDS: usize = 600;
-/// As many bytes at most are lent for a start structure, a report or a batch's rows.
+/// As many bytes at most are lent for a start structure, a report or a batch's rows, and a case has room for so many.
 pub const MOST_DATA: usize = 1024;
+/// A part may have more bytes than a state, so that 27 can be met; those that the case has no room for are zeros.
+const MOST_PART_DATA: usize = 4100;
+/// A case may lend a longer state area or a shorter one than the 4,096 bytes that W6 wants, so that both are refused.
+pub const MOST_AREA: usize = 4200;
+/// The area's first bytes are told one by one.
+const FRONT_BYTES: usize = 64;
 /// A row of a batch: identifier (2), address (8), bytes (8).
 const ROW_BYTES: usize = 18;
 /// One more than W4 lets a batch have, so that 22 can be met.
 const MOST_RECORDS: u64 = 1025;
+/// The call that is a part.
+const PART: u64 = 8;
 
-/// The seven calls of document 01 and a batch (W4), with what only one of them takes.
+/// The seven calls of document 01, a batch (W4) and a part (W6), with what only one of them takes.
 #[derive(Clone, Debug, PartialEq, Eq)]
 pub enum Call {
     Fresh,
@@ -25,9 +33,10 @@ pub enum Call {
     Suspend { kind: u64 },
     Resume,
     Batch(Vec<Note>),
+    Part { indicator: u64, low: u64, high: u64, count: u64 },
 }
 
-/// A device record that may be unsound, lent marks and bytes, and one call to play on them.
+/// A device record that may be unsound, lent marks, bytes and state area, and one call to play on them.
 #[derive(Clone, Debug, PartialEq, Eq)]
 pub struct Case {
     pub record: Record,
@@ -35,6 +44,8 @@ pub struct Case {
     pub call: Call,
     pub id: u64,
     pub data: Vec<u8>,
+    /// Of a part; no other call takes one.
+    pub area: Vec<u8>,
 }
 
 /// The case in these bytes; nothing if they aren't in the form.
@@ -45,6 +56,7 @@ pub fn read_case(bytes: &[u8]) -> Option<Case> {
     for controller in record.controllers.iter_mut() {
         *controller = read_controller(&mut fields)?;
     }
+    record.sequence = read_sequence(&mut fields)?;
     let words = fields.next_within(2, MOST_WORDS as u64)?;
     let mark = fields.next(8)?;
     let number = fields.next(1)?;
@@ -52,10 +64,14 @@ pub fn read_case(bytes: &[u8]) -> Option<Case> {
     let address = fields.next(8)?;
     let written = fields.next(8)?;
     let kind = fields.next(1)?;
-    let lent = fields.next_within(2, MOST_DATA as u64)?;
-    let data = bytes.get(fields.at..fields.at + lent as usize)?.to_vec();
-    fields.at += MOST_DATA;
+    let most_lent = if number == PART { MOST_PART_DATA } else { MOST_DATA };
+    let lent = fields.next_within(2, most_lent as u64)?;
+    let mut data = fields.next_bytes(MOST_DATA)?;
+    data.resize(lent as usize, 0);
     let records = fields.next_within(2, MOST_RECORDS)?;
+    let part =
+        Call::Part { indicator: fields.next(1)?, low: fields.next(4)?, high: fields.next(4)?, count: fields.next(4)? };
+    let area = read_area(&mut fields)?;
     let call = match number {
         0 => Call::Fresh,
         1 => Call::Start,
@@ -65,9 +81,11 @@ pub fn read_case(bytes: &[u8]) -> Option<Case> {
         5 => Call::Suspend { kind },
         6 => Call::Resume,
         7 => Call::Batch(read_notes(&data, records as usize)?),
+        PART => part,
         _ => return None,
     };
-    Some(Case { record, words: vec![mark; words as usize], call, id, data })
+    let area = if number == PART { area } else { Vec::new() };
+    Some(Case { record, words: vec![mark; words as usize], call, id, data, area })
 }
 
 fn read_settings(fields: &mut Fields) -> Option<Settings> {
@@ -100,6 +118,24 @@ fn read_controller(fields: &mut Fields) -> Option<Controller> {
     Some(controller)
 }
 
+/// 0 and zeros where nothing is open, 1 and the owner and the end where a sequence is.
+fn read_sequence(fields: &mut Fields) -> Option<Sequence> {
+    match (fields.next(1)?, fields.next(2)?, fields.next(2)?) {
+        (0, 0, 0) => Some(Sequence::Nothing),
+        (1, owner, end) => Some(Sequence::Open { owner, end }),
+        _ => None,
+    }
+}
+
+/// "the 64 of front and then fill in each", cut to the area's length.
+fn read_area(fields: &mut Fields) -> Option<Vec<u8>> {
+    let length = fields.next_within(2, MOST_AREA as u64)?;
+    let fill = fields.next(1)?;
+    let mut area = fields.next_bytes(FRONT_BYTES)?;
+    area.resize(length as usize, fill as u8);
+    Some(area)
+}
+
 /// "Record j of the batch is row j modulo the number of rows"; "with no row, all its records are zeros". Nothing for a
 /// row that isn't whole.
 fn read_notes(data: &[u8], records: usize) -> Option<Vec<Note>> {
@@ -113,13 +149,14 @@ fn read_notes(data: &[u8], records: usize) -> Option<Vec<Note>> {
     Some(rows.into_iter().cycle().take(records).collect())
 }
 
-/// The record in the form of a case: the settings, then the controllers, unused places and all.
+/// The record in the form of a case: the settings, then the controllers, unused places and all, and the sequence.
 pub fn record_bytes(record: &Record) -> Vec<u8> {
     let mut bytes = Vec::new();
     put_settings(&mut bytes, &record.settings);
     for controller in &record.controllers {
         put_controller(&mut bytes, controller);
     }
+    put_sequence(&mut bytes, record.sequence);
     bytes
 }
 
@@ -150,6 +187,16 @@ fn put_controller(bytes: &mut Vec<u8>, controller: &Controller) {
     }
 }
 
+fn put_sequence(bytes: &mut Vec<u8>, sequence: Sequence) {
+    let (open, owner, end) = match sequence {
+        Sequence::Nothing => (0, 0, 0),
+        Sequence::Open { owner, end } => (1, owner, end),
+    };
+    put(bytes, open, 1);
+    put(bytes, u128::from(owner), 2);
+    put(bytes, u128::from(end), 2);
+}
+
 /// The fields of a case, read one after another.
 struct Fields<'a> {
     bytes: &'a [u8],
@@ -161,6 +208,12 @@ impl<'a> Fields<'a> {
         let value = get(self.bytes, self.at, width)?;
         self.at += width;
         Some(value)
+    }
+
+    fn next_bytes(&mut self, number: usize) -> Option<Vec<u8>> {
+        let bytes = self.bytes.get(self.at..self.at + number)?.to_vec();
+        self.at += number;
+        Some(bytes)
     }
 
     /// A field that the form doesn't let be greater than this.

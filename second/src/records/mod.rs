@@ -1,5 +1,6 @@
-//! Cases with device records of any kind, sound or not. No listing leads to an unsound record or to marks that are not
-//! 512 words, so refusal 1 is tested here. tests/RECORDS.md has the form of a case and of its answer.
+//! Cases with device records of any kind, sound or not. No listing leads to an unsound record, to marks that are not 512
+//! words or to a state area that is not 4,096 bytes, so refusal 1 is tested here. tests/RECORDS.md has the form of a case
+//! and of its answer.
 
 mod case;
 mod marks;
@@ -13,8 +14,9 @@ use crate::device::Device;
 use crate::little_endian::put;
 use crate::report::read_report;
 use crate::rules::{Note, Reason, Record, Refusal, UNSOUND};
+use crate::state::Part;
 
-use self::case::{read_case, record_bytes, Call, Case, CASE_BYTES, MOST_DATA, MOST_WORDS};
+use self::case::{read_case, record_bytes, Call, Case, CASE_BYTES, MOST_AREA, MOST_DATA, MOST_WORDS};
 use self::marks::{clear_words, mark_pending, pending_units, MARK_WORDS};
 
 /// What a call answers, and what it leaves behind.
@@ -30,9 +32,12 @@ struct Outcome {
     /// How many notes of a batch were done, and the refusal that cut it, 0 where none did (W4).
     notes_done: u64,
     cut: Refusal,
+    /// How many bytes a part has assembled (W6).
+    whole: u64,
     record: Record,
     words: Vec<u64>,
     data: Vec<u8>,
+    area: Vec<u8>,
 }
 
 /// Answers each case of `input`, in their order.
@@ -61,9 +66,11 @@ fn untouched(case: &Case) -> Outcome {
         report: [0; 4],
         notes_done: 0,
         cut: 0,
+        whole: 0,
         record: case.record.clone(),
         words: case.words.clone(),
         data: case.data.clone(),
+        area: case.area.clone(),
     }
 }
 
@@ -104,6 +111,11 @@ fn done(case: &Case) -> Result<Outcome, Reason> {
             after.notes_done = batch.done as u64;
             after.cut = batch.refusal.unwrap_or(0);
         }
+        Call::Part { indicator, low, high, count } => {
+            let (id, data) = (case.id, case.data.clone());
+            let part = Part { id, indicator: *indicator, low: *low, high: *high, count: *count, data };
+            after.whole = device.set_state(&mut after.area, &part)? as u64;
+        }
     }
     mark_pending(&device, &mut after.words);
     after.record = device.record;
@@ -141,13 +153,17 @@ fn answer(outcome: &Outcome) -> Vec<u8> {
     }
     put(&mut bytes, u128::from(outcome.notes_done), 8);
     put(&mut bytes, u128::from(outcome.cut), 1);
+    put(&mut bytes, u128::from(outcome.whole), 8);
     bytes.extend_from_slice(&record_bytes(&outcome.record));
     let marks_end = bytes.len() + 8 * MOST_WORDS;
     for word in &outcome.words {
         put(&mut bytes, u128::from(*word), 8);
     }
     bytes.resize(marks_end, 0);
+    // A part may lend more bytes than the answer has room for; these are left out.
     bytes.extend_from_slice(&outcome.data);
     bytes.resize(marks_end + MOST_DATA, 0);
+    bytes.extend_from_slice(&outcome.area);
+    bytes.resize(marks_end + MOST_DATA + MOST_AREA, 0);
     bytes
 }

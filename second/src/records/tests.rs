@@ -2,7 +2,7 @@
 //! page 20; and 57344 is page 14, 61440 page 15, 77824 page 19.
 
 use super::*;
-use crate::rules::{Controller, Range, Settings, Tracking};
+use crate::rules::{Controller, Range, Sequence, Settings, Tracking};
 use crate::structure::structure_bytes;
 
 /// Manager 1, granularities 0 to 8, rule off, limit 16, controllers 5, 6 and 7. Controller 5 tracks 4 units from page 16
@@ -24,7 +24,7 @@ fn base(call: Call, id: u64) -> Case {
     record.controllers[2].tracking = Tracking::On { granularity: 8, count: 1 };
     record.controllers[2].suspended = true;
     record.controllers[2].ranges[0] = Range { start: 1048576, length: 3 };
-    Case { record, words: vec![0; 512], call, id, data: Vec::new() }
+    Case { record, words: vec![0; 512], call, id, data: Vec::new(), area: Vec::new() }
 }
 
 /// A batch of these notes: identifier, address and bytes.
@@ -32,7 +32,15 @@ fn batch(notes: &[(u64, u64, u64)]) -> Call {
     Call::Batch(notes.iter().map(|(id, address, bytes)| Note { id: *id, address: *address, bytes: *bytes }).collect())
 }
 
-/// The base with each of the seven calls that look at the record; each is done there.
+/// A part of controller 7 that counts as many dwords as its data have, with a state area of stale bytes.
+fn part(indicator: u64, low: u64, data: &[u8]) -> Case {
+    let mut case = base(Call::Part { indicator, low, high: 0, count: data.len() as u64 / 4 }, 7);
+    case.data = data.to_vec();
+    case.area = vec![0xEE; 4096];
+    case
+}
+
+/// The base with each of the eight calls that look at the record; each is done there.
 fn calls() -> Vec<Case> {
     let mut start = base(Call::Start, 6);
     start.data = structure_bytes(0, &[Range { start: 65536, length: 1 }]);
@@ -46,10 +54,11 @@ fn calls() -> Vec<Case> {
         base(Call::Suspend { kind: 1 }, 5),
         base(Call::Resume, 7),
         base(batch(&[(5, 69632, 1), (5, 65536, 1)]), 0),
+        part(1, 0, &[1, 2, 3, 4]),
     ]
 }
 
-/// What each of the seven calls answers once the base's record is changed so. A refused one must leave all as it was.
+/// What each of the eight calls answers once the base's record is changed so. A refused one must leave all as it was.
 fn refusals(change: &dyn Fn(&mut Record)) -> Vec<Refusal> {
     let mut refusals = Vec::new();
     for mut case in calls() {
@@ -64,11 +73,11 @@ fn refusals(change: &dyn Fn(&mut Record)) -> Vec<Refusal> {
 }
 
 fn assert_unsound(change: &dyn Fn(&mut Record)) {
-    assert_eq!(refusals(change), [1; 7]);
+    assert_eq!(refusals(change), [1; 8]);
 }
 
 fn assert_sound(change: &dyn Fn(&mut Record)) {
-    assert_eq!(refusals(change), [0; 7]);
+    assert_eq!(refusals(change), [0; 8]);
 }
 
 /// Puts these ranges, and no others, into the first controller's places.
@@ -166,7 +175,7 @@ fn ranges_at_and_past_their_limits() {
 fn counts_together_at_and_past_the_limit() {
     // 2 and 1 are tracked, and the start asks for one more.
     assert_sound(&|record| record.settings.limit = 4);
-    assert_eq!(refusals(&|record| record.settings.limit = 3), [12, 0, 0, 0, 0, 0, 0]);
+    assert_eq!(refusals(&|record| record.settings.limit = 3), [12, 0, 0, 0, 0, 0, 0, 0]);
     assert_unsound(&|record| record.settings.limit = 2);
 }
 
@@ -381,6 +390,111 @@ fn batches_over_ranges_that_overlap() {
 }
 
 // ---------------------------------------------------------------------------------------------------------------
+// Parts (W6)
+// ---------------------------------------------------------------------------------------------------------------
+
+/// This sequence is open.
+fn open(case: &Case, owner: u64, end: u64) -> Case {
+    let mut case = case.clone();
+    case.record.sequence = Sequence::Open { owner, end };
+    case
+}
+
+#[test]
+fn sequences_that_are_sound_and_not() {
+    // 7 is suspended; 5 runs, 6 too; 1 is the manager.
+    for end in [4, 16, 4092, 4096].iter() {
+        assert_sound(&|record| record.sequence = Sequence::Open { owner: 7, end: *end });
+    }
+    for end in [0, 2, 6, 4095, 4097, 4100, 65535].iter() {
+        assert_unsound(&|record| record.sequence = Sequence::Open { owner: 7, end: *end });
+    }
+    for owner in [0, 1, 5, 6, 9, 263, 65535].iter() {
+        assert_unsound(&|record| record.sequence = Sequence::Open { owner: *owner, end: 16 });
+    }
+    // 9 is suspended in an unused place.
+    let mut case = open(&part(1, 0, &[0; 4]), 9, 16);
+    rubbish(&mut case.record);
+    case.record.settings.identifiers[3] = 9;
+    assert_refused(&case, 1, 0);
+    case.record.settings.number = 4;
+    case.record.controllers[3].tracking = Tracking::Off;
+    assert_refused(&case, 23, 0);
+}
+
+#[test]
+fn areas_of_any_length() {
+    for length in [0, 1, 48, 4095, 4097, 4200].iter() {
+        let mut case = part(3, 0, &[0; 48]);
+        case.area = vec![7; *length];
+        assert_refused(&case, 1, 0);
+        case.id = 9;
+        assert_refused(&case, 1, 0);
+    }
+}
+
+#[test]
+fn parts_leave_all_but_their_own_bytes() {
+    let mut case = open(&part(0, 16, &[1, 2, 3, 4, 5, 6, 7, 8]), 7, 16);
+    rubbish(&mut case.record);
+    case.words = vec![0xffff_ffff_ffff_ffd0; 512];
+    let mut expected = untouched(&case);
+    expected.record.sequence = Sequence::Open { owner: 7, end: 24 };
+    expected.area[16..24].copy_from_slice(&[1, 2, 3, 4, 5, 6, 7, 8]);
+    assert_eq!(outcome(&case), expected);
+    // A last one is judged by the area's bytes as well: here these are no header of version 0.
+    case.call = Call::Part { indicator: 2, low: 16, high: 0, count: 2 };
+    assert_refused(&case, 27, 0);
+    case.area = vec![0; 4096];
+    assert_refused(&case, 27, 0);
+    // 24 bytes of zeros are no header. Of 48, of which 8 are the part's, sizes stand at 32 to 39.
+    case = open(&case, 7, 40);
+    case.call = Call::Part { indicator: 2, low: 40, high: 0, count: 2 };
+    case.data = vec![0; 8];
+    let mut expected = untouched(&case);
+    expected.record.sequence = Sequence::Nothing;
+    expected.whole = 48;
+    assert_eq!(outcome(&case), expected);
+    case.area[39] = 1;
+    assert_refused(&case, 27, 0);
+    case.area[39] = 0;
+    case.data[7] = 1;
+    assert_refused(&case, 27, 0);
+}
+
+#[test]
+fn resume_and_the_sequence() {
+    let mut case = open(&base(Call::Resume, 7), 7, 16);
+    let mut expected = untouched(&case);
+    expected.record.sequence = Sequence::Nothing;
+    expected.record.controllers[2].suspended = false;
+    assert_eq!(outcome(&case), expected);
+    // Another's stays.
+    case.record.controllers[0].suspended = true;
+    case.id = 5;
+    let mut expected = untouched(&case);
+    expected.record.controllers[0].suspended = false;
+    assert_eq!(outcome(&case), expected);
+}
+
+#[test]
+fn every_other_call_carries_the_sequence_on() {
+    for case in calls().iter().filter(|case| case.call != Call::Resume) {
+        let open = open(case, 7, 16);
+        let after = outcome(&open);
+        assert_eq!(after.refusal, 0);
+        let first = Sequence::Open { owner: 7, end: 4 };
+        let is_part = !case.area.is_empty();
+        assert_eq!(after.record.sequence, if is_part { first } else { open.record.sequence });
+    }
+    // A fresh device has none, and a closed one neither.
+    let mut case = open(&base(Call::Fresh, 0), 7, 6);
+    assert_eq!(outcome(&case).record.sequence, Sequence::Nothing);
+    case.words.pop();
+    assert_eq!(outcome(&case).record, Record::default());
+}
+
+// ---------------------------------------------------------------------------------------------------------------
 // What each call leaves behind, in a record full of rubbish
 // ---------------------------------------------------------------------------------------------------------------
 
@@ -551,27 +665,32 @@ fn last_bits_of_ranges_that_overlap() {
 /// A whole case with each field's bytes at its offset in tests/RECORDS.md.
 fn case_bytes() -> Vec<u8> {
     let mut bytes = vec![0; CASE_BYTES];
-    let fields: [(usize, &[u8]); 20] = [
-        (0, &[1, 2]),                        // manager
-        (2, &[3]),                           // least
-        (3, &[4]),                           // greatest
-        (4, &[1]),                           // rule
-        (5, &[5, 6]),                        // limit
-        (7, &[7, 0, 0, 0, 0, 0, 0, 8]),      // count
-        (15, &[9, 10]),                      // the first identifier
-        (29, &[11, 12]),                     // the last identifier
-        (31, &[1, 13, 14, 1]),               // the first controller
-        (35, &[15, 0, 0, 0, 0, 0, 0, 16]),   // its first start
-        (43, &[17, 0, 0, 18]),               // its first length
-        (227, &[1, 19, 20, 0]),              // the second controller
-        (1587, &[21, 0, 0, 0, 0, 0, 0, 22]), // the last controller's last start
-        (1595, &[23, 0, 0, 24]),             // the last length
-        (1599, &[1, 2]),                     // 513 words
-        (1601, &[25, 0, 0, 0, 0, 0, 0, 26]), // their mark
-        (1609, &[3, 27, 28]),                // a write of this identifier
-        (1612, &[29, 0, 0, 0, 0, 0, 0, 30]), // address
-        (1620, &[31, 0, 0, 0, 0, 0, 0, 32]), // bytes
-        (1628, &[33, 3, 0, 34, 35, 36, 99]), // type, 3 lent bytes, and one that isn't lent
+    let fields: [(usize, &[u8]); 25] = [
+        (0, &[1, 2]),                          // manager
+        (2, &[3]),                             // least
+        (3, &[4]),                             // greatest
+        (4, &[1]),                             // rule
+        (5, &[5, 6]),                          // limit
+        (7, &[7, 0, 0, 0, 0, 0, 0, 8]),        // count
+        (15, &[9, 10]),                        // the first identifier
+        (29, &[11, 12]),                       // the last identifier
+        (31, &[1, 13, 14, 1]),                 // the first controller
+        (35, &[15, 0, 0, 0, 0, 0, 0, 16]),     // its first start
+        (43, &[17, 0, 0, 18]),                 // its first length
+        (227, &[1, 19, 20, 0]),                // the second controller
+        (1587, &[21, 0, 0, 0, 0, 0, 0, 22]),   // the last controller's last start
+        (1595, &[23, 0, 0, 24]),               // the last length
+        (1599, &[1, 37, 38, 39, 40]),          // an open sequence, its owner and its end
+        (1604, &[1, 2]),                       // 513 words
+        (1606, &[25, 0, 0, 0, 0, 0, 0, 26]),   // their mark
+        (1614, &[3, 27, 28]),                  // a write of this identifier
+        (1617, &[29, 0, 0, 0, 0, 0, 0, 30]),   // address
+        (1625, &[31, 0, 0, 0, 0, 0, 0, 32]),   // bytes
+        (1633, &[33, 3, 0, 34, 35, 36, 99]),   // type, 3 lent bytes, and one that isn't lent
+        (2662, &[41, 42, 0, 0, 43]),           // a part's indicator, and its offset's lower word
+        (2667, &[44, 0, 0, 45, 46, 0, 0, 47]), // the upper word, and the count
+        (2675, &[70, 0, 48, 49]),              // 70 bytes of state area, their fill, and the first of its front
+        (2741, &[50]),                         // the last of its front
     ];
     for (at, field) in &fields {
         bytes[*at..*at + field.len()].copy_from_slice(field);
@@ -606,13 +725,56 @@ fn fields_at_their_offsets() {
     assert_eq!(case.words, vec![high(25, 26); 513]);
     assert_eq!(case.call, Call::Write { address: high(29, 30), bytes: high(31, 32) });
     assert_eq!((case.id, case.data), (7195, vec![34, 35, 36]));
+    assert_eq!(case.record.sequence, Sequence::Open { owner: 9765, end: 10279 });
+    // Only a part has a state area.
+    assert_eq!(case.area, vec![]);
+}
+
+#[test]
+fn fields_of_a_part() {
+    let mut bytes = case_bytes();
+    bytes[1614] = 8;
+    let case = read_case(&bytes).unwrap();
+    assert_eq!(case.call, Call::Part { indicator: 41, low: 721420330, high: 754974764, count: 788529198 });
+    assert_eq!((case.id, case.data), (7195, vec![34, 35, 36]));
+    // The 64 of the front, and the fill in each of six more.
+    let mut area = vec![49];
+    area.resize(63, 0);
+    area.push(50);
+    area.resize(70, 48);
+    assert_eq!(case.area, area);
+    // Areas no longer than the front, and as long as can be.
+    for (length, low, high) in [(0, 0, 0), (1, 1, 0), (63, 63, 0), (64, 64, 0), (4200, 104, 16)].iter() {
+        bytes[2675] = *low;
+        bytes[2676] = *high;
+        let mut expected = [vec![49], vec![0; 62], vec![50], vec![48; 4136]].concat();
+        expected.truncate(*length);
+        assert_eq!(read_case(&bytes).unwrap().area, expected);
+    }
+}
+
+#[test]
+fn data_of_a_part() {
+    // 4,100 bytes, of which the case has room for 1,024: the others are zeros.
+    let mut bytes = case_bytes();
+    bytes[1614] = 8;
+    bytes[1634] = 4;
+    bytes[1635] = 16;
+    bytes[2659] = 98;
+    let mut expected = vec![34, 35, 36, 99];
+    expected.resize(1023, 0);
+    expected.push(98);
+    expected.resize(4100, 0);
+    assert_eq!(read_case(&bytes).unwrap().data, expected);
+    bytes[1634] = 5;
+    assert_eq!(read_case(&bytes), None, "4,101 bytes");
 }
 
 #[test]
 fn record_is_written_as_it_was_read() {
     let bytes = case_bytes();
-    assert_eq!(record_bytes(&read_case(&bytes).unwrap().record), bytes[..1599].to_vec());
-    assert_eq!(record_bytes(&Record::default()), vec![0; 1599]);
+    assert_eq!(record_bytes(&read_case(&bytes).unwrap().record), bytes[..1604].to_vec());
+    assert_eq!(record_bytes(&Record::default()), vec![0; 1604]);
 }
 
 #[test]
@@ -624,7 +786,7 @@ fn each_call_by_its_number() {
             .iter()
             .enumerate()
     {
-        bytes[1609] = number as u8;
+        bytes[1614] = number as u8;
         assert_eq!(read_case(&bytes).unwrap().call, *call);
     }
     assert_eq!(read_case(&batch_bytes(0, 0)).unwrap().call, Call::Batch(Vec::new()));
@@ -633,14 +795,14 @@ fn each_call_by_its_number() {
 /// A batch with this many records, and as many lent bytes of two rows.
 fn batch_bytes(records: u64, lent: u8) -> Vec<u8> {
     let mut bytes = case_bytes();
-    bytes[1609] = 7;
-    bytes[1629] = lent;
-    bytes[1631..1667].copy_from_slice(&[
+    bytes[1614] = 7;
+    bytes[1634] = lent;
+    bytes[1636..1672].copy_from_slice(&[
         1, 2, 3, 0, 0, 0, 0, 0, 0, 4, 5, 0, 0, 0, 0, 0, 0, 6, // identifier, address, bytes
         7, 8, 9, 0, 0, 0, 0, 0, 0, 10, 11, 0, 0, 0, 0, 0, 0, 12,
     ]);
-    bytes[2655] = (records % 256) as u8;
-    bytes[2656] = (records / 256) as u8;
+    bytes[2660] = (records % 256) as u8;
+    bytes[2661] = (records / 256) as u8;
     bytes
 }
 
@@ -658,7 +820,7 @@ fn rows_of_a_batch() {
     // No row.
     assert_eq!(call(1025, 0), batch(&[(0, 0, 0); 1025]));
     // The rows are lent bytes like any other.
-    assert_eq!(read_case(&batch_bytes(5, 36)).unwrap().data, batch_bytes(0, 0)[1631..1667].to_vec());
+    assert_eq!(read_case(&batch_bytes(5, 36)).unwrap().data, batch_bytes(0, 0)[1636..1672].to_vec());
 }
 
 #[test]
@@ -672,9 +834,22 @@ fn bytes_that_are_no_batch() {
 
 #[test]
 fn bytes_that_are_no_case() {
-    // Rule 2, tracking 2, off with a granularity, suspended 2, 601 words, call 8, 1,025 lent bytes.
-    let damages: [&[(usize, u8)]; 7] =
-        [&[(4, 2)], &[(31, 2)], &[(31, 0)], &[(34, 2)], &[(1599, 89)], &[(1609, 8)], &[(1629, 1), (1630, 4)]];
+    // Rule 2, tracking 2, off with a granularity, suspended 2, sequence 2, none with an owner and an end or with one of
+    // them, 601 words, call 9, 1,025 lent bytes, 4,201 bytes of area.
+    let damages: [&[(usize, u8)]; 12] = [
+        &[(4, 2)],
+        &[(31, 2)],
+        &[(31, 0)],
+        &[(34, 2)],
+        &[(1599, 2)],
+        &[(1599, 0)],
+        &[(1599, 0), (1600, 0), (1601, 0)],
+        &[(1599, 0), (1602, 0), (1603, 0)],
+        &[(1604, 89)],
+        &[(1614, 9)],
+        &[(1634, 1), (1635, 4)],
+        &[(2675, 105), (2676, 16)],
+    ];
     for damage in &damages {
         let mut bytes = case_bytes();
         for (at, byte) in damage.iter() {
@@ -693,24 +868,27 @@ fn answers_at_their_offsets() {
     let case = read_case(&case_bytes()).unwrap();
     let report = [3, 4, 5, high(6, 7)];
     let numbers = Outcome { refusal: 200, row: 201, count: high(1, 2), report, ..untouched(&case) };
-    let mut after = Outcome { notes_done: high(8, 9), cut: 10, ..numbers };
+    let mut after = Outcome { notes_done: high(8, 9), cut: 10, whole: high(11, 12), ..numbers };
     after.words[512] = high(41, 42);
-    let mut expected = vec![0; 7453];
-    let fields: [(usize, &[u8]); 7] = [
+    after.area = vec![43, 44];
+    let mut expected = vec![0; 11666];
+    let fields: [(usize, &[u8]); 9] = [
         (0, &[200, 201]),                    // refusal and row
         (2, &[1, 0, 0, 0, 0, 0, 0, 2]),      // count
         (10, &[3, 4, 5]),                    // suspended, more, granularity
         (13, &[6, 0, 0, 0, 0, 0, 0, 7]),     // number of runs
         (21, &[8, 0, 0, 0, 0, 0, 0, 9, 10]), // notes done, and the refusal that cut the batch
-        (5725, &[41, 0, 0, 0, 0, 0, 0, 42]), // the last of 513 words
-        (6429, &[34, 35, 36]),               // 3 lent bytes
+        (30, &[11, 0, 0, 0, 0, 0, 0, 12]),   // whole
+        (5738, &[41, 0, 0, 0, 0, 0, 0, 42]), // the last of 513 words
+        (6442, &[34, 35, 36]),               // 3 lent bytes
+        (7466, &[43, 44]),                   // 2 bytes of state area
     ];
     for (at, field) in &fields {
         expected[*at..*at + field.len()].copy_from_slice(field);
     }
-    expected[30..1629].copy_from_slice(&case_bytes()[..1599]);
+    expected[38..1642].copy_from_slice(&case_bytes()[..1604]);
     for word in 0..512 {
-        expected[1629 + 8 * word..1637 + 8 * word].copy_from_slice(&[25, 0, 0, 0, 0, 0, 0, 26]);
+        expected[1642 + 8 * word..1650 + 8 * word].copy_from_slice(&[25, 0, 0, 0, 0, 0, 0, 26]);
     }
     assert_eq!(answer(&after), expected);
 }
@@ -722,10 +900,18 @@ fn answer_to_a_case_that_lends_the_most() {
     case.words = vec![u64::MAX; 600];
     case.data = vec![170; 1024];
     let mut expected = vec![1];
-    expected.resize(30, 0);
+    expected.resize(38, 0);
     expected.extend_from_slice(&record_bytes(&case.record));
-    expected.resize(6429, 255);
-    expected.resize(7453, 170);
+    expected.resize(6442, 255);
+    expected.resize(7466, 170);
+    expected.resize(11666, 0);
+    assert_eq!(answer(&outcome(&case)), expected);
+    // So with a part: of its 4,100 bytes the first 1,024 are there, and the area is.
+    let mut case = part(1, 0, &[170; 4100]);
+    case.words = vec![u64::MAX; 600];
+    case.area = vec![85; 4200];
+    expected.truncate(7466);
+    expected.resize(11666, 85);
     assert_eq!(answer(&outcome(&case)), expected);
 }
 
@@ -734,15 +920,15 @@ fn answer_to_a_start_that_names_a_row() {
     // 32 bytes are lent: a header and two ranges, of which the second is unaligned. All words are 0.
     let case = start_with(&[(65536, 4), (4097, 1)]);
     let mut expected = vec![20, 1];
-    expected.resize(30, 0);
+    expected.resize(38, 0);
     expected.extend_from_slice(&record_bytes(&case.record));
-    expected.resize(6429, 0);
+    expected.resize(6442, 0);
     expected.extend_from_slice(&[
         0, 0, 0, 0, 2, 0, 0, 0, // version, reserved, granularity, count
         0, 0, 1, 0, 0, 0, 0, 0, 4, 0, 0, 0, // 65536, 4
         1, 16, 0, 0, 0, 0, 0, 0, 1, 0, 0, 0, // 4097, 1
     ]);
-    expected.resize(7453, 0);
+    expected.resize(11666, 0);
     assert_eq!(answer(&outcome(&case)), expected);
 }
 
@@ -753,9 +939,28 @@ fn answer_to_a_batch_that_is_cut() {
     let mut expected = vec![0, 0, 2];
     expected.resize(21, 0);
     expected.extend_from_slice(&[3, 0, 0, 0, 0, 0, 0, 0, 2]);
+    expected.resize(38, 0);
     expected.extend_from_slice(&record_bytes(&case.record));
     expected.push(0b0110);
-    expected.resize(7453, 0);
+    expected.resize(11666, 0);
+    assert_eq!(answer(&outcome(&case)), expected);
+}
+
+#[test]
+fn answer_to_a_part_that_yields_a_state() {
+    // The area's first 20 bytes and the data are 48 zeros; the sequence is over, and the area's other bytes are stale.
+    let mut case = part(2, 20, &[0; 28]);
+    case.record.sequence = Sequence::Open { owner: 7, end: 20 };
+    case.area[..20].copy_from_slice(&[0; 20]);
+    let mut expected = vec![0; 30];
+    expected.push(48);
+    expected.resize(38, 0);
+    let mut record = case.record.clone();
+    record.sequence = Sequence::Nothing;
+    expected.extend_from_slice(&record_bytes(&record));
+    expected.resize(7466 + 48, 0);
+    expected.resize(7466 + 4096, 0xEE);
+    expected.resize(11666, 0);
     assert_eq!(answer(&outcome(&case)), expected);
 }
 
@@ -766,7 +971,7 @@ fn controller_that_is_off_answers_zeros() {
     for byte in &mut expected[31..227] {
         *byte = 0;
     }
-    assert_eq!(answer(&outcome(&base(Call::Stop, 5)))[30..1629].to_vec(), expected);
+    assert_eq!(answer(&outcome(&base(Call::Stop, 5)))[38..1642].to_vec(), expected);
 }
 
 #[test]
@@ -774,9 +979,9 @@ fn an_answer_for_each_case() {
     // Two cases of zeros: a fresh whose settings have no identifiers. It answers 16 and is closed; no words, no bytes.
     let mut output = Vec::new();
     play(&mut &vec![0; 2 * CASE_BYTES][..], &mut output).unwrap();
-    let mut expected = vec![0; 2 * 7453];
+    let mut expected = vec![0; 2 * 11666];
     expected[0] = 16;
-    expected[7453] = 16;
+    expected[11666] = 16;
     assert_eq!(output, expected);
     let mut output = Vec::new();
     play(&mut &[][..], &mut output).unwrap();

@@ -1,7 +1,10 @@
 //! The lines of a shelf listing (READINGS 0.7).
 
-use crate::listing::{self, fitting, note, word_and_numbers, Line};
+use crate::listing::{self, fitting, note, word_and_numbers, Line, BITS_16, BITS_32, BITS_8};
 use crate::rules::Note;
+use crate::state::Part;
+
+use super::hex::bytes_of;
 
 /// "Lines have at most 16,383 bytes before the line feed"
 pub const MOST_BYTES: usize = 16383;
@@ -9,6 +12,8 @@ pub const MOST_BYTES: usize = 16383;
 const MOST_TRIPLES: usize = 1100;
 /// "n at most 2,000"
 const GREATEST_BURST: u64 = 2000;
+/// "hex of at most 4,100 bytes": more than a state has, so that 27 can be met.
+const MOST_PART_BYTES: usize = 4100;
 
 /// A well-formed line.
 #[derive(Clone, Debug, PartialEq, Eq)]
@@ -16,10 +21,14 @@ pub enum ShelfLine {
     /// "every line of document 01"
     Session(Line),
     Batch(Vec<Note>),
+    Part(Part),
 }
 
 /// The line in these bytes. Nothing for "any other line".
 pub fn parse(line: &[u8]) -> Option<ShelfLine> {
+    if line.split(|byte| *byte == b' ').next() == Some(b"part") {
+        return part(line).map(ShelfLine::Part);
+    }
     let (word, numbers) = word_and_numbers(line)?;
     match (word, numbers.as_slice()) {
         // "`batch` ... 0 to 1,100 times: id, address, bytes"
@@ -39,6 +48,24 @@ pub fn parse(line: &[u8]) -> Option<ShelfLine> {
             Some(ShelfLine::Batch(vec![note(fields)?; n as usize]))
         }
         _ => listing::parse(line).map(ShelfLine::Session),
+    }
+}
+
+/// "`part` id indicator low high count data": "16, 8, 32, 32, 32 bits, hex". What stands before the last space is a word
+/// and numbers.
+fn part(line: &[u8]) -> Option<Part> {
+    let data_at = line.iter().rposition(|byte| *byte == b' ')? + 1;
+    let (_, numbers) = word_and_numbers(&line[..data_at - 1])?;
+    match numbers.as_slice() {
+        [id, indicator, low, high, count] => Some(Part {
+            id: fitting(*id, BITS_16)?,
+            indicator: fitting(*indicator, BITS_8)?,
+            low: fitting(*low, BITS_32)?,
+            high: fitting(*high, BITS_32)?,
+            count: fitting(*count, BITS_32)?,
+            data: bytes_of(&line[data_at..], MOST_PART_BYTES)?,
+        }),
+        _ => None,
     }
 }
 
@@ -71,6 +98,61 @@ mod tests {
         assert_eq!(parse(b"batch 65535 18446744073709551615 18446744073709551615"), batch(&[most]));
         assert_eq!(parse(b"burst 2000 65535 18446744073709551615 18446744073709551615"), batch(&[most; 2000]));
         assert_eq!(parse(b"burst 2001 65535 18446744073709551615 18446744073709551615"), None);
+    }
+
+    #[test]
+    fn parts() {
+        let part = |line: &str| match parse(line.as_bytes()) {
+            Some(ShelfLine::Part(part)) => Some(part),
+            Some(_) => panic!("{}", line),
+            None => None,
+        };
+        let expected = Part { id: 5, indicator: 1, low: 2, high: 3, count: 4, data: vec![0, 255] };
+        assert_eq!(part("part 5 1 2 3 4 00ff"), Some(expected.clone()));
+        assert_eq!(part("part 5 1 2 3 4 -"), Some(Part { data: vec![], ..expected }));
+        // The longest good line.
+        let line = format!("part 65535 255 4294967295 4294967295 4294967295 {}", "5a".repeat(4100));
+        assert_eq!(line.len(), 8248);
+        let (id, indicator, word) = (65535, 255, 4294967295);
+        assert_eq!(
+            part(&line),
+            Some(Part { id, indicator, low: word, high: word, count: word, data: vec![0x5A; 4100] })
+        );
+        assert_eq!(part(&format!("{}5a", line)), None);
+        assert_eq!(part(&format!("{}5", line)), None);
+        for line in [
+            "part",
+            "part ",
+            "part -",
+            "part 5 1 2 3 4",
+            "part 5 1 2 3 4 ",
+            "part 5 1 2 3 -",
+            "part 5 1 2 3 4 5 -",
+            "part 5 1 2 3 4 00 00",
+            "part 5 1 2 3 - 4",
+            "part 65536 1 2 3 4 -",
+            "part 5 256 2 3 4 -",
+            "part 5 1 4294967296 3 4 -",
+            "part 5 1 2 4294967296 4 -",
+            "part 5 1 2 3 4294967296 -",
+            "part 5 01 2 3 4 -",
+            "part 5 1 2 3 4  -",
+            "part  5 1 2 3 4 -",
+            " part 5 1 2 3 4 -",
+            "part 5 1 2 3 4 0",
+            "part 5 1 2 3 4 0F",
+            "part 5 1 2 3 4 --",
+            "part\t5 1 2 3 4 -",
+            "part 5 1 2 3 4 -\r",
+            "part 5 1 2 3 4 00\0",
+        ]
+        .iter()
+        {
+            assert_eq!(part(line), None, "{}", line);
+        }
+        for line in ["Part 5 1 2 3 4 -", "parts 5 1 2 3 4 -", "par 5 1 2 3 4 -", "part5 1 2 3 4 -"].iter() {
+            assert_eq!(parse(line.as_bytes()), None, "{}", line);
+        }
     }
 
     #[test]

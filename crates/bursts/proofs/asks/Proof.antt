@@ -3,7 +3,7 @@ use mathlib.Core.Path.{sym}
 use native.Mathlib.Omega.{arith}
 use lib.Seq.{length-take-le}
 use borrow.Author.Needs.{needs}
-use Rattle.bursts.proofs.BurstLaws.{field-within}
+use Rattle.fields.proofs.FieldLaws.{firstField-within}
 use Rattle.bursts.proofs.asks.Statement.{statement}
 use Rattle.bursts.proofs.asks.Tie as tie
 
@@ -11,7 +11,7 @@ field-end-requires : tie.Need-field-end-requires
 field-end-requires c κs = search needs
 
 slice-aggregate-same : tie.Need-slice-aggregate-same
-slice-aggregate-same c = sym (length-take-le _ _ (field-within _ _ _ (c .before .field-end .ensures) (omega arith) .1))
+slice-aggregate-same c = sym (length-take-le _ _ (firstField-within _ _ _ (c .before .field-end .ensures) (omega arith) .1))
 
 slice-aggregate-same-2 : tie.Need-slice-aggregate-same-2
 slice-aggregate-same-2 c = search needs
@@ -23,7 +23,7 @@ returns : tie.Need-returns
 returns c = search needs
 
 slice-aggregate-same-3 : tie.Need-slice-aggregate-same-3
-slice-aggregate-same-3 c = sym (length-take-le _ _ (field-within _ _ _ (c .before .before .before .before .before .field-end .ensures) (omega arith) .1))
+slice-aggregate-same-3 c = sym (length-take-le _ _ (firstField-within _ _ _ (c .before .before .before .before .before .field-end .ensures) (omega arith) .1))
 
 slice-aggregate-same-4 : tie.Need-slice-aggregate-same-4
 slice-aggregate-same-4 c = search needs

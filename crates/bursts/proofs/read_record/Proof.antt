@@ -16,13 +16,13 @@ take-requires-3 : tie.Need-take-requires-3
 take-requires-3 c κs = search needs
 
 cast-t12 : tie.Need-cast-t12
-cast-t12 c = let k = c .before .before .before in record { fits = omega (arith, k .before .before .before .take .ensures .2 (k .if1 .taken) .1) }
+cast-t12 c = let k = c .before .before .before in record { fits = omega (arith, k .before .before .before .take .ensures .2) }
 
 returns : tie.Need-returns
 returns c =
     let k = c .before .before .before in
     let t = k .before in
-    (t .take3 .ensures .1, λ e. omega (arith, t .before .before .take .ensures .2 (k .if1 .taken) .0, t .before .take2 .ensures .0, t .take3 .ensures .0))
+    (t .take3 .ensures .1, λ e. omega (arith, t .before .before .take .ensures .3 (k .if1 .taken), t .before .take2 .ensures .0, t .take3 .ensures .0))
 
 no-record-requires : tie.Need-no-record-requires
 no-record-requires c κs = search needs

@@ -11,11 +11,11 @@ use Rattle.listings.proofs.run.Statement.{statement}
 use Rattle.listings.proofs.run.Tie as tie
 
 abbrev Inv-loop : tie.InvT-loop
-Inv-loop shelf marks₀ line₀ out₀ input₀ device₀ waiting₀ used₀ at₀ end₀ over₀ turns₀ marks line out input device waiting used at end over turns =
+Inv-loop shelf marks₀ area₀ line₀ out₀ input₀ device₀ waiting₀ used₀ at₀ end₀ over₀ turns₀ marks area line out input device waiting used at end over turns =
     (length marks ≡ length marks₀) × (length line ≡ length line₀) × (length input ≡ length input₀) × (used ≤ length line) × (end ≤ length input)
 
 abbrev μ-loop : tie.MeasureT-loop
-μ-loop shelf marks₀ line₀ out₀ input₀ device₀ waiting₀ used₀ at₀ end₀ over₀ turns₀ marks line out input device waiting used at end over turns = turns
+μ-loop shelf marks₀ area₀ line₀ out₀ input₀ device₀ waiting₀ used₀ at₀ end₀ over₀ turns₀ marks area line out input device waiting used at end over turns = turns
 
 none-requires : tie.Need-none-requires Inv-loop μ-loop
 none-requires c κs = search needs
@@ -68,14 +68,14 @@ slice-aggregate-take-in c = sym (length-take-le _ _ (let r = c .before .before .
 take-in-requires : tie.Need-take-in-requires Inv-loop μ-loop
 take-in-requires c κs = let l = c .before .before .before .before .before .before .before .before .before .before .before .loop in omega (arith, l .inv .3)
 
-slice-reshare-prefix-shelf-line : tie.Need-slice-reshare-prefix-shelf-line Inv-loop μ-loop
-slice-reshare-prefix-shelf-line c = search needs
+slice-reshare-prefix-burst-line : tie.Need-slice-reshare-prefix-burst-line Inv-loop μ-loop
+slice-reshare-prefix-burst-line c = search needs
 
-slice-aggregate-shelf-line : tie.Need-slice-aggregate-shelf-line Inv-loop μ-loop
-slice-aggregate-shelf-line c = sym (length-take-le _ _ (let t = c .before .before .before .before .take-in in omega (arith, t .ensures, t .kept .0)))
+slice-aggregate-burst-line : tie.Need-slice-aggregate-burst-line Inv-loop μ-loop
+slice-aggregate-burst-line c = sym (length-take-le _ _ (let t = c .before .before .before .before .take-in in omega (arith, t .ensures, t .kept .0)))
 
-shelf-line-requires : tie.Need-shelf-line-requires Inv-loop μ-loop
-shelf-line-requires c κs = search needs
+burst-line-requires : tie.Need-burst-line-requires Inv-loop μ-loop
+burst-line-requires c κs = search needs
 
 slice-reshare-prefix-answer : tie.Need-slice-reshare-prefix-answer Inv-loop μ-loop
 slice-reshare-prefix-answer c = search needs
@@ -92,11 +92,43 @@ loop-less c = search needs
 loop-again : tie.Need-loop-again Inv-loop μ-loop
 loop-again c = search needs
 
+slice-reshare-prefix-part-line : tie.Need-slice-reshare-prefix-part-line Inv-loop μ-loop
+slice-reshare-prefix-part-line c = search needs
+
+slice-aggregate-part-line : tie.Need-slice-aggregate-part-line Inv-loop μ-loop
+slice-aggregate-part-line c = sym (length-take-le _ _ (let t = c .before .before .before .before .before .before .before .take-in in omega (arith, t .ensures, t .kept .0)))
+
+part-line-requires : tie.Need-part-line-requires Inv-loop μ-loop
+part-line-requires c κs = search needs
+
+slice-reshare-prefix-play : tie.Need-slice-reshare-prefix-play Inv-loop μ-loop
+slice-reshare-prefix-play c = search needs
+
+slice-aggregate-play : tie.Need-slice-aggregate-play Inv-loop μ-loop
+slice-aggregate-play c = sym (length-take-le _ _ (let t = c .before .before .before .before .before .before .before .before .before .before .before .before .take-in in omega (arith, t .ensures, t .kept .0)))
+
+play-requires : tie.Need-play-requires Inv-loop μ-loop
+play-requires c κs = search needs
+
+loop-less-2 : tie.Need-loop-less-2 Inv-loop μ-loop
+loop-less-2 c = omega (arith, c .before .before .before .before .before .before .before .before .before .before .before .before .before .before .before .before .before .before .before .before .before .before .before .before .before .before .loop-test .taken)
+
+loop-again-2 : tie.Need-loop-again-2 Inv-loop μ-loop
+loop-again-2 c =
+    let inv = c .before .before .before .before .before .before .before .before .before .before .before .before .before .before .before .before .before .before .before .before .before .before .before .before .before .before .before .loop .inv in
+    let r = c .before .before .before .before .before .before .before .before .before .before .before .before .before .before .before .before .before .before .before .before .before .before .refill in (
+      inv .0,
+      omega (arith, c .before .before .before .before .before .before .before .before .before .before .before .before .before .before .before .take-in .kept .0, inv .1),
+      omega (arith, r .kept .0, inv .2),
+      search needs,
+      omega (arith, r .kept .0, r .ensures),
+    )
+
 slice-reshare-prefix-read-line : tie.Need-slice-reshare-prefix-read-line Inv-loop μ-loop
 slice-reshare-prefix-read-line c = search needs
 
 slice-aggregate-read-line : tie.Need-slice-aggregate-read-line Inv-loop μ-loop
-slice-aggregate-read-line c = sym (length-take-le _ _ (let t = c .before .before .before .before .before .before .before .take-in in omega (arith, t .ensures, t .kept .0)))
+slice-aggregate-read-line c = sym (length-take-le _ _ (let t = c .before .before .before .before .before .before .before .before .before .before .take-in in omega (arith, t .ensures, t .kept .0)))
 
 read-line-requires : tie.Need-read-line-requires Inv-loop μ-loop
 read-line-requires c κs = search needs
@@ -107,15 +139,15 @@ changes-requires c κs = search needs
 change-requires : tie.Need-change-requires Inv-loop μ-loop
 change-requires c κs = read-bounded _ _ (c .before .before .before .before .read-line .ensures)
 
-loop-less-2 : tie.Need-loop-less-2 Inv-loop μ-loop
-loop-less-2 c = omega (arith, c .before .before .before .before .before .before .before .before .before .before .before .before .before .before .before .before .before .before .before .before .before .before .before .before .before .before .before .loop-test .taken)
+loop-less-3 : tie.Need-loop-less-3 Inv-loop μ-loop
+loop-less-3 c = omega (arith, c .before .before .before .before .before .before .before .before .before .before .before .before .before .before .before .before .before .before .before .before .before .before .before .before .before .before .before .before .before .before .loop-test .taken)
 
-loop-again-2 : tie.Need-loop-again-2 Inv-loop μ-loop
-loop-again-2 c =
-    let inv = c .before .before .before .before .before .before .before .before .before .before .before .before .before .before .before .before .before .before .before .before .before .before .before .before .before .before .before .before .loop .inv in
-    let r = c .before .before .before .before .before .before .before .before .before .before .before .before .before .before .before .before .before .before .before .before .before .before .before .refill in (
+loop-again-3 : tie.Need-loop-again-3 Inv-loop μ-loop
+loop-again-3 c =
+    let inv = c .before .before .before .before .before .before .before .before .before .before .before .before .before .before .before .before .before .before .before .before .before .before .before .before .before .before .before .before .before .before .before .loop .inv in
+    let r = c .before .before .before .before .before .before .before .before .before .before .before .before .before .before .before .before .before .before .before .before .before .before .before .before .before .before .refill in (
       omega (arith, c .before .before .before .change .kept .1, inv .0),
-      omega (arith, c .before .before .before .before .before .before .before .before .before .before .before .before .before .before .before .before .take-in .kept .0, inv .1),
+      omega (arith, c .before .before .before .before .before .before .before .before .before .before .before .before .before .before .before .before .before .before .before .take-in .kept .0, inv .1),
       omega (arith, r .kept .0, inv .2),
       search needs,
       omega (arith, r .kept .0, r .ensures),
@@ -124,25 +156,25 @@ loop-again-2 c =
 answer-requires-2 : tie.Need-answer-requires-2 Inv-loop μ-loop
 answer-requires-2 c κs = read-bounded _ _ (c .before .before .before .before .read-line .ensures)
 
-loop-less-3 : tie.Need-loop-less-3 Inv-loop μ-loop
-loop-less-3 c = omega (arith, c .before .before .before .before .before .before .before .before .before .before .before .before .before .before .before .before .before .before .before .before .before .before .before .before .before .before .loop-test .taken)
+loop-less-4 : tie.Need-loop-less-4 Inv-loop μ-loop
+loop-less-4 c = omega (arith, c .before .before .before .before .before .before .before .before .before .before .before .before .before .before .before .before .before .before .before .before .before .before .before .before .before .before .before .before .before .loop-test .taken)
 
-loop-again-3 : tie.Need-loop-again-3 Inv-loop μ-loop
-loop-again-3 c =
-    let inv = c .before .before .before .before .before .before .before .before .before .before .before .before .before .before .before .before .before .before .before .before .before .before .before .before .before .before .before .loop .inv in
-    let r = c .before .before .before .before .before .before .before .before .before .before .before .before .before .before .before .before .before .before .before .before .before .before .refill in (
+loop-again-4 : tie.Need-loop-again-4 Inv-loop μ-loop
+loop-again-4 c =
+    let inv = c .before .before .before .before .before .before .before .before .before .before .before .before .before .before .before .before .before .before .before .before .before .before .before .before .before .before .before .before .before .before .loop .inv in
+    let r = c .before .before .before .before .before .before .before .before .before .before .before .before .before .before .before .before .before .before .before .before .before .before .before .before .before .refill in (
       omega (arith, c .before .before .answer2 .kept .1, inv .0),
-      omega (arith, c .before .before .before .before .before .before .before .before .before .before .before .before .before .before .before .take-in .kept .0, inv .1),
+      omega (arith, c .before .before .before .before .before .before .before .before .before .before .before .before .before .before .before .before .before .before .take-in .kept .0, inv .1),
       omega (arith, r .kept .0, inv .2),
       search needs,
       omega (arith, r .kept .0, r .ensures),
     )
 
-loop-less-4 : tie.Need-loop-less-4 Inv-loop μ-loop
-loop-less-4 c = search needs
+loop-less-5 : tie.Need-loop-less-5 Inv-loop μ-loop
+loop-less-5 c = search needs
 
-loop-again-4 : tie.Need-loop-again-4 Inv-loop μ-loop
-loop-again-4 c = search needs
+loop-again-5 : tie.Need-loop-again-5 Inv-loop μ-loop
+loop-again-5 c = search needs
 
 same-length-7 : tie.Need-same-length-7 Inv-loop μ-loop
 same-length-7 c = search needs
@@ -179,26 +211,34 @@ run-spec =
     slice-reshare-prefix-take-in
     slice-aggregate-take-in
     take-in-requires
-    slice-reshare-prefix-shelf-line
-    slice-aggregate-shelf-line
-    shelf-line-requires
+    slice-reshare-prefix-burst-line
+    slice-aggregate-burst-line
+    burst-line-requires
     slice-reshare-prefix-answer
     slice-aggregate-answer
     answer-requires
     loop-less
     loop-again
+    slice-reshare-prefix-part-line
+    slice-aggregate-part-line
+    part-line-requires
+    slice-reshare-prefix-play
+    slice-aggregate-play
+    play-requires
+    loop-less-2
+    loop-again-2
     slice-reshare-prefix-read-line
     slice-aggregate-read-line
     read-line-requires
     changes-requires
     change-requires
-    loop-less-2
-    loop-again-2
-    answer-requires-2
     loop-less-3
     loop-again-3
+    answer-requires-2
     loop-less-4
     loop-again-4
+    loop-less-5
+    loop-again-5
     same-length-7
     same-length-8
     same-length-9

@@ -1,4 +1,4 @@
--- `migration_send::resume` is right: it refuses in the order of its table, and changes the flag alone. Assumes nothing.
+-- `migration_send::resume` is right: it refuses in the order of its table, changes the flag, and drops a sequence of its own. Assumes nothing.
 use mathlib.Core.Path.{_≡_, sym, _∙_}
 use Prim.Native.Nat.{_<_}
 use native.Mathlib.Omega.{arith}
@@ -59,8 +59,11 @@ mul-e c = omega (arith, below (c .before .before .before))
 way-write-given-e : tie.Need-way-write-given-e
 way-write-given-e c = omega (arith, below (c .before .before .before))
 
+without-requires : tie.Need-without-requires
+without-requires c κs = search needs
+
 returns-3 : tie.Need-returns-3
-returns-3 c = sym (resume-done _ _ _ _ (found (c .before .before .before .before)) (not-false _ (c .before .if1 .left)))
+returns-3 c = sym (resume-done _ _ _ _ (found (c .before .before .before .before .before .before .before)) (not-false _ (c .before .before .before .before .if1 .left)) _ (c .without .ensures))
 
 pub resume-spec : {M : Type 1} → statement M
 resume-spec =
@@ -76,4 +79,5 @@ resume-spec =
     returns-2
     mul-e
     way-write-given-e
+    without-requires
     returns-3)

@@ -11,6 +11,9 @@ lent-at-requires c κs = search needs
 lent-at-requires-2 : tie.Need-lent-at-requires-2
 lent-at-requires-2 c κs = search needs
 
+lent-at-requires-3 : tie.Need-lent-at-requires-3
+lent-at-requires-3 c κs = search needs
+
 slice-relend-prefix-lend : tie.Need-slice-relend-prefix-lend
 slice-relend-prefix-lend c = search needs
 
@@ -23,6 +26,12 @@ slice-relend-prefix-lend-2 c = search needs
 slice-aggregate-lend-2 : tie.Need-slice-aggregate-lend-2
 slice-aggregate-lend-2 c = sym (length-take-le _ _ (search needs))
 
+slice-relend-prefix-lend-3 : tie.Need-slice-relend-prefix-lend-3
+slice-relend-prefix-lend-3 c = search needs
+
+slice-aggregate-lend-3 : tie.Need-slice-aggregate-lend-3
+slice-aggregate-lend-3 c = sym (length-take-le _ _ (search needs))
+
 lend-requires : tie.Need-lend-requires
 lend-requires c κs = search needs
 
@@ -31,6 +40,9 @@ same-length c = search needs
 
 same-length-2 : tie.Need-same-length-2
 same-length-2 c = search needs
+
+same-length-3 : tie.Need-same-length-3
+same-length-3 c = search needs
 
 returns : tie.Need-returns
 returns c = search needs
@@ -41,11 +53,15 @@ play-in-spec =
     (tie.spec
     lent-at-requires
     lent-at-requires-2
+    lent-at-requires-3
     slice-relend-prefix-lend
     slice-aggregate-lend
     slice-relend-prefix-lend-2
     slice-aggregate-lend-2
+    slice-relend-prefix-lend-3
+    slice-aggregate-lend-3
     lend-requires
     same-length
     same-length-2
+    same-length-3
     returns)

@@ -57,13 +57,13 @@ cast-list-refusal c = search needs
 
 list-refusal-requires : tie.Need-list-refusal-requires
 list-refusal-requires c κs =
-    omega (arith, granularityOk-greatest _ _ (allowed (c .before .before .before)), soundDevice-facts _ (c .before .before .before .before .before .before .before .pre .0) .greatest)
+    omega (arith, granularityOk-greatest _ _ (allowed (c .before .before .before)), soundDevice-facts (c .before .before .before .before .before .before .before .args .d) (c .before .before .before .before .before .before .before .pre .0) .greatest)
 
 returns-4 : tie.Need-returns-4
 returns-4 c = listed-rules _ _ _ _ _ (c .before .before .before .before .before .before .before .before .before .before .pre .1) (allowed (c .before .before .before .before .before .before)) (c .before .before .before .before .before .if2 .left) (c .before .before .before .before .if3 .left) _ (c .before .before .list-refusal .ensures ∙ rw (read (c .before .before .before))) (c .if4 .taken)
 
 weights-requires : tie.Need-weights-requires
-weights-requires c κs = soundDevice-facts _ (c .before .before .before .before .before .before .before .before .before .before .pre .0) .settings
+weights-requires c κs = soundDevice-facts (c .before .before .before .before .before .before .before .before .before .before .args .d) (c .before .before .before .before .before .before .before .before .before .before .pre .0) .settings
 
 add-if5 : tie.Need-add-if5
 add-if5 c =
