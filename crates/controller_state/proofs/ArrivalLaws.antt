@@ -1,19 +1,19 @@
 -- Laws of a part of a state: its tests, one by one and together, and what the call answers, case by case of its table. Assumes nothing.
-use mathlib.Core.Path.{_≡_, refl, sym, ap, ap₂, _∙_}
+use mathlib.Core.Path.{_≡_, refl, sym, ap, _∙_}
 use mathlib.Core.Logic.{_≢_}
 use mathlib.Core.Bool.{Bool, true, false, _&&_, _||_, not, cond, and-true, and-false, true≢false}
 use mathlib.Core.List.{List, [], _∷_, _++_}
 use mathlib.Core.Option.{Option, none, some}
-use Prim.Native.Nat.{ℕ, zero, suc, _+_, _-_, _*_, _%_, _^_, _≤_, _<_}
+use Prim.Native.Nat.{ℕ, _+_, _-_, _*_, _%_, _^_, _≤_, _<_}
 use native.Mathlib.Omega.{arith}
 use lib.Dec.{leb, ltb, eqb}
 use lib.ListN.{length, take, getD}
 use borrow.Author.Tests.{le-leb, lt-leb, leb-true, lt-ltb, eq-eqb, ne-eqb, eqb-true}
 use Rattle.little.specs.Little.{put}
-use Rattle.rules.specs.Refusals.{Test, verdict, refusal}
+use Rattle.rules.specs.Refusals.{verdict, refusal}
 use Rattle.rules.specs.Settings.{placeOf}
 use Rattle.rules.specs.ControllerState.{stateMost, stateOk}
-use Rattle.rules.specs.Order.{Part, Arriving, offsetOf, firstBy, lastBy, isFirst, isLast, isOffset, areCounted, dataOk, followsOn, follows, soFar, joinedWith, joinedOk, partTests, partOrder}
+use Rattle.rules.specs.Order.{Part, Arriving, offsetOf, firstBy, lastBy, isFirst, isLast, isOffset, areCounted, dataOk, followsOn, follows, soFar, joinedWith, partTests}
 use Rattle.rules.specs.declared.Sequence.{Sequence}
 use Rattle.rules.specs.declared.Sequence.the-variants.{Nothing, Open}
 use Rattle.rules.specs.declared.Device.{Device}

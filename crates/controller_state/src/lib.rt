@@ -38,7 +38,7 @@ fn is_last(indicator: u8) -> bool
     indicator == 3
 }
 
-// Whether an offset, in two words, is whole dwords and within the area. 2^32 is whole dwords itself.
+// Whether an offset, in two words, is whole dwords and within the area. With its higher word set it is past any area.
 fn offset_ok(low: u32, high: u32) -> bool
     ensures { λ r. ⌜ r ≡ isOffset (low + 2 ^ 32 * high) ⌝ }
 {

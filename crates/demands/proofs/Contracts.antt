@@ -86,4 +86,4 @@ reader =
     }
 
 pub contracts : Contracts
-contracts = record { asks = asks; calls = calls; batch = batch; room = room; structures = structures; reader = reader; line = λ κs a r e p. p }
+contracts = record { asks = asks; calls = calls; batch = batch; room = room; wide = refl; structures = structures; reader = reader; line = λ κs a r e p. p }

@@ -500,6 +500,7 @@ demand-2 =
       rules = λ s a m ks sized. equals s m ks sized a ks (record { answers = refl; bytes = refl; units = refl });
       steps = is-step;
       fresh = fresh-is;
+      none-under-way = λ s. (refl, refl);
       bits = bit-at;
       place = is-place;
       settings = settings-kept;

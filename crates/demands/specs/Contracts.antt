@@ -11,10 +11,12 @@ use prog.Routine.{Routine}
 use prog.Wp.{Heap}
 use ghost.Atoms.{Atoms}
 use contract.Monad.{Fun, fact}
+use borrow.Fn.Kinds.{pNum}
+use mir.Syntax.{w8, w16, w32}
 use denote.Laws.{Is}
 use denote.Struct.Laws as machine
 use denote.Ref.{now}
-use lib.ListN.{length, take}
+use lib.ListN.{length, take, drop}
 use Rattle.rules.specs.Refusals.{refusal}
 use Rattle.rules.specs.StartData.{headerOf, startData, writeTests, startWritten}
 use Rattle.rules.specs.Order.{Part}
@@ -37,6 +39,7 @@ use Rattle.track_receive.proofs.receive.Reads as receive
 use Rattle.migration_send.proofs.suspend.Reads as suspend
 use Rattle.migration_send.proofs.resume.Reads as resume
 use Rattle.controller_state.proofs.set_state.Reads as set-state
+use Rattle.controller_state.proofs.set_state.Kinds as set-state-kinds
 use Rattle.start_data.proofs.read_header.Reads as read-header
 use Rattle.start_data.proofs.read_start.Reads as read-start
 use Rattle.start_data.proofs.write_start.Reads as write-start
@@ -129,6 +132,11 @@ pub record BatchIs : Type 2 where
 abbrev pub HasRoom : Type 0
 HasRoom = (r : WriteRecord) → r .id < 2 ^ 16 → r .address < 2 ^ 64 → r .bytes .0 < 2 ^ 64 → Is record-type.the-row r (machine.val record-type.the-type record-laws.the-laws r ∷ [])
 
+-- W6: the numbers of a part have the bits that the documents say: identifier 16, indicator 8, offset 32 and 32, count 32. Without this a promise about a narrower
+-- number would do
+abbrev pub PartIsWide : Type 3
+PartIsWide = take 5 (drop 3 set-state-kinds.ps) ≡ pNum w16 ∷ pNum w8 ∷ pNum w32 ∷ pNum w32 ∷ pNum w32 ∷ []
+
 -- the start structure's readers and its writer
 pub record StructuresAre : Type 1 where
   pub read-header : (κs : _) (a : _) (r : _) (e : _) → read-header.Post κs a r e → r ≡ headerOf (now (a .0))
@@ -153,11 +161,12 @@ pub record ReaderIs : Type 1 where
   pub run-address : (κs : _) (a : _) (r : _) (e : _) → run-address.Post κs a r e → r ≡ reportRunAddress (now (a .0)) (a .1 .0)
   pub run-length : (κs : _) (a : _) (r : _) (e : _) → run-length.Post κs a r e → r ≡ reportRunLength (now (a .0)) (a .1 .0)
 
-pub record Contracts : Type 2 where
+pub record Contracts : Type 3 where
   pub asks : AsksNothing
   pub calls : CallsAre
   pub batch : BatchIs
   pub room : HasRoom
+  pub wide : PartIsWide
   pub structures : StructuresAre
   pub reader : ReaderIs
   -- a line of the session listing

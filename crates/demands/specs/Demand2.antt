@@ -7,17 +7,16 @@ use mathlib.Core.Bool.{Bool, true, false, _||_}
 use mathlib.Core.List.{List, [], _++_, map}
 use mathlib.Core.Option.{none, some}
 use lib.Dec.{eqb}
-use lib.ListN.{length, take, drop, getD, getElem?, replicate}
+use lib.ListN.{length, take, drop, getD, getElem?, set, replicate}
 use Rattle.bits.specs.Flat.{flat}
-use Rattle.rules.specs.ControllerState.{stateMost}
 use Rattle.rules.specs.Refusals.{passes}
-use Rattle.rules.specs.Settings.{shareSize, shareAt, markWords, placeOf}
+use Rattle.rules.specs.Settings.{shareSize, shareAt, placeOf}
 use Rattle.rules.specs.Units.{Unit, Write, units, touches, newly}
 use Rattle.rules.specs.StartData.{granularityOf, countOf, rangesOf, headerTests, placed}
 use Rattle.rules.specs.Report.{room, reportOn, marksLeft, reportBytes}
 use Rattle.rules.specs.ReportReader.{reportSize}
 use Rattle.rules.specs.Order.{Op, start, stop, write, Part, startListed}
-use Rattle.rules.specs.Device.{freshDevice}
+use Rattle.rules.specs.Device.{freshDevice, closedDevice}
 use Rattle.rules.specs.Machine.{refused, pendingIn, countsIn, slotOf, Call, step, lent, stored}
 use Rattle.rules.specs.History.{Did, PendingBy, pendingBy, tracksBy, suspendedBy, slotBy}
 use Rattle.rules.specs.Demands.{sessionEnd, sessionHistory, lentBytes, UnitsListed, Runs, Reports, Room, ReadBack, Touches, Writes}
@@ -26,8 +25,9 @@ use Rattle.rules.specs.declared.Tracking.{Tracking}
 use Rattle.rules.specs.declared.Tracking.the-variants.{Off, On}
 use Rattle.rules.specs.declared.Sequence.the-variants.{Nothing, Open}
 use Rattle.rules.specs.declared.Settings.{Settings}
+use Rattle.rules.specs.declared.Controller.{Controller}
 use Rattle.rules.specs.declared.Device.{Device}
-use Rattle.record.specs.Record.{controllerAt, withController, withSequence}
+use Rattle.record.specs.Record.{controllerAt}
 use Rattle.calls.specs.Calls.{Receipt, freshChange, startChange, stopChange, suspendChange, resumeChange, writeNote, receiveReceipt, partChange}
 use Rattle.demands.specs.View.{view}
 use Rattle.demands.specs.Sessions.{Left, Given, Sized, outcome, endOf, historyIn, bytesIn}
@@ -52,8 +52,8 @@ pub record Shaped (l : Left) : Type 0 where
   pub controllers : length (l .device .controllers) ≡ 8
   pub identifiers : length (l .device .settings .identifiers) ≡ 8
   pub listed : (i g n : ℕ) → controllerAt (l .device) (some i) .tracking ≡ On g n → n ≤ length (controllerAt (l .device) (some i) .ranges)
-  pub words : length (l .marks) ≡ markWords
-  pub bytes : length (l .area) ≡ stateMost
+  pub words : length (l .marks) ≡ 512
+  pub bytes : length (l .area) ≡ 4096
 
 -- a call is a step of the rules, on the device that is seen in record and marks
 pub record Steps (l : Left) (k : Call) : Type 0 where
@@ -89,22 +89,26 @@ toldOf h us = map (pendingBy h) us
 
 -- ---- an accepted call
 
--- the record with the flag of the controller at place i set or clear, and all else as it was
+-- a record in which the controller at place i is another, and all else as it was
+abbrev pub replacedAt : Device → ℕ → Controller → Device
+replacedAt d i c = record { settings = d .settings; controllers = set (d .controllers) i c; sequence = d .sequence }
+
+-- one in which its flag is set or clear
 abbrev pub flaggedAt : Device → ℕ → Bool → Device
 flaggedAt d i b =
     let was = controllerAt d (some i) in
-    withController d i (record { tracking = was .tracking; suspended = b; ranges = was .ranges })
+    replacedAt d i (record { tracking = was .tracking; suspended = b; ranges = was .ranges })
 
 -- a resume of controller a at place i makes its flag clear; W6: "its resume drops its unfinished sequence", and no other's
 pub record Resumed (d : Device) (a i : ℕ) (d′ : Device) : Type 0 where
-  pub flag : d′ ≡ withSequence (flaggedAt d i false) (d′ .sequence)
+  pub flag : d′ ≡ record { settings = d .settings; controllers = flaggedAt d i false .controllers; sequence = d′ .sequence }
   pub drops : (end : ℕ) → d .sequence ≡ Open a end → d′ .sequence ≡ Nothing
   pub keeps : ((end : ℕ) → d .sequence ≢ Open a end) → d′ .sequence ≡ d .sequence
 
 -- a start or a stop of the controller at place i, on d and ws, leaves d′ and ws′: its record is replaced, its share is clear, and all else is as it was
 pub record Replaced (d : Device) (ws : List ℕ) (i : ℕ) (tracking : Tracking) (suspended : Bool) (ranges : List Range) (d′ : Device) (ws′ : List ℕ) : Type 0 where
   -- zeros stand in the places that are not in use
-  pub record-is : d′ ≡ withController d i (record { tracking = tracking; suspended = suspended; ranges = placed ranges })
+  pub record-is : d′ ≡ replacedAt d i (record { tracking = tracking; suspended = suspended; ranges = placed ranges })
   pub clear : (m : ℕ) → m < shareSize → bitOf ws′ i m ≡ false
   pub elsewhere : Elsewhere i shareSize ws ws′
 
@@ -205,10 +209,11 @@ pub record Demand2 : Type 1 where
   pub rules : (s : Settings) (a : ℕ) (m : Given) (ks : List Call) → Sized s m → Equals s a m ks ks
   -- and so does each call on a record that no session made
   pub steps : (l : Left) → Shaped l → (k : Call) → Steps l k
-  -- a fresh device: nobody is tracked or suspended, and all marks are 0
+  -- a fresh device: nobody is tracked or suspended, no state is under way, and all marks are 0
   pub fresh : (s : Settings) (ws : List ℕ)
       → let c = freshChange s ws in
-      c .answer .number ≡ 0 → (c .answer .device ≡ freshDevice s) × (c .marks ≡ replicate markWords 0)
+      c .answer .number ≡ 0 → (c .answer .device ≡ freshDevice s) × (c .marks ≡ replicate 512 0)
+  pub none-under-way : (s : Settings) → (freshDevice s .sequence ≡ Nothing) × (closedDevice .sequence ≡ Nothing)
   -- "The controllers in the settings have 64 words each, in their order there, one bit a unit, lowest bit first"
   pub bits : (ws : List ℕ) (i m : ℕ) → bitOf ws i m ≡ eqb (getD ws (64 * i + m / 64) 0 / 2 ^ (m % 64) % 2) 1
   -- an identifier stands where the settings list it

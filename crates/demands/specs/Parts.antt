@@ -9,8 +9,9 @@ use lib.ListN.{length, take, drop}
 use Rattle.little.specs.Little.{numberAt}
 use Rattle.rules.specs.Order.{Part, part}
 use Rattle.rules.specs.History.{Did, suspendedBy, openBy, joinsAfter, joinedBy}
+use Rattle.rules.specs.declared.Sequence.{Sequence}
 use Rattle.rules.specs.declared.Sequence.the-variants.{Nothing, Open}
-use Rattle.record.specs.Record.{withSequence}
+use Rattle.rules.specs.declared.Device.{Device}
 use Rattle.calls.specs.Calls.{partChange}
 use Rattle.demands.specs.Sessions.{Left}
 
@@ -54,6 +55,10 @@ pub record Fitting (h : List Did) (p : Part) : Type 0 where
   pub within : length (wholeBy h p) ≤ 4096
   pub finished : IsFinal p → IsState (wholeBy h p)
 
+-- a record with another sequence, and all else as it was
+abbrev pub arriving : Device → Sequence → Device
+arriving d q = record { settings = d .settings; controllers = d .controllers; sequence = q }
+
 -- of a controller a, after a session that left l and in which its calls and answers were h
 pub record Arrives (l : Left) (h : List Did) (a : ℕ) : Type 0 where
   -- the record says that a sequence of its own is open exactly if its calls and answers do, and where it ends; the area has its bytes so far
@@ -70,10 +75,10 @@ pub record Arrives (l : Left) (h : List Did) (a : ℕ) : Type 0 where
   -- one that is not the last yields nothing, and its sequence is open up to its end
   pub goes-on : (p : Part)
       → let r = partChange (l .device) (length (l .marks)) (l .area) a p in
-      r .answer .number ≡ 0 → IsMore p → r .answer ≡ record { number = 0; whole = 0; device = withSequence (l .device) (Open a (length (wholeBy h p))) }
+      r .answer .number ≡ 0 → IsMore p → r .answer ≡ record { number = 0; whole = 0; device = arriving (l .device) (Open a (length (wholeBy h p))) }
   -- a last or only one "yields the assembled bytes": the data of its controller's accepted parts since and with the last first or only one; no sequence is open then
   pub yields : (p : Part)
       → let r = partChange (l .device) (length (l .marks)) (l .area) a p in
       r .answer .number ≡ 0 → IsFinal p
-      → (r .answer ≡ record { number = 0; whole = length (wholeBy h p); device = withSequence (l .device) Nothing })
+      → (r .answer ≡ record { number = 0; whole = length (wholeBy h p); device = arriving (l .device) Nothing })
       × (take (length (wholeBy h p)) (r .area) ≡ wholeBy h p)

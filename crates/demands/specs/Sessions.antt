@@ -5,7 +5,6 @@ use mathlib.Core.Bool.{cond}
 use mathlib.Core.List.{List, [], _∷_, _++_}
 use lib.Dec.{eqb}
 use lib.ListN.{length}
-use Rattle.rules.specs.ControllerState.{stateMost}
 use Rattle.rules.specs.Order.{write}
 use Rattle.rules.specs.Machine.{Call, Event}
 use Rattle.rules.specs.History.{Did, historyOf, isAccepted}
@@ -29,7 +28,7 @@ pub record Given : Type 0 where
 -- of the sizes that are meant: the eight places of the settings' type, and a state's bytes. (With an area of another size a part answers 1.)
 pub record Sized (s : Settings) (m : Given) : Type 0 where
   pub places : length (s .identifiers) ≡ 8
-  pub area : length (m .area) ≡ stateMost
+  pub area : length (m .area) ≡ 4096
 
 -- what fresh leaves
 abbrev pub begun : Settings → Given → Left

@@ -195,7 +195,7 @@ fn put_bad(d: Device, out: &mut Buffer, waiting: Waiting) -> Played {
 }
 
 // Plays a line that begins with this word, and puts its answer. Its data have at most 4,100 bytes, a dword more than the area; so a line that is too long, or was cut
-// for that, is bad by its data.
+// for that, is bad by its data or by a number.
 pub fn play(
     d: Device,
     marks: &[u64],

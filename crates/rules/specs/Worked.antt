@@ -140,6 +140,11 @@ cases =
     ∷ case
     (suspends 5 ∷ suspends 6 ∷ sends 5 1 0 4 (zeros 16) ∷ sends 6 1 2 1 (zeros 4) ∷ resumes 6 ∷ sends 5 0 16 1 (zeros 4) ∷ resumes 5 ∷ suspends 5 ∷ sends 5 0 20 1 (zeros 4) ∷ [])
     (done ∷ done ∷ done ∷ refused 23 0 ∷ done ∷ done ∷ done ∷ done ∷ refused 26 0 ∷ [])
+    -- 2 for one that the settings lack; 13 before 23; 26 before 27
+    ∷ case (sends 9 3 0 12 (zeros 48) ∷ suspends 5 ∷ sends 5 1 0 4 (zeros 16) ∷ sends 6 1 0 1 (zeros 4) ∷ sends 5 1 4 1024 (zeros 4096) ∷ [])
+    (refused 2 0 ∷ done ∷ done ∷ refused 13 0 ∷ refused 26 0 ∷ [])
+    -- a suspend of its owner leaves it, of either type
+    ∷ case (suspends 5 ∷ sends 5 1 0 4 (zeros 16) ∷ suspends 5 ∷ record { id = 5; op = suspend 0 } ∷ sends 5 0 16 1 (zeros 4) ∷ []) (done ∷ done ∷ done ∷ done ∷ done ∷ [])
     -- a refused only part leaves what is open; an accepted one begins anew and ends it
     ∷ case
     (suspends 5 ∷ sends 5 1 0 5 (zeros 20) ∷ sends 5 3 0 12 (with 48 1 1) ∷ sends 5 2 20 7 (zeros 28) ∷ sends 5 1 0 1 (replicate 4 238) ∷ sends 5 3 0 12 (zeros 48) ∷ sends 5 2 48 0 [] ∷ [])

@@ -50,7 +50,3 @@ module _ (x : List ℕ) where
 
   pub vendorSize-halves : vendorSize x ≡ numberAt x 32 8 + 2 ^ 64 * numberAt x 40 8
   vendorSize-halves = numberAt-add x 32 8 8
-
-  -- behind the header of a state that the area holds there are at most 1,012 dwords
-  pub stateOk-most : stateOk x ≡ true → length x ≤ 4096 → nvmeSize x + vendorSize x ≤ 1012
-  stateOk-most e h = let size : length x ≡ stateSize x = stateOk-true e .size in omega arith

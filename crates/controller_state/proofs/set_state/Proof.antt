@@ -95,7 +95,7 @@ add-accepted : tie.Need-add-accepted
 add-accepted c = omega (arith, fits (c .before .before .before .before))
 
 accepted-requires : tie.Need-accepted-requires
-accepted-requires c κs = fits (c .before .before .before .before)
+accepted-requires c κs = omega (arith, fits (c .before .before .before .before))
 
 same-length-2 : tie.Need-same-length-2
 same-length-2 c = search needs
