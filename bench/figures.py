@@ -1,6 +1,6 @@
 """From times to ratios. Every figure is a difference of times, so that what both listings do (starting, reading lines, answering) falls out."""
 
-from sessions import BATCHES
+from sessions import BATCHES, idle, no_device
 
 PROVED, PLAIN, TESTED = "proved", "plain C", "C with the test"
 SHELF = "proved, in batches"
@@ -17,29 +17,33 @@ class Costs:
 
     def on(self, record, body):
         """A body on a record, less the same lines with no device: what its calls cost in all."""
-        return self.time(record, body) - self.time("none", body)
+        return self.time(record, body) - self.time(no_device(record), body)
 
-    def line(self):
+    def line(self, record):
         """A line that is read and answered with one number, and leads to no call."""
-        return (self.time("none", "writes") - self.time("nothing", "nothing")) / self.calls["writes"]
+        return (self.time(no_device(record), "writes") - self.time("nothing", "nothing")) / self.calls[record, "writes"]
 
-    def done(self):
+    def done(self, record):
         """What the longer answer of a done write costs more than that of a refused one: both on a device that tracks nothing."""
-        return (self.time("idle", "writes") - self.time("idle", "refused writes")) / self.calls["writes"]
+        return (self.time(idle(record), "writes") - self.time(idle(record), "refused writes")) / self.calls[record, "writes"]
 
     def test(self, record):
         """The soundness test: a write that is then refused with 2 does nothing else, but for the search for its identifier."""
-        return (self.time(record, "refused writes") - self.time("none", "writes")) / self.calls["writes"]
+        return (self.time(record, "refused writes") - self.time(no_device(record), "writes")) / self.calls[record, "writes"]
 
     def write(self, record, body="writes"):
-        return self.on(record, body) / self.calls[body] - self.done()
+        return self.on(record, body) / self.calls[record, body] - self.done(record)
 
     def note(self, record):
         """A note in a batch: the answer of 1,024 of them is one line, so nothing is taken off for it."""
-        return self.on(record, BATCHES) / self.calls[BATCHES]
+        return self.on(record, BATCHES) / self.calls[record, BATCHES]
 
     def report(self, record, session):
-        return (self.on(record, session) - self.on(record, session + ", no reports")) / self.calls[session]
+        return (self.on(record, session) - self.on(record, session + ", no reports")) / self.calls[record, session]
+
+    def restart(self, record):
+        """A stop and a start: their answers are as long as with no device, so nothing is taken off for them."""
+        return self.on(record, "restarts") / self.calls[record, "restarts"]
 
     def session(self, record, session):
         return self.time(record, session) - self.time("nothing", "nothing")
@@ -47,12 +51,13 @@ class Costs:
 
 CALLS = {
     "write, sparse: one unit": lambda costs, record: costs.write(record),
-    "write, dense: 4,096 units": lambda costs, record: costs.write(record, "writes to all units"),
+    "write, dense: all units of the controller": lambda costs, record: costs.write(record, "writes to all units"),
     "report, sparse: 0 to 8 runs": lambda costs, record: costs.report(record, "sparse"),
     "report, dense: 255 runs, mostly their text": lambda costs, record: costs.report(record, "dense"),
 }
 REST = {
-    "a line alone, no call": lambda costs, record: costs.line(),
+    "a stop and a start again": lambda costs, record: costs.restart(record),
+    "a line alone, no call": lambda costs, record: costs.line(record),
     "the whole sparse session": lambda costs, record: costs.session(record, "sparse"),
     "the whole dense session": lambda costs, record: costs.session(record, "dense"),
 }

@@ -1,7 +1,7 @@
-// A plain C program for the session listing of document 01, with overlapping ranges (document 02, W2), to time the proved one beside. It goes over the
-// marks bit by bit, as one would write it first, and trusts its own record. Built with -DSOUND=1 it tests the whole record before each call, as document
-// 01 asks and the proved calls do.
-// The kit has a C library and no headers for it, so the two functions that are wanted are declared here.
+// A plain C program for the session listing of document 01, with overlapping ranges (document 02, W2) and one pool of marks (W7), to time the proved one
+// beside. It goes over the marks bit by bit, as one would write it first, and trusts its own record. Built with -DSOUND=1 it tests the whole record before
+// each call, as document 01 asks and the proved calls do.
+// The kit has a C library and no headers for it, so the functions that are wanted are declared here.
 
 #ifndef SOUND
 #define SOUND 0
@@ -14,14 +14,17 @@ typedef unsigned long u64;
 
 long read(int file, void *bytes, u64 size);
 long write(int file, const void *bytes, u64 size);
+_Noreturn void _exit(int status);
 
-enum { IDS = 8, RANGES = 16, UNITS = 4096, WORDS = IDS * UNITS / 64, NUMBERS = 2 + 2 * RANGES, LINE = 1023, REPORT = 4096, ROOM = 65536 };
+enum { IDS = 8, RANGES = 16, UNITS = 16384, WORDS = UNITS / 64, NUMBERS = 2 + 2 * RANGES, LINE = 1023, REPORT = 4096, ROOM = 65536 };
 enum { PARTS = 2 * RANGES - 1 };  // 16 ranges have at most 32 ends, with 31 stretches between them
 
 // A controller's parts are its ranges without the units that an earlier listed one has, so that each unit is in one part: in the order of the list,
 // then by address. No two parts of one range touch, as units of an earlier one lie between them. Marks and runs go by parts.
+// Its share is as many marks as it has units, from `base` on. Shares stand one behind the other from mark 0, in the order of their starts, and all marks
+// behind them are clear.
 struct range { u64 start; u32 length; };
-struct controller { _Bool tracked, suspended; u8 granularity; u32 count, part_count; struct range ranges[RANGES], parts[PARTS]; };
+struct controller { _Bool tracked, suspended; u8 granularity; u32 base, units, count, part_count; struct range ranges[RANGES], parts[PARTS]; };
 struct device { u16 manager; u8 least, greatest; _Bool powers; u16 limit; u32 count; u16 ids[IDS]; struct controller controllers[IDS]; };
 
 static struct device device;  // with no identifiers until a `dev` is done
@@ -108,11 +111,17 @@ static u32 split(const struct range *ranges, u32 count, u64 unit, struct range *
     return n;
 }
 
-// The first of 7, 18 to 21, 10 and 11 that a granularity and its ranges break, with its row, or 0.
+static u64 units_of(const struct range *parts, u32 count)
+{
+    u64 units = 0;
+    for (u32 i = 0; i < count; i++)
+        units += parts[i].length;
+    return units;
+}
+
+// The first of 7, 18 to 21 and 10 that a granularity and its ranges break, with its row, or 0.
 static u8 list_refusal(const struct device *d, u8 granularity, const struct range *ranges, u32 count, u32 *row)
 {
-    struct range parts[PARTS];
-    u64 units = 0;
     u8 number;
     if (granularity < d->least || granularity > d->greatest)
         return 7;
@@ -122,9 +131,7 @@ static u8 list_refusal(const struct device *d, u8 granularity, const struct rang
     for (u32 i = 0; i < count; i++)
         if (d->powers && (ranges[i].length & (ranges[i].length - 1)))
             return 10;
-    for (u32 n = split(ranges, count, unit_size(granularity), parts); n;)
-        units += parts[--n].length;
-    return units > UNITS ? 11 : 0;
+    return 0;
 }
 
 static u32 counts(const struct device *d)
@@ -135,17 +142,42 @@ static u32 counts(const struct device *d)
     return total;
 }
 
+static u32 tracked_units(const struct device *d)
+{
+    u32 total = 0;
+    for (u32 i = 0; i < d->count; i++)
+        total += d->controllers[i].tracked ? d->controllers[i].units : 0;
+    return total;
+}
+
+// Whether the ranges keep their rules, and the share has as many marks as they have different units and lies within the pool.
+static _Bool controller_ok(const struct device *d, const struct controller *c)
+{
+    struct range parts[PARTS];
+    u32 row;
+    if (list_refusal(d, c->granularity, c->ranges, c->count, &row))
+        return 0;
+    u64 units = units_of(parts, split(c->ranges, c->count, unit_size(c->granularity), parts));
+    return units == c->units && units <= UNITS && c->base <= UNITS - units;
+}
+
+static _Bool shares_apart(const struct controller *a, const struct controller *b)
+{
+    return !a->tracked || !b->tracked || a->base + a->units <= b->base || b->base + b->units <= a->base;
+}
+
 static _Bool sound(const struct device *d)
 {
     if (!settings_ok(d))
         return 0;
     for (u32 i = 0; i < d->count; i++) {
-        const struct controller *c = &d->controllers[i];
-        u32 row;
-        if (c->tracked && list_refusal(d, c->granularity, c->ranges, c->count, &row))
+        if (d->controllers[i].tracked && !controller_ok(d, &d->controllers[i]))
             return 0;
+        for (u32 j = 0; j < i; j++)
+            if (!shares_apart(&d->controllers[i], &d->controllers[j]))
+                return 0;
     }
-    return counts(d) <= d->limit;
+    return counts(d) <= d->limit && tracked_units(d) <= UNITS;
 }
 
 // ---- marks
@@ -158,6 +190,21 @@ static void clear_all(u32 from, u32 count)
 {
     for (u32 k = from; k < from + count; k++)
         clear(k);
+}
+
+// Takes a share out of the pool: the marks behind it move down to its place.
+static void close_gap(u32 base, u32 units)
+{
+    u32 end = tracked_units(&device);
+    for (u32 k = base; k < end - units; k++)
+        if (pending(k + units))
+            set(k);
+        else
+            clear(k);
+    clear_all(end - units, units);
+    for (u32 i = 0; i < device.count; i++)
+        if (device.controllers[i].base > base)
+            device.controllers[i].base -= units;
 }
 
 // ---- calls: each answers its number
@@ -179,12 +226,13 @@ static u8 fresh(const struct device *d)
     if (!settings_ok(d))
         return 16;
     device = *d;
-    clear_all(0, IDS * UNITS);
+    clear_all(0, UNITS);
     return 0;
 }
 
 static u8 start(u16 id, u8 granularity, const struct range *ranges, u32 count, u32 *row)
 {
+    struct range parts[PARTS];
     u32 place;
     u8 number = find(id, &place);
     struct controller *c = &device.controllers[place];
@@ -197,15 +245,22 @@ static u8 start(u16 id, u8 granularity, const struct range *ranges, u32 count, u
     number = list_refusal(&device, granularity, ranges, count, row);
     if (number)
         return number;
+    u32 part_count = split(ranges, count, unit_size(granularity), parts), base = tracked_units(&device);
+    u64 units = units_of(parts, part_count);
+    if (units + base > UNITS)
+        return 11;
     if (count + counts(&device) > device.limit)
         return 12;
     c->tracked = 1;
     c->granularity = granularity;
+    c->base = base;
+    c->units = units;
     c->count = count;
+    c->part_count = part_count;
     for (u32 i = 0; i < count; i++)
         c->ranges[i] = ranges[i];
-    c->part_count = split(ranges, count, unit_size(granularity), c->parts);
-    clear_all(UNITS * place, UNITS);
+    for (u32 i = 0; i < part_count; i++)
+        c->parts[i] = parts[i];
     return 0;
 }
 
@@ -220,8 +275,8 @@ static u8 stop(u16 id)
         return 4;
     if (!c->tracked)
         return 5;
+    close_gap(c->base, c->units);
     *c = (struct controller){0};
-    clear_all(UNITS * place, UNITS);
     return 0;
 }
 
@@ -257,7 +312,7 @@ static u8 note(u16 id, u64 address, u64 bytes, u32 *new)
         return 14;
     if (!c->tracked)
         return 0;
-    u32 base = UNITS * place;
+    u32 base = c->base;
     for (u32 i = 0; i < c->part_count; i++) {
         *new += mark(&c->parts[i], unit_size(c->granularity), base, address, address + (bytes - 1));
         base += c->parts[i].length;
@@ -287,8 +342,9 @@ static void put_descriptor(u8 *at, u64 address, u32 length)
 }
 
 // Lists the first runs, as many as there is room for, and makes them clear. Answers whether a run stays.
-static _Bool list_runs(const struct controller *c, u32 base, u8 *report, u32 room, u32 *runs)
+static _Bool list_runs(const struct controller *c, u8 *report, u32 room, u32 *runs)
 {
+    u32 base = c->base;
     *runs = 0;
     for (u32 i = 0; i < c->part_count; i++) {
         const struct range *r = &c->parts[i];
@@ -320,7 +376,7 @@ static u8 receive(u16 id, u8 *report, u32 size)
         return 5;
     if (size < 32)
         return 8;
-    _Bool more = list_runs(c, UNITS * place, report, (size - 16) / 16, &runs);
+    _Bool more = list_runs(c, report, (size - 16) / 16, &runs);
     put_little(report, 0, 1);
     put_little(report + 1, c->suspended * 2 + more, 1);
     put_little(report + 2, id, 2);
@@ -365,7 +421,7 @@ static void flush(void)
     for (u32 at = 0; at < used;) {
         long n = write(1, out + at, used - at);
         if (n <= 0)
-            break;
+            _exit(1);
         at += n;
     }
     used = 0;

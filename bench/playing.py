@@ -22,7 +22,6 @@ SCALE = 4 if NATIVE else 1  # without an emulator a line takes far less time
 PLAIN_COPIES = {} if NATIVE else {"GLIBC_TUNABLES": "glibc.cpu.x86_rep_movsb_threshold=1000000000:glibc.cpu.x86_rep_stosb_threshold=1000000000"}
 
 
-
 # ---- Building
 
 def built():
@@ -102,5 +101,5 @@ def rounds_of(programs, made, count):
 def costs(rounds, programs, bodies):
     """What calls cost by the best time of each listing: noise only ever adds."""
     best = {key: min(times[key] for times in rounds) for key in rounds[0]}
-    calls = {name: body.calls for name, body in bodies.items()}
+    calls = {key: body.calls for key, body in bodies.items()}
     return {name: Costs(best, name, calls) for name in programs}

@@ -7,7 +7,7 @@ typedef unsigned long u64;
 
 long write(int file, const void *bytes, u64 size);
 
-enum { WORDS = 64, UNITS = 64 * WORDS, ROWS = 9, ROUNDS = 40000 };
+enum { WORDS = 256, UNITS = 64 * WORDS, ROWS = 9, ROUNDS = 10000 };
 
 #if PROVED
 u64 tmc_next_set(const u64 *words, u64 count, u64 from, u64 to);
@@ -35,7 +35,7 @@ static void fill(u64 rows[ROWS][WORDS])
 {
     for (u64 r = 0; r < ROWS; r++)
         for (u64 k = 0; k < r; k++) {
-            u64 unit = r % 2 && k == r - 1 ? UNITS - 1 : UNITS / 8 * k + 61 * r % (UNITS / 8);
+            u64 unit = r % 2 && k == r - 1 ? UNITS - 1 : UNITS / 8 * k + 251 * r % (UNITS / 8);
             rows[r][unit / 64] |= 1ul << unit % 64;
         }
 }

@@ -3,32 +3,53 @@
 import random
 from typing import NamedTuple
 
-UNIT, UNITS, FIRST = 4096, 4096, 1 << 32   # bytes of a unit, units of a controller, address of the first
+UNIT, UNITS, FIRST = 4096, 16384, 1 << 32  # bytes of a unit, units of the pool (W7), address of a controller's first
 ID, UNKNOWN = 5, 4                         # as many digits in both, so that their lines cost the same to read
 RUNS = 255                                 # what a report of 4,096 bytes holds
 BATCH = 1024                               # the most notes of one batch (W4)
 BATCHES = "writes in batches"              # the one body that is a shelf listing
 
 DEV = "dev 1 0 8 0 128"
-NOTHING = []                               # no device: every line answers 1, and no call does any work
 IDLE = [f"{DEV} {ID}"]                     # a device that tracks nothing: a done write marks nothing
-ONE_RANGE = IDLE + [f"start {ID} 0 {FIRST} {UNITS}"]
 
 
-def full_record():
-    """8 controllers with 16 ranges each, the most that there can be. The ranges lie one behind the other, so lines made for one range fit here too."""
-    ids = range(ID, ID + 8)
-    ranges = " ".join(f"{FIRST + i * 256 * UNIT} 256" for i in range(16))
-    return [f"{DEV} {' '.join(map(str, ids))}"] + [f"start {id} 0 {ranges}" for id in ids]
+class Record(NamedTuple):
+    """Controllers among which all units of the pool are shared out evenly, each with as many ranges, one behind the other."""
+    controllers: int
+    ranges: int    # of each controller
+
+    @property
+    def ids(self):
+        return range(ID, ID + self.controllers)
+
+    @property
+    def units(self):
+        """Of each controller."""
+        return UNITS // self.controllers
+
+    @property
+    def length(self):
+        """Units of each range."""
+        return self.units // self.ranges
+
+    def start(self, id, fewer=lambda: 0):
+        """A start with all of its ranges, each by so many units shorter as `fewer` says for it."""
+        ranges = (f"{FIRST + i * self.length * UNIT} {self.length - fewer()}" for i in range(self.ranges))
+        return f"start {id} 0 {' '.join(ranges)}"
+
+    def setup(self):
+        return [f"{DEV} {' '.join(map(str, self.ids))}"] + [self.start(id) for id in self.ids]
 
 
-RECORDS = {"none": NOTHING, "idle": IDLE, "1 range": ONE_RANGE, "128 ranges": full_record()}
+RECORDS = {"1 range": Record(1, 1), "128 ranges": Record(8, 16)}  # the second has the most controllers and ranges that there can be
 
 
 class Body(NamedTuple):
     lines: list
     calls: int     # among how many calls its time is shared
 
+
+# ---- Writes and reports of one controller that has so many units
 
 def write(unit, within=0, id=ID):
     return f"write {id} {FIRST + unit * UNIT + within} 1"
@@ -38,9 +59,9 @@ def report():
     return f"recv {ID} 4096"
 
 
-def few_writes(rng, count):
+def few_writes(rng, units, count):
     """Writes of one byte, anywhere."""
-    return [write(rng.randrange(UNITS), rng.randrange(UNIT)) for _ in range(count)]
+    return [write(rng.randrange(units), rng.randrange(UNIT)) for _ in range(count)]
 
 
 def batches(writes):
@@ -49,24 +70,24 @@ def batches(writes):
     return [" ".join(["batch", *notes[at:at + BATCH]]) for at in range(0, len(notes), BATCH)]
 
 
-def far_apart(rng):
+def far_apart(rng, units):
     """Writes of one byte to 0 to 8 units, each in its own eighth of the units; every second time the last unit is among them."""
-    eighth = UNITS // 8
-    units = [eighth * at + rng.randrange(eighth) for at in rng.sample(range(8), rng.randrange(9))]
-    if units and rng.randrange(2):
-        units[-1] = UNITS - 1
-    return [write(unit, rng.randrange(UNIT)) for unit in units]
+    eighth = units // 8
+    chosen = [eighth * at + rng.randrange(eighth) for at in rng.sample(range(8), rng.randrange(9))]
+    if chosen and rng.randrange(2):
+        chosen[-1] = units - 1
+    return [write(unit, rng.randrange(UNIT)) for unit in chosen]
 
 
-def sparse(rng, reports):
-    """A few writes, a report, and so on: a report goes over 4,096 units and finds 0 to 8 runs."""
-    return [line for _ in range(reports) for line in far_apart(rng) + [report()]]
+def sparse(rng, units, reports):
+    """A few writes, a report, and so on: a report goes over all units and finds 0 to 8 runs."""
+    return [line for _ in range(reports) for line in far_apart(rng, units) + [report()]]
 
 
-def dense(rng, reports):
-    """Every second unit is pending: 2,048 runs. A report takes the first 255, and 255 writes mark them again."""
+def dense(rng, units, reports):
+    """Every second unit is pending: half as many runs as there are units. A report takes the first 255, and 255 writes mark them again."""
     taken = [write(2 * run) for run in range(RUNS)]
-    lines = [write(unit) for unit in range(0, UNITS, 2)]
+    lines = [write(unit) for unit in range(0, units, 2)]
     for _ in range(reports):
         lines += [report()] + rng.sample(taken, RUNS)
     return lines
@@ -81,34 +102,59 @@ def to_unknown(lines):
     return [line.replace(f"write {ID} ", f"write {UNKNOWN} ") for line in lines]
 
 
+# ---- Stops and starts
+
+def restarts(rng, record, pairs):
+    """One controller or another is stopped and started again, each range as it was at first or a unit shorter: so other shares move by some bits."""
+    return [line for id in rng.choices(record.ids, k=pairs) for line in (f"stop {id}", record.start(id, lambda: rng.randrange(2)))]
+
+
+# ---- All of them
+
 def bodies(seed, scale):
-    """What is played on a record, by name. Scale 1 fits an emulator."""
+    """What is played, by the names of record and body. Scale 1 fits an emulator."""
+    return {(name, body): made for name, record in RECORDS.items() for body, made in bodies_on(record, seed, scale).items()}
+
+
+def bodies_on(record, seed, scale):
     rng = random.Random(seed)
-    writes = few_writes(rng, 40 * BATCH * scale)
-    all_units = [f"write {ID} {FIRST} {UNITS * UNIT}"] * (2_000 * scale)
-    many_runs = dense(rng, 80 * scale)
+    writes = few_writes(rng, record.units, 40 * BATCH * scale)
+    all_units = [f"write {ID} {FIRST} {record.units * UNIT}"] * (2_000 * scale)
+    many_runs = dense(rng, record.units, 80 * scale)
     return {
         "writes": Body(writes, len(writes)),
         "refused writes": Body(to_unknown(writes), len(writes)),
         BATCHES: Body(batches(writes), len(writes)),
         "writes to all units": Body(all_units, len(all_units)),
-        **sparse_bodies(seed, scale),
+        **sparse_bodies(record, seed, scale),
         "dense": Body(many_runs, 80 * scale),
         "dense, no reports": Body(without_reports(many_runs), 80 * scale),
+        "restarts": Body(restarts(rng, record, 2_000 * scale), 2_000 * scale),
     }
 
 
-def sparse_bodies(seed, scale):
+def sparse_bodies(record, seed, scale):
     """The sparse session, and the same without its reports."""
-    lines = sparse(random.Random(seed), 1_000 * scale)
+    lines = sparse(random.Random(seed), record.units, 1_000 * scale)
     return {"sparse": Body(lines, 1_000 * scale), "sparse, no reports": Body(without_reports(lines), 1_000 * scale)}
 
 
-def listings(made, records=RECORDS):
+def no_device(record):
+    """In place of a record: nothing is set up, every line answers 1, and no call does any work."""
+    return f"{record}, no device"
+
+
+def idle(record):
+    """In place of a record: a device that tracks nothing."""
+    return f"{record}, idle"
+
+
+def listings(made):
     """Every listing to be timed: lines, by the names of record and body. One is empty: it costs what starting a program costs."""
     lines = {("nothing", "nothing"): []}
-    for record, setup in records.items():
-        for name, body in made.items():
-            if record != "idle" or name in ("writes", "refused writes"):
-                lines[record, name] = setup + body.lines
+    for (record, name), body in made.items():
+        lines[record, name] = RECORDS[record].setup() + body.lines
+        lines[no_device(record), name] = body.lines
+        if name in ("writes", "refused writes"):
+            lines[idle(record), name] = IDLE + body.lines
     return lines

@@ -4,6 +4,7 @@ from case import Case, said
 
 END = 2 ** 64
 LAST_PAGE = END - 4096
+POOL = 16_384  # units of all controllers together (document 02, W7)
 
 
 def cases():
@@ -90,29 +91,32 @@ def last_unit_of_memory():
 
 
 def lengths():
-    """0, 1, 4,096 and 4,097 units at granularities 0, 8 and 20."""
+    """0, 1, all 16,384 units of the pool and one more, and 4,097, at granularities 0, 8 and 20."""
     for n in (0, 8, 20):
         unit = 2 ** (12 + n)
         yield case(f"lengths in units at granularity {n}", [
             ("dev 1 0 20 0 16 5", "0"),
             (f"start 5 {n} {unit} 0", "19 0"),
-            (f"start 5 {n} {unit} 4097", "11"),
-            (f"start 5 {n} {unit} 4096 0 1", "11"),
+            (f"start 5 {n} {unit} {POOL + 1}", "11"),
+            (f"start 5 {n} {unit} {POOL} 0 1", "11"),
             (f"start 5 {n} {unit} 1", "0"),
             (f"write 5 0 {END - 1}", "0 1"),
             ("recv 5 32", *report(n, [(unit, 1)])),
             ("stop 5", "0"),
-            (f"start 5 {n} {unit} 4096", "0"),
+            (f"start 5 {n} {unit} {POOL}", "0"),
             (f"write 5 {2 * unit} {unit}", "0 1"),
-            (f"write 5 {4096 * unit} 1", "0 1"),
-            (f"write 5 {4097 * unit} 1", "0 0"),
-            ("recv 5 64", *report(n, [(2 * unit, 1), (4096 * unit, 1)])),
-            (f"write 5 0 {END - 1}", "0 4096"),
-            ("recv 5 32", *report(n, [(unit, 4096)])),
+            (f"write 5 {POOL * unit} 1", "0 1"),
+            (f"write 5 {(POOL + 1) * unit} 1", "0 0"),
+            ("recv 5 64", *report(n, [(2 * unit, 1), (POOL * unit, 1)])),
+            (f"write 5 0 {END - 1}", f"0 {POOL}"),
+            ("recv 5 32", *report(n, [(unit, POOL)])),
             ("stop 5", "0"),
-            (f"start 5 {n} 0 1 {unit} 4095", "0"),
-            (f"write 5 0 {END - 1}", "0 4096"),
-            ("recv 5 64", *report(n, [(0, 1), (unit, 4095)])),
+            (f"start 5 {n} 0 1 {unit} {POOL - 1}", "0"),
+            (f"write 5 0 {END - 1}", f"0 {POOL}"),
+            ("recv 5 64", *report(n, [(0, 1), (unit, POOL - 1)])),
+            ("stop 5", "0"),
+            (f"start 5 {n} {unit} 4097", "0"),
+            (f"write 5 0 {END - 1}", "0 4097"),
         ])
 
 
@@ -144,17 +148,18 @@ def many_runs():
 
 
 def every_controller_full():
-    """All 8 controllers with 16 ranges of 256 units at limit 128; granularities 0 to 7, lists from the top downwards."""
+    """All 8 controllers with 16 ranges of 128 units at limit 128, which are 16,384; granularities 0 to 7, lists from the top
+    downwards."""
     identifiers = [5, 6, 7, 8, 9, 10, 65534, 65535]
     rows = [("dev 1 0 8 1 128 " + " ".join(map(str, identifiers)), "0")]
     lists = {}
     for n, identifier in enumerate(identifiers):
-        size = 256 * 2 ** (12 + n)
-        lists[identifier] = [(size * (40 - 2 * row), 256) for row in range(16)]
+        size = 128 * 2 ** (12 + n)
+        lists[identifier] = [(size * (40 - 2 * row), 128) for row in range(16)]
         pairs = " ".join(f"{address} {length}" for address, length in lists[identifier])
         rows.append((f"start {identifier} {n} {pairs}", "0"))
     for identifier in identifiers:
-        rows.append((f"write {identifier} 0 {END - 1}", "0 4096"))
+        rows.append((f"write {identifier} 0 {END - 1}", "0 2048"))
     for n, identifier in enumerate(identifiers):
         rows.append((f"recv {identifier} 271", *report(n, lists[identifier][:15], more=1)))
     for n, identifier in enumerate(identifiers):
@@ -221,7 +226,7 @@ def overlap_at_the_end_of_memory():
     """The last unit alone, then the last k units; then the other way round."""
     for n in (0, 1, 8, 19, 20):
         unit = 2 ** (12 + n)
-        for k in (1, 2, 3, 4096):
+        for k in (1, 2, 3, 4096, POOL // 2):
             left = [(END - k * unit, k - 1)] if k > 1 else []
             yield case(f"overlap of the last unit and the last {k} at granularity {n}", [
                 ("dev 1 0 20 0 16 5 6", "0"),
@@ -238,11 +243,11 @@ def overlap_at_the_end_of_memory():
 
 
 def different_units():
-    """Two ranges of a and b units that share s of them have a + b - s: 4,096 are done, 4,097 are refused with 11."""
+    """Two ranges of a and b units that share s of them have a + b - s: 16,384 are done, 16,385 are refused with 11."""
     for n in (0, 8, 20):
         unit = 2 ** (12 + n)
-        for a, b in ((4096, 4096), (4095, 4096), (4096, 1), (2048, 2049), (4000, 97), (1, 4096)):
-            s = a + b - 4096
+        for a, b in ((POOL, POOL), (POOL - 1, POOL), (POOL, 1), (8192, 8193), (16000, 385), (1, POOL)):
+            s = a + b - POOL
             above, beside = (a - s + 1) * unit, (a - s + 2) * unit
             own = [((a + 1) * unit, b - s)] if b > s else []
             yield case(f"{a} and {b} units at granularity {n} that share {s}, or one fewer", [
@@ -250,17 +255,17 @@ def different_units():
                 (f"start 5 {n} {unit} {a} {beside} {b}", "11"),
                 (f"start 5 {n} {unit} {a} {above} {b} 0 1", "11"),
                 (f"start 5 {n} {unit} {a} {above} {b}", "0"),
-                (f"write 5 0 {END - 1}", "0 4096"),
+                (f"write 5 0 {END - 1}", f"0 {POOL}"),
                 ("recv 5 64", *report(n, [(unit, a), *own])),
             ])
     for n in (0, 20):
         unit = 2 ** (12 + n)
         rows = [("dev 1 0 20 0 16 5", "0")]
-        for length in (4097, 8192, 65536 + 1, 2 ** 31, 2 ** 32 - 1):
+        for length in (POOL + 1, 2 * POOL, 65536 + 1, 2 ** 31, 2 ** 32 - 1):
             for count in (1, 2, 14, 15):
                 same = " ".join([f"{unit} {length}"] * count)
                 rows += [(f"start 5 {n} {ranges}", "11") for ranges in (same, f"{unit} 1 {same}", f"{same} {unit} 1")]
-        rows += [(f"start 5 {n} {' '.join([f'{unit} 4096'] * 16)}", "0"), (f"write 5 0 {END - 1}", "0 4096")]
+        rows += [(f"start 5 {n} {' '.join([f'{unit} {POOL}'] * 16)}", "0"), (f"write 5 0 {END - 1}", f"0 {POOL}")]
         yield case(f"equal ranges of any length at granularity {n}", rows)
 
 

@@ -26,13 +26,14 @@ BAD_ROWS = [
     *[rows for both, other in (((19, 20), (21,)), ((20, 21), (19,))) for rows in ((both,), (both, other), (other, both))],
 ]
 # What the start lists, and its rows that break rules, before or behind two good ones. Document 02, W2: overlap breaks
-# nothing, 11 counts different units, and 12 counts listed ranges.
+# nothing, 11 counts different units, and 12 counts listed ranges; W7: 11 counts those of all controllers.
 LISTED = [
-    ("good ones", ()), ("no range", ()), ("a unit twice", ()), ("4,096 units, 2,048 different", ()),
+    ("good ones", ()), ("no range", ()), ("a unit twice", ()), ("16,384 units, 8,192 different", ()),
     ("within another", ((20,),)), *product(("bad ones first", "good ones first"), BAD_ROWS),
 ]
 
-HELD = 10  # ranges that controller 6 holds
+HELD = 10  # ranges that controller 6 holds, a unit each
+POOL = 16_384
 
 
 def cases():
@@ -74,11 +75,12 @@ def limit_for(who, count, broken):
 
 
 def rows_for(granularity, kind, bad_rows, broken):
-    """Rows that break just these rules: what each breaks, and its range. Far apart: 4,096 units of the coarsest
-    granularity below are 2^33 bytes."""
+    """Rows that break just these rules: what each breaks, and its range. Far apart: 16,384 units of the coarsest granularity
+    that is allowed are 2^34 bytes. With 11 they have as many units as there are, of which controller 6 holds ten."""
     unit, far = 2 ** (12 + min(granularity, 20)), 2 ** 40
-    long = 4096 if 11 in broken else 2
-    other = 3 if 10 in broken else 4
+    long, other = (POOL // 2, POOL // 2) if 11 in broken else (2, 4)
+    if 10 in broken:
+        long, other = POOL if 11 in broken else 2, 3
     good = [((), (far, long)), ((), (2 * far, other))]
     bad = [(rules, bad_range(rules, unit, (3 + row) * far, other)) for row, rules in enumerate(bad_rows)]
     if kind == "no range":
@@ -89,8 +91,8 @@ def rows_for(granularity, kind, bad_rows, broken):
         return good + [(rules, (far + unit // 2, 1)) for rules in bad_rows]
     if kind == "a unit twice":
         return good + [((), (far + unit, 1))]
-    if kind == "4,096 units, 2,048 different":
-        return good + [((), (3 * far, 2048))] * 2
+    if kind == "16,384 units, 8,192 different":
+        return good + [((), (3 * far, POOL // 2))] * 2
     return good + bad
 
 

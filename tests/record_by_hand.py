@@ -4,10 +4,11 @@ import copy
 import itertools
 
 from parts import FIRST, LAST, MIDDLE, ONLY, WORD, header, state
-from record_case import ALL_ONES, MEMORY, MOST_ROWS, Case, Controller, Record, batch, part, structure
+from record_case import ALL_ONES, MEMORY, MOST_ROWS, NOT_SAID, Case, Controller, Record, batch, part, rotated, structure
 
-MIXED = 0x8E5A0F3C7001C0D1  # a mark word with set and clear bits in every byte
-WRONG_WORDS = (0, 1, 64, 511, 513, 600)  # "marks are not 512 words"
+MIXED = 0x8E5A0F3C7001C0D1  # a mark word with set and clear bits in every byte; rotated by 1 to 63 it is another
+WRONG_WORDS = (0, 1, 64, 255, 257, 512)  # "1 expects 256 words" (document 02, W7)
+BASES = (0, 4096, 8192, 12288)  # where the shares of the first four controllers begin unless said: in words 0, 64, 128, 192
 WRONG_AREAS = (0, 1, 48, 4095, 4097, 4200)  # "in one lent area of that size (else 1)", of 4,096 bytes
 
 
@@ -15,12 +16,13 @@ WRONG_AREAS = (0, 1, 48, 4095, 4097, 4200)  # "in one lent area of that size (el
 
 def base():
     """Controller 5 tracks 4 units from page 16 on and 2 from page 0 on; 6 is not tracked; 7 is suspended and tracks 3
-    units of granularity 8. So 3 of the limit's 16 are taken."""
+    units of granularity 8. So 3 of the limit's 16 are taken, and 9 of the pool's 16,384 units: bits 0 to 5, and 8192 to
+    8194."""
     record = Record()
     record.manager, record.least, record.greatest, record.rule, record.limit = 1, 0, 8, 0, 16
     record.count, record.identifiers = 3, [5, 6, 7, 0, 0, 0, 0, 0]
     record.controllers[0] = Controller((0, 2), [(65536, 4), (0, 2)])
-    record.controllers[2] = Controller((8, 1), [(1048576, 3)], suspended=1)
+    record.controllers[2] = Controller((8, 1), [(1048576, 3)], suspended=1, base=BASES[2])
     return record
 
 
@@ -33,6 +35,7 @@ def base_with_rubbish():
         one.ranges[used:] = [(65537 + row, 2**32 - 1 if row % 2 else 0) for row in range(used, 16)]
         if place >= 3:
             one.tracking, one.suspended = (255, 255), place % 2
+        one.base = {1: 60000, 3: 3, 4: 65535, 5: 16384, 7: 8193}.get(place, one.base)
     return record
 
 
@@ -87,10 +90,19 @@ def identifiers(record, *used, count=None):
 
 
 @change
-def tracked(record, granularity, *ranges, place=0, **values):
-    """The controller in this place (5 unless said) tracks these ranges; settings as named."""
+def tracked(record, granularity, *ranges, place=0, base=None, **values):
+    """The controller in this place (5 unless said) tracks these ranges, from its own base on unless said; settings as
+    named."""
     record.controllers[place].track(granularity, *ranges)
+    record.controllers[place].base = BASES[place] if base is None else base
     settings(**values)(record)
+
+
+@change
+def based(record, *bases):
+    """Where the shares of the controllers begin, in their order; None leaves one as it is."""
+    for one, base in zip(record.controllers, bases):
+        one.base = one.base if base is None else base
 
 
 @change
@@ -98,6 +110,7 @@ def counted(record, count, place=0):
     """On, with a count that need not fit the ranges there."""
     record.controllers[place].tracking = (0, count)
     record.controllers[place].ranges = sixteen()
+    record.controllers[place].base = (BASES * 2)[place]
     record.limit = 128
 
 
@@ -126,17 +139,48 @@ def opened(record, owner, end):
 
 @change
 def full(record, limit):
-    """8 controllers of 16 ranges, 4,096 units each: 128 ranges in all. Controller 7 stays suspended."""
+    """8 controllers of 16 ranges, 2,048 units each, side by side: 128 ranges in all, and the whole pool. Controller 7 stays
+    suspended."""
     identifiers(*EIGHT)(record)
     settings(greatest=20, rule=1, limit=limit)(record)
-    for one in record.controllers:
-        one.track(20, *sixteen(0, 256, 2**32))
+    for place, one in enumerate(record.controllers):
+        one.track(20, *sixteen(0, 128, 2**32))
+        one.base = 2048 * place
 
 
 @change
 def equal(record, count, one):
     """So many equal ranges in the last controller."""
     record.controllers[7].track(20, *[one] * count)
+
+
+@change
+def alone(record, *ranges, granularity=0, base=0):
+    """5 alone tracks, these ranges from this bit on; 7 is off and stays suspended. Limit and granularities are as wide as
+    may be."""
+    off(2)(record)
+    tracked(granularity, *ranges, base=base, greatest=20, limit=128)(record)
+
+
+@change
+def row_of_eight(record):
+    """8 controllers with 4 pages each, a hundred bits from one share to the next. Controller 7 stays suspended."""
+    identifiers(*EIGHT)(record)
+    for place in range(8):
+        tracked(0, (65536, 4), place=place, base=100 * place)(record)
+
+
+@change
+def shares(record, *pairs):
+    """Controllers 5, 6, 7 and so on, each with so many pages from page 0 on and with this base; one of 0 pages is off. 7 stays
+    suspended."""
+    identifiers(*range(5, 5 + len(pairs)))(record)
+    settings(limit=128)(record)
+    for place, (pages, base) in enumerate(pairs):
+        record.controllers[place].tracking = None
+        if pages:
+            record.controllers[place].track(0, (0, pages))
+        record.controllers[place].base = base
 
 
 @change
@@ -166,7 +210,8 @@ SOUND, UNSOUND, BROKEN = (0, 0), (0, 1), (16, 1)
 # from document 01: "A record is sound exactly if its settings would pass 16, each tracked controller's granularity and
 # ranges would pass 7, 9, 10 and 11, and the counts together are within the limit." And from document 02, W2: "Overlap is
 # now allowed", and 11 "counts different units"; W3: 9 is 18 to 21. Of an unsound record no row is told. W6: "An open one is
-# unsound if its owner isn't suspended or its end isn't whole dwords, 4 to 4,096 bytes."
+# unsound if its owner isn't suspended or its end isn't whole dwords, 4 to 4,096 bytes." W7: "1 covers shares that overlap
+# or leave these words and, in place of 11, tracked units above 16,384 in all."
 RECORDS = [
     ("base", both(), SOUND),
     ("closed device", closed(), BROKEN),
@@ -229,13 +274,13 @@ RECORDS = [
     ("limit 127, 128 taken", full(127), UNSOUND),
     ("limit 112, 112 taken, 16 unused", both(full(112), settings(count=7)), SOUND, {"start": 3}),
     ("limit 111, 112 taken, 16 unused", both(full(111), settings(count=7)), UNSOUND),
-    ("full, last length 0", both(full(128), in_place(7, 15, 15 * 2**40, 0)), UNSOUND),
-    ("full, last length 512", both(full(128), in_place(7, 15, 15 * 2**40, 512)), UNSOUND),
-    ("full, last one the first again", both(full(128), in_place(7, 15, 0, 256)), SOUND, {"start": 3}),
-    ("full, last one the first again, and longer", both(full(128), in_place(7, 15, 0, 512)), SOUND, {"start": 3}),
-    ("full, last one a unit further", both(full(128), in_place(7, 15, 15 * 2**40 + 2**32, 256)), SOUND, {"start": 3}),
-    ("all equal, limit 127, 128 taken", both(full(127), equal(16, (0, 256))), UNSOUND),
-    ("all equal, limit 128, 128 taken", both(full(128), equal(16, (0, 256))), SOUND, {"start": 3}),
+    ("full, last length 0", both(full(128), in_place(7, 15, 15 * 2**39, 0)), UNSOUND),
+    ("full, last length 256", both(full(128), in_place(7, 15, 15 * 2**39, 256)), UNSOUND),
+    ("full, last one the first again", both(full(128), in_place(7, 15, 0, 128)), SOUND, {"start": 3}),
+    ("full, last one the first again, and longer", both(full(128), in_place(7, 15, 0, 256)), SOUND, {"start": 3}),
+    ("full, last one a unit further", both(full(128), in_place(7, 15, 15 * 2**39 + 2**32, 128)), SOUND, {"start": 3}),
+    ("all equal, limit 127, 128 taken", both(full(127), equal(16, (0, 128))), UNSOUND),
+    ("all equal, limit 128, 128 taken", both(full(128), equal(16, (0, 128))), SOUND, {"start": 3}),
     ("full, last one off", both(full(112), off(7)), SOUND, {"start": 3}),
     # 18, "the count is 1 to 16"
     ("5 on, count 0", counted(0), UNSOUND),
@@ -327,37 +372,99 @@ RECORDS = [
     ("rule on, 3 units within 4", both(tracked(0, (0, 4), (0, 3), rule=1), in_place(2, 0, 1048576, 1)), UNSOUND),
     ("rule on, 1 unit within 4", both(tracked(0, (0, 1), (0, 4), rule=1), in_place(2, 0, 1048576, 1)), SOUND),
     ("rule on, 3 past the count", both(settings(rule=1), in_place(2, 0, 0, 1), in_place(2, 1, 2**20, 3)), SOUND),
-    # 11
-    ("4,096 units", tracked(0, (0, 4096)), SOUND),
-    ("4,097 units", tracked(0, (0, 4097)), UNSOUND),
-    ("4,095 and 1 units", tracked(0, (0, 4095), (2**24, 1)), SOUND),
-    ("4,095 and 2 units", tracked(0, (0, 4095), (2**24, 2)), UNSOUND),
-    ("16 times 256 units", tracked(0, *sixteen(0, 256), limit=128), SOUND),
-    ("16 times 256 units and 1", tracked(0, *sixteen(0, 256)[:15], (2**30, 257), limit=128), UNSOUND),
-    ("8,193 units, a sum of 1 in 13 bits", tracked(0, (0, 8193)), UNSOUND),
-    ("65,537 units, a sum of 1 in 16 bits", tracked(0, (0, 65537)), UNSOUND),
-    ("2^32 + 1 units, a sum of 1 in 32 bits", tracked(0, (0, 2**32 - 1), (2**44, 2)), UNSOUND),
-    ("2^32 units, a sum of 0 in 32 bits", tracked(0, *sixteen(0, 2**28), limit=128), UNSOUND),
-    # 11 over different units (W2)
-    ("4,096 units twice", tracked(0, (0, 4096), (0, 4096)), SOUND),
-    ("4,096 units sixteen times", tracked(0, *[(0, 4096)] * 16, limit=128), SOUND),
-    ("4,096 units twice, a unit off", tracked(0, (0, 4096), (4096, 4096)), UNSOUND),
-    ("4,096 units twice, a unit off, later one below", tracked(0, (4096, 4096), (0, 4096)), UNSOUND),
-    ("4,096 units twice and 1", tracked(0, (0, 4096), (0, 4096), (2**24, 1)), UNSOUND),
-    ("4,097 units twice", tracked(0, (0, 4097), (0, 4097)), UNSOUND),
-    ("4,097 units around 4,096", tracked(0, (0, 4096), (0, 4097)), UNSOUND),
-    ("4,095 and 2 units that share one", tracked(0, (0, 4095), (4094 * 4096, 2)), SOUND),
-    ("4,095 and 2 units that touch", tracked(0, (0, 4095), (4095 * 4096, 2)), UNSOUND),
-    ("2,049 and 2,048 units that share one, at 2^64", tracked(0, (MEMORY - 2**24, 2049), (MEMORY - 2**23, 2048)), SOUND),
-    ("16 times 482 units by halves, 4,097", tracked(0, *halves(482), limit=128), UNSOUND),
-    ("16 times 480 units by halves, 4,080", tracked(0, *halves(480), limit=128), SOUND),
-    ("4,096 units twice at granularity 20", tracked(20, (2**32, 4096), (2**32, 4096), greatest=20), SOUND),
-    ("a unit off at granularity 20", tracked(20, (2**32, 4096), (2**33, 4096), greatest=20), UNSOUND),
-    ("2^32 - 1 units twice", tracked(0, (0, 2**32 - 1), (0, 2**32 - 1)), UNSOUND),
-    ("2^32 - 1 units around 1", tracked(0, (0, 1), (0, 2**32 - 1)), UNSOUND),
-    ("2^32 - 1 units sixteen times at granularity 20", tracked(20, *[(2**32, 2**32 - 1)] * 16, greatest=20, limit=128), UNSOUND),
+    # the old limit of a controller's units is gone (W7)
+    *[(f"{length:,} units", tracked(0, (0, length)), SOUND) for length in (4095, 4096, 4097, 8191, 8192)],
+    # "tracked units above 16,384 in all"; 5 alone has them, and a start asks for one more
+    ("16,383 units", alone((0, 16383)), SOUND),
+    ("16,384 units", alone((0, 16384)), SOUND, {"start": 11}),
+    ("16,385 units", alone((0, 16385)), UNSOUND),
+    ("16,383 and 1 units", alone((0, 16383), (2**26, 1)), SOUND, {"start": 11}),
+    ("16,383 and 2 units", alone((0, 16383), (2**26, 2)), UNSOUND),
+    ("16 times 1,024 units", alone(*sixteen(0, 1024)), SOUND, {"start": 11}),
+    ("16 times 1,024 units and 1", alone(*sixteen(0, 1024)[:15], (2**30, 1025)), UNSOUND),
+    ("32,769 units, a sum of 1 in 15 bits", alone((0, 32769)), UNSOUND),
+    ("65,537 units, a sum of 1 in 16 bits", alone((0, 65537)), UNSOUND),
+    ("2^32 + 1 units, a sum of 1 in 32 bits", alone((0, 2**32 - 1), (2**44, 2)), UNSOUND),
+    ("2^32 units, a sum of 0 in 32 bits", alone(*sixteen(0, 2**28)), UNSOUND),
+    # different units (W2)
+    ("16,384 units twice", alone((0, 16384), (0, 16384)), SOUND, {"start": 11}),
+    ("16,384 units sixteen times", alone(*[(0, 16384)] * 16), SOUND, {"start": 11}),
+    ("16,384 units twice, a unit off", alone((0, 16384), (4096, 16384)), UNSOUND),
+    ("16,384 units twice, a unit off, later one below", alone((4096, 16384), (0, 16384)), UNSOUND),
+    ("16,384 units twice and 1", alone((0, 16384), (0, 16384), (2**26, 1)), UNSOUND),
+    ("16,385 units twice", alone((0, 16385), (0, 16385)), UNSOUND),
+    ("16,385 units around 16,384", alone((0, 16384), (0, 16385)), UNSOUND),
+    ("16,383 and 2 units that share one", alone((0, 16383), (16382 * 4096, 2)), SOUND, {"start": 11}),
+    ("16,383 and 2 units that touch", alone((0, 16383), (16383 * 4096, 2)), UNSOUND),
+    ("8,193 and 8,192 units that share one, at 2^64", alone((MEMORY - 2**26, 8193), (MEMORY - 2**25, 8192)), SOUND, {"start": 11}),
+    ("16 times 1,928 units by halves, 16,388", alone(*halves(1928)), UNSOUND),
+    ("16 times 1,926 units by halves, 16,371", alone(*halves(1926)), SOUND),
+    ("16,384 units twice at granularity 20", alone((2**32, 16384), (2**32, 16384), granularity=20), SOUND, {"start": 11}),
+    ("a unit off at granularity 20", alone((2**32, 16384), (2**33, 16384), granularity=20), UNSOUND),
+    ("2^32 - 1 units twice", alone((0, 2**32 - 1), (0, 2**32 - 1)), UNSOUND),
+    ("2^32 - 1 units around 1", alone((0, 1), (0, 2**32 - 1)), UNSOUND),
+    ("2^32 - 1 units sixteen times at granularity 20", alone(*[(2**32, 2**32 - 1)] * 16, granularity=20), UNSOUND),
     ("4,096 units each", both(tracked(0, (0, 4096)), tracked(8, (0, 4096), place=2)), SOUND),
-    ("4,097 units past the count", in_place(0, 2, 2**30, 4097), SOUND),
+    ("16,385 units past the count", in_place(0, 2, 2**30, 16385), SOUND),
+    ("2^32 - 1 units where off", in_place(1, 0, 0, 2**32 - 1), SOUND),
+    # "shares that ... leave these words": 7 has 3 units, 5 has 6
+    *[(f"7 at {base}", based(None, None, base), SOUND) for base in (6, 7, 61, 62, 63, 64, 8191, 16380, 16381)],
+    *[(f"7 at {base}", based(None, None, base), UNSOUND) for base in (16382, 16383, 16384, 16385, 20000, 32768, 65533, 65535)],
+    *[(f"5 at {base}", based(base), SOUND) for base in (1, 58, 64, 8186, 8195, 16377, 16378)],
+    *[(f"5 at {base}", based(base), UNSOUND) for base in (16379, 16383, 16384, 16389, 32768, 65530, 65535)],
+    ("6 at 16,383, one unit", tracked(0, (0, 1), place=1, base=16383), SOUND, {"start": 3}),
+    ("6 at 16,384, one unit", tracked(0, (0, 1), place=1, base=16384), UNSOUND),
+    ("6 at 16,383, two units", tracked(0, (0, 2), place=1, base=16383), UNSOUND),
+    ("6 at 65,535, one unit, which ends at 0 in 16 bits", both(based(8), tracked(0, (0, 1), place=1, base=65535)), UNSOUND),
+    ("6 at 65,535, two units, which end at 1 in 16 bits", both(based(8), tracked(0, (0, 2), place=1, base=65535)), UNSOUND),
+    ("6 at 49,152, 16,384 units, which end at 0 in 16 bits",
+     both(off(0), off(2), tracked(0, (0, 16384), place=1, base=49152)), UNSOUND),
+    ("16,384 units at 1", alone((0, 16384), base=1), UNSOUND),
+    ("16,383 units at 1", alone((0, 16383), base=1), SOUND),
+    ("16,383 units at 2", alone((0, 16383), base=2), UNSOUND),
+    ("2 units at 16,382", alone((0, 2), base=16382), SOUND),
+    ("2 units at 16,383", alone((0, 2), base=16383), UNSOUND),
+    ("16,384 units at 65,535", alone((0, 16384), base=65535), UNSOUND),
+    ("2^32 - 1 units at 65,535", alone((0, 2**32 - 1), base=65535), UNSOUND),
+    # "shares that overlap": of 5, bits 0 to 5, and of 7, three bits; by one bit, by all, one within the other
+    *[(f"7 at {base}, in 5's share", based(None, None, base), UNSOUND) for base in range(6)],
+    *[(f"5 at {base}, over 7's share", based(base), UNSOUND) for base in range(8187, 8195)],
+    *[(f"both at {base}", based(base, None, base), UNSOUND) for base in (0, 63, 64, 8192, 16378, 60000, 65535)],
+    ("READINGS W7: 5 at 0 with 4 units, 6 at 3 with 1", both(tracked(0, (65536, 4)), tracked(0, (0, 1), place=1, base=3)), UNSOUND),
+    ("5 at 0 with 4 units, 6 at 4 with 1", both(tracked(0, (65536, 4)), tracked(0, (0, 1), place=1, base=4)), SOUND, {"start": 3}),
+    ("8,193 units, into 7's share", tracked(0, (0, 8193)), UNSOUND),
+    ("8,192 units twice, up to 7's share", tracked(0, (0, 8192), (0, 8192)), SOUND),
+    ("8,192 units twice, a unit off, into 7's share", tracked(0, (0, 8192), (4096, 8192)), UNSOUND),
+    ("16,381 units beside 7's 3", both(tracked(0, (0, 16381)), based(None, None, 16381)), SOUND, {"start": 11}),
+    ("16,381 units above 7's 3", both(tracked(0, (0, 16381), base=3), based(None, None, 0)), SOUND, {"start": 11}),
+    ("16,380 units, a bit between", both(tracked(0, (0, 16380)), based(None, None, 16381)), SOUND),
+    ("16,380 units, a bit before both", both(tracked(0, (0, 16380), base=1), based(None, None, 16381)), SOUND),
+    ("16,382 units and 7's 3", both(tracked(0, (0, 16382)), based(None, None, 16381)), UNSOUND),
+    ("16,382 units and 7's 3, past the end", both(tracked(0, (0, 16382)), based(None, None, 16382)), UNSOUND),
+    ("16,382 units above 7's 3", both(tracked(0, (0, 16382), base=3), based(None, None, 0)), UNSOUND),
+    ("16,384 units around 7's 3", both(tracked(0, (0, 16384)), based(None, None, 100)), UNSOUND),
+    ("full, turned round", both(full(128), based(*range(14336, -1, -2048))), SOUND, {"start": 3}),
+    ("full, first two on one place", both(full(128), based(2048)), UNSOUND),
+    ("full, last one a bit lower", both(full(128), based(*[None] * 7, 14335)), UNSOUND),
+    ("full, last one a bit higher", both(full(128), based(*[None] * 7, 14337)), UNSOUND),
+    ("full, first one a bit higher", both(full(128), based(1)), UNSOUND),
+    ("full, all a bit higher", both(full(128), based(*range(1, 14338, 2048))), UNSOUND),
+    ("full, last one at 65,535", both(full(128), based(*[None] * 7, 65535)), UNSOUND),
+    ("full, last one off, at 65,535", both(full(112), off(7), based(*[None] * 7, 65535)), SOUND, {"start": 3}),
+    ("full, last one unused, at 3", both(full(112), settings(count=7), based(*[None] * 7, 3)), SOUND, {"start": 3}),
+    ("full, first one off, the others two bits higher", both(full(112), off(0), based(None, *range(2050, 14341, 2048))), UNSOUND),
+    ("full, first one off, the others below", both(full(112), off(0), based(None, *range(0, 12289, 2048))),
+     SOUND, {"start": 3, "stop": 5, "receive": 5}),
+    # each of eight shares with each other by a bit, and side by side
+    *[(f"place {place} overlaps place {other} of eight by a bit", both(row_of_eight(), based(*[None] * place, 100 * other + 3)), UNSOUND)
+      for place, other in itertools.permutations(range(8), 2)],
+    *[(f"place {place} beside place {other} of eight", both(row_of_eight(), based(*[None] * place, 100 * other + shift)), SOUND, {"start": 3})
+      for place, other in ((0, 1), (0, 7), (7, 0), (3, 5), (4, 3)) for shift in (-4, 4) if 100 * other + shift >= 0],
+    # "Base of a controller that is off is an unused place"
+    *[(f"6 off, at {base}", based(None, base), SOUND) for base in (0, 3, 8193, 16383, 16384, 60000, 65535)],
+    *[(f"an unused place on, at {base}", both(counted(16, place=3), based(None, None, None, base)), SOUND) for base in (0, 8192, 65535)],
+    ("5 off, at 8,192", both(off(0), based(8192)), SOUND, {"stop": 5, "receive": 5}),
+    ("7 off, at 0", both(off(2), based(None, None, 0)), SOUND),
     # "Separately it is running or suspended", which soundness asks of an open sequence's owner alone
     ("all suspended", suspended(1, 1, 1), SOUND, {"start": 4, "stop": 4, "write": 4}),
     ("none suspended", suspended(0, 0, 0), SOUND, {"resume": 13, "part": 13}),
@@ -407,8 +514,8 @@ ROWS = [
     *[(structure(0, rows, version=1), [6]) for rows in ([], [LENGTH_0], [UNALIGNED], [PAST_THE_END], listed(17, {}))],
     *[(structure(9, rows), [7]) for rows in ([], [LENGTH_0], [UNALIGNED], [PAST_THE_END], listed(17, {}))],
     # And before 11 and 12; "rule on" below has 10.
-    *[(structure(0, [(0, 4097), one]), [number, 1]) for number, one in BAD.items()],
-    *[(structure(0, [(0, 4097)] + [(0, 1)] * 14 + [one]), [number, 15]) for number, one in BAD.items()],
+    *[(structure(0, [(0, 16376), one]), [number, 1]) for number, one in BAD.items()],
+    *[(structure(0, [(0, 16376)] + [(0, 1)] * 14 + [one]), [number, 15]) for number, one in BAD.items()],
     # Each rule in each of 16 rows, and in the last of fewer.
     *[(structure(0, listed(16, {row: one})), [number, row]) for row in range(16) for number, one in BAD.items()],
     *[(structure(0, listed(row + 1, {row: one})), [number, row])
@@ -452,8 +559,8 @@ ROWS = [
 # unused place.
 WORKED = both(settings(count=2), tracked(0, (65536, 4)))
 
-# Four controllers for batches. 5 and 7 are the base's; 6 tracks pages 0 to 3, the low bits of word 64; 8 tracks two units
-# of 1 MiB, the low bits of word 192.
+# Four controllers for batches, with their shares far apart. 5 and 7 are the base's; 6 tracks pages 0 to 3, the low bits of
+# word 64; 8 tracks two units of 1 MiB, the low bits of word 192.
 FOUR = both(identifiers(5, 6, 7, 8), tracked(0, (0, 4), place=1), tracked(8, (0, 2), place=3))
 
 # Notes on these, and after so many of them: how many units are new, and the mark words that have changed.
@@ -471,7 +578,7 @@ BAD_NOTES = [
 A_BAD_NOTE = {2: (9, 0, 1), 4: (7, 0, 1), 14: (6, 2, ALL_ONES)}  # of each number; refused on the base too
 
 PAGES = [(5, 4096 * page, 1) for page in range(MOST_ROWS)]
-EVERY_MARK = {word: ALL_ONES for word in range(64)}  # of controller 5
+EVERY_MARK = {word: ALL_ONES for word in range(64)}  # of 4,096 units from bit 0 on
 
 
 def noted(done, new, cut=0):
@@ -516,6 +623,55 @@ BATCHES = [
     ("batch", dict(id=9, address=2, bytes=ALL_ONES, type=255, **batch(*NOTES)), noted(3, 5), LEFT[3][1]),
     ("batch", dict(id=7, **batch()), noted(0, 0)),
 ]
+
+def at_base(base):
+    """Calls to controller 5 with 4 units whose share begins at this bit."""
+    lowest, shift = divmod(base, 64)
+
+    def words(bits, mark=0):
+        """The words about the share with these of its four bits set, and with the others' bits as they were lent."""
+        lent = rotated(mark, lowest) | rotated(mark, lowest + 1) << 64
+        both_words = lent & ~(15 << shift) | bits << shift
+        return {lowest: both_words % 2**64, **({lowest + 1: both_words >> 64} if lowest < 255 else {})}
+
+    return [
+        *[("write", dict(id=5, address=65536 + 4096 * unit, bytes=1), [0, 0, 1], words(1 << unit)) for unit in range(4)],
+        ("write", dict(id=5, address=0, bytes=ALL_ONES), [0, 0, 4], words(0b1111)),
+        ("write", dict(id=5, address=0, bytes=ALL_ONES, mark=ALL_ONES), [0, 0, 0], words(0b1111, ALL_ONES)),
+        ("receive", dict(id=5, data=b"\xaa" * 32, mark=ALL_ONES), [0, 0, 0, 0, 0, 0, 1], words(0, ALL_ONES), [(65536, 4)]),
+        ("stop", dict(id=5, mark=ALL_ONES), [0], words(0, ALL_ONES)),
+        ("stop", dict(id=5, mark=MIXED), [0], words(0, MIXED)),
+        ("batch", batch((5, 69632, 1), (5, 77824, 1)), noted(2, 2), words(0b1010)),
+    ]
+
+
+def lent_bits(mark, first, count):
+    """So many bits of the lent marks from this one on. Bit b is in word b / 64, where all are rotated left by as many."""
+    return [mark >> (at - at // 64) % 64 & 1 for at in range(first, first + count)]
+
+
+def packed_marks(five, seven, length, mark):
+    """The first and the last word after a start of 6 with so many units, bit by bit: 6 bits of 5 from bit `five` on, so many
+    clear ones, 3 of 7 from bit `seven` on, and clear ones up to 16,384."""
+    bits = lent_bits(mark, five, 6) + [0] * length + lent_bits(mark, seven, 3)
+    bits += [0] * (16384 - len(bits))
+    return {word: sum(bit << at for at, bit in enumerate(bits[64 * word:64 * word + 64])) for word in (0, 1, 2, 128, 255)}
+
+
+def only(marks):
+    """These words, and zeros in all others."""
+    return {**{word: 0 for word in range(256)}, **marks}
+
+
+def only_bits(*bits):
+    """The words in which these bits of the pool are set, and no others."""
+    return {word: sum(1 << bit % 64 for bit in bits if bit // 64 == word) for word in range(256)}
+
+
+def placed(marks, *bases):
+    """A done call that counts nothing: these words are left, and these bases of the first controllers."""
+    return [0], marks, (), NOT_SAID, bases
+
 
 def opens(end, owner=7):
     """A done part that goes on: its numbers, and the sequence that it leaves."""
@@ -672,10 +828,14 @@ AT_4096 = [
 ]
 
 # Sound records, by their change to the base, and calls on them: the call, its fields, the first numbers of the answer
-# (the row is 0 unless said); of some also mark words after the call, by their number, the report's runs, and the sequence
-# that is left. Marks are 0 unless said. Controller 5's bits 0 to 3 are pages 16 to 19, its bits 4 and 5 pages 0 and 1.
+# (the row is 0 unless said); of some also mark words after the call, by their number, the report's runs, the sequence that
+# is left, and the first controllers' bases. Marks are 0 unless said. Controller 5's bits 0 to 3 are pages 16 to 19, its
+# bits 4 and 5 pages 0 and 1. What start and stop leave, all words of it and all bases, is known by `left` in record_case.py;
+# some stands here too.
 ONE = structure(0, [(65536, 1)])
 SEVENTEEN = sixteen() + [(2**30, 1)]
+# 5 at 200 with 4 units, 7 at 4 with 2 and 9 at 100 with 3; 6, 8, 10 and 11 are off.
+OFF_ANYWHERE = shares((4, 200), (0, 60000), (2, 4), (0, 65535), (3, 100), (0, 16384), (0, 0))
 ORDERS = [
     ("rows", both(), [
         *[("start", dict(id=6, data=data, mark=MIXED), known) for data, known in ROWS],
@@ -719,22 +879,25 @@ ORDERS = [
         ("start", dict(id=6, data=structure(0, [(65536, 4), (65536, 4)])), [0]),
         ("start", dict(id=6, data=structure(0, [(65536, 4), (65536, 0)])), [19, 1]),
         ("start", dict(id=6, data=structure(0, [(65536, 4), (65537, 1)])), [20, 1]),
-        # 4 units and 4,093 or 4,094 that share one.
-        ("start", dict(id=6, data=structure(0, [(65536, 4), (77824, 4093)])), [0]),
-        ("start", dict(id=6, data=structure(0, [(65536, 4), (77824, 4094)])), [11]),
-        ("start", dict(id=6, data=structure(0, [(0, 4096), (0, 4096)])), [0]),
-        ("start", dict(id=6, data=structure(0, [(0, 4096), (4096, 4096)])), [11]),
+        # 9 units are tracked, so 16,375 are left: 4, and 16,372 or 16,373 that share one with them.
+        ("start", dict(id=6, data=structure(0, [(65536, 4), (77824, 16372)])), [0]),
+        ("start", dict(id=6, data=structure(0, [(65536, 4), (77824, 16373)])), [11]),
+        ("start", dict(id=6, data=structure(0, [(0, 16375), (0, 16375)])), [0]),
+        ("start", dict(id=6, data=structure(0, [(0, 16375), (4096, 16375)])), [11]),
         ("start", dict(id=6, data=structure(0, [(0, 2**32 - 1)] * 16)), [11]),
-        ("start", dict(id=6, data=structure(0, [(0, 4096)] * 13)), [0]),
-        ("start", dict(id=6, data=structure(0, [(0, 4096)] * 14)), [12]),
-        ("start", dict(id=6, data=structure(0, [(0, 4096)] * 13 + [(2**24, 1)])), [11]),
+        ("start", dict(id=6, data=structure(0, [(0, 16375)] * 13)), [0]),
+        ("start", dict(id=6, data=structure(0, [(0, 16375)] * 14)), [12]),
+        ("start", dict(id=6, data=structure(0, [(0, 16375)] * 13 + [(2**26, 1)])), [11]),
         ("start", dict(id=6, data=structure(0, [(65536, 3)])), [0]),
-        ("start", dict(id=6, data=structure(0, [(0, 4097)])), [11]),
-        ("start", dict(id=6, data=structure(0, [(0, 4096)])), [0]),
+        *[("start", dict(id=6, data=structure(0, [(0, length)])), [11]) for length in (16376, 16384, 16385, 65536, 2**32 - 1)],
+        *[("start", dict(id=6, data=structure(0, [(0, length)]), mark=MIXED), [0]) for length in (4096, 4097, 8193, 16374, 16375)],
+        ("start", dict(id=6, data=structure(8, [(0, 16376)])), [11]),
+        ("start", dict(id=6, data=structure(8, [(0, 16375)])), [0]),
         ("start", dict(id=6, data=structure(0, sixteen()[:13])), [0]),
         ("start", dict(id=6, data=structure(0, sixteen()[:14])), [12]),
         ("start", dict(id=6, data=structure(0, sixteen())), [12]),
-        ("start", dict(id=6, data=structure(0, sixteen(0, 512))), [11]),
+        ("start", dict(id=6, data=structure(0, sixteen(0, 1024))), [11]),
+        ("start", dict(id=6, data=structure(0, sixteen(0, 1023))), [12]),
         ("start", dict(id=6, data=structure(0, [(65536, 1)], reserved=65535) + b"\xff" * 100), [0]),
         ("start", dict(id=6, data=ONE, mark=ALL_ONES), [0]),
         ("stop", dict(id=1), [2]),
@@ -835,8 +998,10 @@ ORDERS = [
         ("start", dict(id=6, data=structure(0, [(65536, 3)] * 17)), [18, 0]),
         ("start", dict(id=6, data=structure(0, [(65536, 4), (65536, 3)])), [10]),
         ("start", dict(id=6, data=structure(0, [(65536, 1), (65536, 4)])), [0]),
-        ("start", dict(id=6, data=structure(0, [(0, 4097)])), [10]),
-        ("start", dict(id=6, data=structure(0, [(0, 4096), (2**24, 1)])), [11]),
+        ("start", dict(id=6, data=structure(0, [(0, 16385)])), [10]),
+        ("start", dict(id=6, data=structure(0, [(0, 16384)])), [11]),
+        ("start", dict(id=6, data=structure(0, [(0, 8192), (2**26, 8192)])), [11]),
+        ("start", dict(id=6, data=structure(0, [(0, 8192), (2**26, 4096)])), [0]),
         ("start", dict(id=6, data=structure(0, sixteen(0, 3))), [10]),
     ]),
     ("6 suspended", suspended(0, 1), [
@@ -869,12 +1034,19 @@ ORDERS = [
         ("receive", dict(id=5, data=b"\xaa" * 32, mark=ALL_ONES - 7), [0, 0, 0, 0, 0, 0, 1], {0: ALL_ONES - 15}, [(77824, 1)]),
     ]),
     ("200 units", tracked(0, (0, 200)), [
-        ("receive", dict(id=5, data=b"\xaa" * 64, mark=2**63), [0, 0, 0, 0, 0, 0, 3], {0: 0, 1: 0, 2: 0, 3: 2**63},
-         [(258048, 1), (520192, 1), (782336, 1)]),
-        ("receive", dict(id=5, data=b"\xaa" * 80, mark=ALL_ONES - 1), [0, 0, 0, 0, 0, 0, 4], {0: 0, 1: 0, 2: 0, 3: ALL_ONES - 255},
-         [(4096, 63), (266240, 63), (528384, 63), (790528, 7)]),
-        ("receive", dict(id=5, data=b"\xaa" * 64, mark=2**63 + 1), [0, 0, 0, 0, 1, 0, 3], {0: 0, 1: 0, 2: 2**63, 3: 2**63 + 1},
-         [(0, 1), (258048, 2), (520192, 2)]),
+        # Set are bits 63, 64, 129 and 194; then 62, 127, 128 and 193; then 62 to 64, 127 to 129, 193 and 194.
+        ("receive", dict(id=5, data=b"\xaa" * 64, mark=2**63), [0, 0, 0, 0, 0, 0, 3], {0: 0, 1: 0, 2: 0, 3: 0, 4: 2**3},
+         [(4096 * 63, 2), (4096 * 129, 1), (4096 * 194, 1)]),
+        ("receive", dict(id=5, data=b"\xaa" * 48, mark=2**62), [0, 0, 0, 0, 1, 0, 2], {0: 0, 1: 0, 2: 0, 3: 2, 4: 2**2},
+         [(4096 * 62, 1), (4096 * 127, 2)]),
+        ("receive", dict(id=5, data=b"\xaa" * 48, mark=3 << 62), [0, 0, 0, 0, 1, 0, 2], {0: 0, 1: 0, 2: 0, 3: 6, 4: 12},
+         [(4096 * 62, 3), (4096 * 127, 3)]),
+        # Clear are bits 0, 65, 130 and 195.
+        ("receive", dict(id=5, data=b"\xaa" * 80, mark=ALL_ONES - 1), [0, 0, 0, 0, 0, 0, 4],
+         {0: 0, 1: 0, 2: 0, 3: ALL_ONES - 255, 4: ALL_ONES - 16}, [(4096, 64), (4096 * 66, 64), (4096 * 131, 64), (4096 * 196, 4)]),
+        # Set are bits 0, 63 to 65, 129 and 130, 194 and 195.
+        ("receive", dict(id=5, data=b"\xaa" * 64, mark=2**63 + 1), [0, 0, 0, 0, 1, 0, 3], {0: 0, 1: 0, 2: 0, 3: 12, 4: 24},
+         [(0, 1), (4096 * 63, 3), (4096 * 129, 2)]),
     ]),
     ("to 2^64", tracked(0, (MEMORY - 2**24, 4096)), [
         ("write", dict(id=5, address=ALL_ONES, bytes=1), [0, 0, 1]),
@@ -892,12 +1064,12 @@ ORDERS = [
         ("write", dict(id=5, address=69631, bytes=2), [0, 0, 2], {0: 0b000101}),
         ("write", dict(id=5, address=73727, bytes=2), [0, 0, 2], {0: 0b001001}),
         ("write", dict(id=5, address=0, bytes=ALL_ONES), [0, 0, 6], {0: 0b111111, 1: 0}),
-        ("write", dict(id=5, address=0, bytes=ALL_ONES, mark=0b000100), [0, 0, 5], {0: 0b111111, 1: 0b000100}),
-        ("write", dict(id=5, address=0, bytes=ALL_ONES, mark=ALL_ONES - 63), [0, 0, 6], {0: ALL_ONES, 1: ALL_ONES - 63}),
-        ("write", dict(id=5, address=69632, bytes=1, mark=ALL_ONES - 1), [0, 0, 1], {0: ALL_ONES, 1: ALL_ONES - 1}),
+        ("write", dict(id=5, address=0, bytes=ALL_ONES, mark=0b000100), [0, 0, 5], {0: 0b111111, 1: 0b001000}),
+        ("write", dict(id=5, address=0, bytes=ALL_ONES, mark=ALL_ONES - 63), [0, 0, 6], {0: ALL_ONES, 1: ALL_ONES - 126}),
+        ("write", dict(id=5, address=69632, bytes=1, mark=ALL_ONES - 1), [0, 0, 1], {0: ALL_ONES, 1: ALL_ONES - 2}),
         ("receive", dict(id=5, data=b"\xaa" * 32, mark=ALL_ONES), [0, 0, 0, 0, 1, 0, 1],
          {0: ALL_ONES - 1, 1: ALL_ONES}, [(69632, 1)]),
-        ("receive", dict(id=5, data=b"\xaa" * 47, mark=0b111110), [0, 0, 0, 0, 1, 0, 1], {0: 0b111000, 1: 0b111110}, [(61440, 2)]),
+        ("receive", dict(id=5, data=b"\xaa" * 47, mark=0b111110), [0, 0, 0, 0, 1, 0, 1], {0: 0b111000, 1: 0b1111100}, [(61440, 2)]),
         ("receive", dict(id=5, data=b"\xaa" * 64, mark=0b111111), [0, 0, 0, 0, 1, 0, 3], {0: 0b110000},
          [(69632, 1), (61440, 2), (73728, 1)]),
         ("receive", dict(id=5, data=b"\xaa" * 64, mark=0b111010), [0, 0, 0, 0, 1, 0, 3], {0: 0b100000},
@@ -905,9 +1077,9 @@ ORDERS = [
         ("receive", dict(id=5, data=b"\xaa" * 96, mark=ALL_ONES), [0, 0, 0, 0, 0, 0, 5], {0: ALL_ONES - 63, 1: ALL_ONES},
          [(69632, 1), (61440, 2), (73728, 1), (57344, 1), (77824, 1)]),
         ("receive", dict(id=5, data=b"\xaa" * 48, mark=0b110000), [0, 0, 0, 0, 0, 0, 2],
-         {0: 0, 1: 0b110000}, [(57344, 1), (77824, 1)]),
+         {0: 0, 1: 0b1100000}, [(57344, 1), (77824, 1)]),
         ("receive", dict(id=5, data=b"\xaa" * 48, mark=ALL_ONES - 63), [0, 0, 0, 0, 0, 0, 0], {0: ALL_ONES - 63}),
-        ("stop", dict(id=5, mark=ALL_ONES), [0], {0: 0, 63: 0, 64: ALL_ONES}),
+        ("stop", dict(id=5, mark=ALL_ONES), [0], {0: ALL_ONES - 63, 1: ALL_ONES, 128: ALL_ONES}),
         # Page 17, pages 16 and 17, page 14; pages 15 to 18, and all; a byte of each page.
         ("batch", batch((5, 69632, 1), (5, 65536, 8192), (5, 57344, 1)), noted(3, 3), {0: 0b010101}),
         ("batch", batch((5, 61440, 16384), (5, 0, ALL_ONES)), noted(2, 6), {0: 0b111111}),
@@ -916,9 +1088,9 @@ ORDERS = [
         ("batch", dict(mark=ALL_ONES - 63, **batch((5, 69632, 1), (5, 0, ALL_ONES))), noted(2, 6), {0: ALL_ONES}),
         *[("batch", batch((5, 69632, 1), (5, 57344, 8192), bad, (5, 0, ALL_ONES)), noted(2, 3, number), {0: 0b010011})
           for number, bad in A_BAD_NOTE.items()],
-        # 5 of the limit's 16 are taken.
+        # 5 of the limit's 16 are taken. 6 bits of 5, the one of 6, 3 of 7.
         ("start", dict(id=6, data=structure(0, [(65536, 1)] * 11), mark=ALL_ONES), [0],
-         {63: ALL_ONES, 64: 0, 127: 0, 128: ALL_ONES}),
+         {0: 0b1110111111, 1: 0, 64: 0, 128: 0, 255: 0}),
         ("start", dict(id=6, data=structure(0, [(65536, 1)] * 12)), [12]),
     ]),
     ("sixteen are the same", tracked(0, *[(65536, 2)] * 16, limit=128), [
@@ -968,16 +1140,213 @@ ORDERS = [
         ("receive", dict(id=5, data=b"\xaa" * 272, mark=ALL_ONES), [0, 0, 0, 0, 0, 0, 16]),
     ]),
     ("full", full(128), [
-        ("write", dict(id=4, address=0, bytes=ALL_ONES), [0, 0, 4096]),
+        ("write", dict(id=4, address=0, bytes=ALL_ONES), [0, 0, 2048]),
         ("receive", dict(id=4, data=b"\xaa" * 1024, mark=ALL_ONES), [0, 0, 0, 0, 0, 20, 16]),
-        ("stop", dict(id=4, mark=ALL_ONES), [0]),
+        ("stop", dict(id=4, mark=ALL_ONES), [0], {223: ALL_ONES, 224: 0, 255: 0}),
+        ("stop", dict(id=5, mark=ALL_ONES), [0], {0: 0, 31: 0, 32: ALL_ONES}),
         ("resume", dict(id=7), [0]),
         # The last unit of each in turn, up to 7, and then without it; and all units.
-        ("batch", batch(*[(id, 4095 * 2**32, 1) for id in EIGHT]), noted(2, 2, 4), {63: 2**63, 127: 2**63}),
-        ("batch", batch(*[(id, 4095 * 2**32, 1) for id in EIGHT if id != 7]), noted(7, 7),
-         {64 * place + 63: 2**63 for place, id in enumerate(EIGHT) if id != 7}),
-        ("batch", batch(*[(id, 0, ALL_ONES) for id in EIGHT if id != 7]), noted(7, 28672),
-         {word: ALL_ONES for word in range(512) if EIGHT[word // 64] != 7}),
+        ("batch", batch(*[(id, 2047 * 2**32, 1) for id in EIGHT]), noted(2, 2, 4), {31: 2**63, 63: 2**63}),
+        ("batch", batch(*[(id, 2047 * 2**32, 1) for id in EIGHT if id != 7]), noted(7, 7),
+         {32 * place + 31: 2**63 for place, id in enumerate(EIGHT) if id != 7}),
+        ("batch", batch(*[(id, 0, ALL_ONES) for id in EIGHT if id != 7]), noted(7, 14336),
+         {word: ALL_ONES for word in range(256) if EIGHT[word // 32] != 7}),
+    ]),
+    # A pool's worth of units in one share (W7).
+    ("16,384 units", alone((0, 16384)), [
+        ("write", dict(id=5, address=0, bytes=ALL_ONES), [0, 0, 16384], {word: ALL_ONES for word in range(256)}),
+        ("write", dict(id=5, address=2**26 - 1, bytes=1), [0, 0, 1], {254: 0, 255: 2**63}),
+        ("write", dict(id=5, address=2**26, bytes=1, mark=MIXED), [0, 0, 0]),
+        ("receive", dict(id=5, data=b"\xaa" * 32, mark=ALL_ONES), [0, 0, 0, 0, 0, 0, 1], {0: 0, 255: 0}, [(0, 16384)]),
+        ("receive", dict(id=5, data=b"\xaa" * 32, mark=2**63), [0, 0, 0, 0, 1, 0, 1], {0: 0, 1: 0, 2: 2, 255: 2**62}, [(258048, 2)]),
+        ("batch", batch((5, 0, 2**25), (5, 0, ALL_ONES)), noted(2, 16384), {word: ALL_ONES for word in range(256)}),
+        ("stop", dict(id=5, mark=ALL_ONES), [0], {word: 0 for word in range(256)}),
+        *[("start", dict(id=6, data=structure(granularity, [(0, 1)]), mark=MIXED), [11]) for granularity in (0, 8, 20)],
+        ("start", dict(id=6, data=structure(0, [(0, 1)] * 16), mark=MIXED), [11]),
+    ]),
+    # 11 before 12: the limit is met as well.
+    ("16,384 units, limit 1", both(alone((0, 16384)), settings(limit=1)), [
+        ("start", dict(id=6, data=structure(0, [(0, 1)])), [11]),
+        ("start", dict(id=6, data=structure(0, [(0, 0)])), [19, 0]),
+    ]),
+    ("16,383 units, limit 1", both(alone((0, 16383)), settings(limit=1)), [
+        ("start", dict(id=6, data=structure(0, [(0, 1)])), [12]),
+        ("start", dict(id=6, data=structure(0, [(0, 2)])), [11]),
+        ("start", dict(id=6, data=structure(0, [(0, 1), (0, 1)])), [12]),
+        ("start", dict(id=6, data=structure(0, [(0, 1), (4096, 1)])), [11]),
+    ]),
+    # Shares anywhere: a call's bits are from its base on, and those outside all shares are neither read nor changed.
+    *[(f"5's 4 units at {base}", tracked(0, (65536, 4), base=base), at_base(base)) for base in (1, 59, 60, 61, 63, 64, 100, 8188, 8195, 16380)],
+    ("200 units at 8,195", tracked(0, (0, 200), base=8195), [
+        ("write", dict(id=5, address=4096 * 60, bytes=4097), [0, 0, 2], {128: 2**63, 129: 1}),
+        ("write", dict(id=5, address=0, bytes=ALL_ONES, mark=MIXED), [0, 0, 200 - sum(lent_bits(MIXED, 8195, 200))], {
+            127: rotated(MIXED, 63), 128: MIXED | ALL_ONES - 7, 129: ALL_ONES, 130: ALL_ONES, 131: rotated(MIXED, 3) | 0x7FF,
+            132: rotated(MIXED, 4)}),
+        ("receive", dict(id=5, data=b"\xaa" * 32, mark=ALL_ONES), [0, 0, 0, 0, 0, 0, 1],
+         {127: ALL_ONES, 128: 7, 129: 0, 130: 0, 131: ALL_ONES - 0x7FF, 132: ALL_ONES}, [(0, 200)]),
+        # Set are bits 63 and 64, 129 and 194 from 8,192 on.
+        ("receive", dict(id=5, data=b"\xaa" * 48, mark=2**63), [0, 0, 0, 0, 1, 0, 2],
+         {127: 2**62, 128: 0, 129: 0, 130: 0, 131: 4}, [(4096 * 60, 2), (4096 * 126, 1)]),
+        ("stop", dict(id=5, mark=ALL_ONES), [0], {127: ALL_ONES, 128: 7, 129: 0, 130: 0, 131: ALL_ONES - 0x7FF, 132: ALL_ONES}),
+        ("receive", dict(id=7, data=b"\xaa" * 32, mark=ALL_ONES), [0, 0, 0, 1, 0, 8, 1], {127: ALL_ONES, 128: ALL_ONES - 7}),
+    ]),
+    # An accepted start packs: 5 from bit 0 on, then 6, then 7, and of the bits outside nothing is left. MOVES has more.
+    # All bits of the shares but for the new one's are set, and none behind them.
+    ("packing", based(100, None, 64), [
+        ("start", dict(id=6, data=ONE, mark=ALL_ONES), [0], {0: 0b1110111111, **{word: 0 for word in range(1, 256)}}),
+        ("start", dict(id=6, data=structure(0, [(0, 60)]), mark=ALL_ONES), [0], {0: 0b111111, 1: 0b11100, 2: 0}),
+        # Refused, it moves nothing.
+        ("start", dict(id=6, data=structure(0, [(0, 16376)]), mark=ALL_ONES), [11]),
+        ("start", dict(id=6, data=structure(0, [(0, 1)] * 14), mark=ALL_ONES), [12]),
+        ("start", dict(id=5, data=ONE, mark=ALL_ONES), [3]),
+        # Nor does any other call. The bits of 5 are word 1's from bit 36 on, and those of 7 its lowest.
+        ("stop", dict(id=5, mark=ALL_ONES), [0], {0: ALL_ONES, 1: ALL_ONES - (63 << 36), 2: ALL_ONES}),
+        ("write", dict(id=5, address=65536, bytes=1), [0, 0, 1], {0: 0, 1: 1 << 36, 2: 0}),
+        ("receive", dict(id=7, data=b"\xaa" * 64, mark=ALL_ONES), [0, 0, 0, 1, 0, 8, 1], {1: ALL_ONES - 7}, [(1048576, 3)]),
+        ("receive", dict(id=5, data=b"\xaa" * 64, mark=ALL_ONES), [0, 0, 0, 0, 0, 0, 2], {1: ALL_ONES - (63 << 36)}, [(65536, 4), (0, 2)]),
+        ("suspend", dict(id=5, type=1, mark=MIXED), [0]),
+        ("resume", dict(id=7, mark=MIXED), [0]),
+        ("batch", batch((5, 65536, 1), (5, 4096, 1)), noted(2, 2), {1: 0b100001 << 36}),
+        ("part", dict(mark=MIXED, **part(ONLY, 0, bytes(48))), *yields(48)),
+    ]),
+    # The bases of controllers that are off are left as they were, by a start too; a stop makes its own 0 and leaves the
+    # others.
+    ("bases", OFF_ANYWHERE, [
+        ("start", dict(id=6, data=structure(0, [(0, 5)]), mark=ALL_ONES),
+         *placed(only_bits(*range(4), *range(9, 14)), 0, 4, 9, 65535, 11, 16384, 0)),
+        ("start", dict(id=10, data=structure(0, [(0, 5)]), mark=ALL_ONES),
+         *placed(only_bits(*range(9)), 0, 60000, 4, 65535, 6, 9, 0)),
+        ("start", dict(id=11, data=structure(0, [(0, 1)]), mark=ALL_ONES),
+         *placed(only_bits(*range(9)), 0, 60000, 4, 65535, 6, 16384, 9)),
+        ("stop", dict(id=5, mark=ALL_ONES), *placed({1: ALL_ONES, 3: ALL_ONES - (15 << 8)}, 0, 60000, 4, 65535, 100, 16384, 0)),
+        ("stop", dict(id=9, mark=ALL_ONES), *placed({1: ALL_ONES - (7 << 36), 3: ALL_ONES}, 200, 60000, 4, 65535, 0, 16384, 0)),
+        *[("stop", dict(id=id, mark=ALL_ONES), [5]) for id in (6, 8, 10, 11)],
+        *[("start", dict(id=id, data=structure(0, [(0, 16376)]), mark=ALL_ONES), [11]) for id in (6, 8, 10, 11)],
+        ("start", dict(id=5, data=ONE, mark=ALL_ONES), [3]),
+        ("resume", dict(id=7, mark=ALL_ONES), *placed({0: ALL_ONES}, 200, 60000, 4, 65535, 100, 16384, 0)),
+        ("write", dict(id=9, address=4096, bytes=1), [0, 0, 1], {1: 1 << 37}, (), NOT_SAID, (200, 60000, 4, 65535, 100, 16384, 0)),
+        ("write", dict(id=6, address=0, bytes=ALL_ONES), [0, 0, 0], only({}), (), NOT_SAID, (200, 60000)),
+    ]),
+]
+
+
+def one_bit_a_word(base, pages):
+    """The units of so many from this base on that the mark 1 makes pending. It sets one bit of each word, bit w modulo 64 of
+    word w: so 0, 65, 130 and so on up to 4,095, and from 4,096 on again."""
+    return [unit for unit in range(pages) if (base + unit) % 4096 % 65 == 0]
+
+
+# Starts that move shares, in the form of ORDERS. Each word that is lent is another, so each that moves can be told. These
+# are played on their records alone: what an unsound one and 255 words answer, other starts have shown.
+MOVES = [
+    # The first and the last words, bit by bit.
+    *[(f"5 at {five} and 7 at {seven}", based(five, None, seven), [
+        ("start", dict(id=6, data=structure(0, [(0, length)]), mark=mark), [0], packed_marks(five, seven, length, mark))
+        for mark in (MIXED, ALL_ONES, 2**63 + 1, 1) for length in (1, 2, 54, 55, 58, 59, 64, 121, 128, 16375)])
+      for five, seven in ((0, 8192), (0, 6), (3, 0), (8192, 16381), (16378, 16375), (63, 60), (61, 127), (9000, 4), (15, 12))],
+    # 6 units go from the lowest bits of a word to bit 0. There the mark 1 has bit w modulo 64 set, if that is one of the 6.
+    *[(f"6's 6 units in word {word}", shares((0, 60000), (6, 64 * word), (0, 0), (0, 0)), [
+        ("start", dict(id=8, data=ONE, mark=1), *placed(only({0: moved}), 60000, 0, 0, 6)),
+        ("start", dict(id=8, data=ONE, mark=MIXED), [0], only({0: rotated(MIXED, word) & 0b111111})),
+        ("start", dict(id=5, data=ONE, mark=1), *placed(only({0: moved << 1}), 0, 1, 0, 0)),
+    ]) for word, moved in (
+        (0, 0b1), (1, 0b10), (2, 0b100), (5, 0b100000), (6, 0), (63, 0), (64, 0b1), (66, 0b100), (130, 0b100), (255, 0))],
+    # Later controllers lie before earlier ones: whole words change places. MIXED rotated by 1 and by 2 stands here in digits.
+    ("a word each, turned", shares((64, 64), (64, 0), (0, 0), (0, 0)), [
+        ("start", dict(id=8, data=ONE, mark=MIXED), *placed(only({0: 0x1CB41E78E00381A3, 1: MIXED}), 0, 64, 0, 128)),
+        ("start", dict(id=8, data=ONE, mark=1), *placed(only_bits(1, 64), 0, 64, 0, 128)),
+    ]),
+    ("three words, turned", shares((64, 128), (64, 64), (64, 0), (0, 0)), [
+        ("start", dict(id=8, data=ONE, mark=MIXED),
+         *placed(only({0: 0x39683CF1C0070346, 1: 0x1CB41E78E00381A3, 2: MIXED}), 0, 64, 128, 192)),
+    ]),
+    ("100 words above 101", shares((6400, 6464), (6464, 0), (0, 0), (0, 0)), [
+        ("start", dict(id=8, data=structure(0, [(0, length)]), mark=mark), *placed(only({
+            **{word: rotated(mark, word + 101) for word in range(100)},
+            **{word: rotated(mark, word - 100) for word in range(100, 201)}}), 0, 6400, 0, 12864))
+        for mark in (MIXED, 1, 2**63) for length in (1, 3520)]),
+    # So do parts of words. The mark 1 has bits 65, 130, 195 and 260 set: unit 1 of 8, unit 0 of 6, none, unit 60 of 5.
+    ("three parts of words, turned", shares((70, 200), (3, 130), (0, 9), (66, 64), (0, 0)), [
+        ("start", dict(id=9, data=structure(0, [(0, 5)]), mark=1), *placed(only_bits(60, 70, 74), 0, 70, 9, 73, 139)),
+        ("start", dict(id=9, data=structure(0, [(0, 16245)]), mark=1), *placed(only_bits(60, 70, 74), 0, 70, 9, 73, 139)),
+        ("start", dict(id=9, data=structure(0, [(0, 16246)]), mark=1), [11]),
+        ("start", dict(id=9, data=structure(0, [(0, 5)]), mark=MIXED), [0]),
+    ]),
+    # The last bit of all. The mark 1 sets it, as 255 modulo 64 is 63; 2 and ALL_ONES - 1 don't.
+    ("6's unit at 16,383", shares((0, 0), (1, 16383), (0, 0), (0, 0)), [
+        *[("start", dict(id=8, data=ONE, mark=mark), *placed(only({0: moved}), 0, 0, 0, 1))
+          for mark, moved in ((1, 1), (2, 0), (ALL_ONES - 1, 0), (ALL_ONES, 1))],
+        ("start", dict(id=5, data=structure(0, [(0, 16383)]), mark=1), *placed(only_bits(16383), 0, 16383, 0, 0)),
+        ("start", dict(id=5, data=structure(0, [(0, 16383)]), mark=ALL_ONES - 1), *placed(only({}), 0, 16383, 0, 0)),
+        ("start", dict(id=5, data=structure(0, [(0, 16384)]), mark=1), [11]),
+    ]),
+    ("6's unit at 16,383 and 5's 6 units", shares((6, 0), (1, 16383), (0, 0), (0, 0)), [
+        ("start", dict(id=8, data=structure(0, [(0, 16377)]), mark=1), *placed(only_bits(0, 6), 0, 6, 0, 7)),
+        ("start", dict(id=8, data=structure(0, [(0, 16378)]), mark=1), [11]),
+    ]),
+    ("6's unit at 0", shares((0, 16383), (1, 0), (0, 0), (0, 0)), [
+        ("start", dict(id=5, data=structure(0, [(0, 16383)]), mark=1), *placed(only_bits(16383), 0, 16383, 0, 0)),
+        ("start", dict(id=5, data=structure(0, [(0, 16383)]), mark=2), *placed(only({}), 0, 16383, 0, 0)),
+    ]),
+    # 200 units go to the left by bits, by a word, and by both.
+    *[(f"6's 200 units at {base}", shares((0, 0), (200, base), (0, 0), (0, 0)), [
+        ("start", dict(id=8, data=ONE, mark=1), *placed(only_bits(*moved), 0, 0, 0, 200)),
+        *[("start", dict(id=8, data=ONE, mark=mark), [0]) for mark in (MIXED, ALL_ONES)],
+    ]) for base, moved in (
+        (0, (0, 65, 130, 195)), (1, (64, 129, 194)), (2, (63, 128, 193)), (63, (2, 67, 132, 197)), (64, (1, 66, 131, 196)),
+        (65, (0, 65, 130, 195)), (127, (3, 68, 133, 198)), (128, (2, 67, 132, 197)), (129, (1, 66, 131, 196)))],
+    # And to the right: they lie from bit 0 on, with units 0, 65, 130 and 195 pending, and 5 starts before them.
+    ("6's 200 units to the right", shares((0, 0), (200, 0), (0, 0), (0, 0)), [
+        ("start", dict(id=5, data=structure(0, [(0, length)]), mark=1), *placed(only_bits(*moved), 0, length, 0, 0))
+        for length, moved in (
+            (1, (1, 66, 131, 196)), (63, (63, 128, 193, 258)), (64, (64, 129, 194, 259)), (65, (65, 130, 195, 260)),
+            (16184, (16184, 16249, 16314, 16379)))] + [
+        ("start", dict(id=5, data=structure(0, [(0, length)]), mark=MIXED), [0]) for length in (1, 63, 64, 65, 128, 16184)]),
+    # Many words over themselves: to the right by up to 131, by none, to the left by up to 130; by a bit more or less too.
+    *[(f"6's 8,000 units at {base}", shares((0, 0), (8000, base), (0, 0), (0, 0)), [
+        ("start", dict(id=5, data=structure(0, [(0, length)]), mark=mark), *placed(
+            only_bits(*[length + unit for unit in one_bit_a_word(base, 8000)]) if mark == 1 else {}, 0, length))
+        for length in (1, 63, 64, 65, 4096, 8383, 8384) for mark in (1, MIXED)]) for base in (0, 1, 63, 64, 4160, 8384)],
+    ("125 words by 131", shares((0, 0), (8000, 0), (0, 0), (0, 0)), [
+        ("start", dict(id=5, data=structure(0, [(0, 8384)]), mark=mark), [0],
+         only({word: rotated(mark, word - 131) for word in range(131, 256)})) for mark in (MIXED, 1, 2**63)]),
+    # Eight with gaps. Of the mark 1's bits they have 65; 130; 195; 260; 325 and 390; 4,095 and 4,096; 16,383.
+    ("eight with gaps", shares((10, 60), (20, 121), (1, 195), (0, 60000), (64, 200), (100, 300), (65, 4095), (3, 16381)), [
+        ("start", dict(id=8, data=structure(0, [(0, 7)]), mark=1),
+         *placed(only_bits(5, 19, 30, 98, 127, 192, 202, 203, 269), 0, 10, 30, 31, 38, 102, 202, 267)),
+        ("start", dict(id=8, data=structure(0, [(0, 1)]), mark=1),
+         *placed(only_bits(5, 19, 30, 92, 121, 186, 196, 197, 263), 0, 10, 30, 31, 32, 96, 196, 261)),
+        ("start", dict(id=8, data=structure(0, [(0, 16121)]), mark=1),
+         *placed(only_bits(5, 19, 30, 16212, 16241, 16306, 16316, 16317, 16383), 0, 10, 30, 31, 16152, 16216, 16316, 16381)),
+        ("start", dict(id=8, data=structure(0, [(0, 16122)]), mark=1), [11]),
+        *[("start", dict(id=8, data=structure(0, [(0, length)]), mark=mark), [0])
+          for mark in (MIXED, ALL_ONES) for length in (1, 33, 97, 16121)],
+    ]),
+    # The same in turned order.
+    ("eight with gaps, turned", shares((3, 16381), (65, 4095), (100, 300), (64, 200), (0, 65535), (1, 195), (20, 121), (10, 60)), [
+        ("start", dict(id=9, data=structure(0, [(0, 7)]), mark=1),
+         *placed(only_bits(2, 3, 4, 93, 158, 228, 239, 249, 265), 0, 3, 68, 168, 232, 239, 240, 260)),
+        *[("start", dict(id=9, data=structure(0, [(0, length)]), mark=mark), [0])
+          for mark in (MIXED, ALL_ONES) for length in (1, 24, 16121)],
+    ]),
+    # Eight shares of 100 units, of which the last starts: the others lie in turned order, with gaps.
+    ("packing of eight", both(identifiers(5, 6, 7, 8, 9, 10, 11, 12), *[
+        tracked(0, (0, 100), place=place, base=16000 - 1000 * place, limit=128) for place in range(7)]), [
+        ("start", dict(id=12, data=structure(0, [(0, length)]), mark=mark), [0])
+        for mark in (MIXED, ALL_ONES) for length in (1, 100, 15684)] + [
+        ("start", dict(id=12, data=structure(0, [(0, 15685)]), mark=MIXED), [11]),
+        ("start", dict(id=12, data=structure(0, [(0, 1)]), mark=ALL_ONES), [0], {
+            **{word: ALL_ONES for word in range(10)}, 10: 2**60 - 1, 11: 0, 255: 0}),
+        ("start", dict(id=12, data=structure(0, [(0, 1)] * 16), mark=2**60), [0]),
+        ("stop", dict(id=9, mark=ALL_ONES), [0], {
+            186: ALL_ONES, 187: 2**32 - 1, 188: 0, 189: ALL_ONES - 15, 190: ALL_ONES}),
+    ]),
+    # The first controller of the settings starts, and all others move up; a controller that is off stands between them.
+    ("packing from below", both(off(0), tracked(0, (0, 64), place=2, base=0), identifiers(5, 6, 7, 8), tracked(8, (0, 70), place=3, base=64)), [
+        *[("start", dict(id=5, data=structure(0, [(0, length)]), mark=mark), [0])
+          for mark in (MIXED, ALL_ONES) for length in (1, 63, 64, 65, 128, 1000, 16250)],
+        ("start", dict(id=5, data=structure(0, [(0, 16251)])), [11]),
+        ("start", dict(id=5, data=structure(0, [(0, 65)]), mark=ALL_ONES), [0], {0: 0, 1: ALL_ONES - 1, 2: ALL_ONES, 3: 0b1111111, 4: 0}),
     ]),
 ]
 
@@ -989,6 +1358,7 @@ def cases():
         yield from every_call(build, said)
         yield from wrong_words(build, said)
         yield from orders(build, said)
+        yield from moves(build, said)
         yield from orders_of_a_part(build, said)
         yield from divided_headers(build, said)
 
@@ -1020,7 +1390,14 @@ def orders(build, said):
         for call, fields, known, *after in calls:
             yield named(Case(record, call, **fields), f"{name}, {call}{said}", known, *after)
             yield Case(unsound, call, **fields).named(f"{name}, {call}{said}, unsound", 1)
-            yield Case(record, call, words=511, **fields).named(f"{name}, {call}{said}, 511 words", 1)
+            yield Case(record, call, words=255, **fields).named(f"{name}, {call}{said}, 255 words", 1)
+
+
+def moves(build, said):
+    for name, change_it, calls in MOVES:
+        record = changed(build, change_it)
+        for call, fields, known, *after in calls:
+            yield named(Case(record, call, **fields), f"{name}, {call}{said}", known, *after)
 
 
 # Of a part of 7, where its sequence is open at 16 and 8 is suspended too: what may be wrong with it, each with the number
@@ -1060,8 +1437,9 @@ def divided_headers(build, said):
 
 
 def named(case, name, known, *after):
-    """The case with its name and what is known: the first numbers, and of some calls mark words, runs and the sequence."""
-    return case.named(name, *known, **dict(zip(("marks", "runs", "sequence"), after)))
+    """The case with its name and what is known: the first numbers, and of some calls mark words, runs, the sequence and
+    bases."""
+    return case.named(name, *known, **dict(zip(("marks", "runs", "sequence", "bases"), after)))
 
 
 def changed(build, change_it):

@@ -1,12 +1,14 @@
 """A case of tests/records and its answer, in the form of RECORDS.md."""
 
+import copy
 import struct
 
+import pool
 from parts import WORD
 
 CALLS = ["fresh", "start", "stop", "write", "receive", "suspend", "resume", "batch", "part"]
 CASE_BYTES = 2944
-MOST_WORDS, MOST_DATA, MOST_AREA = 600, 1024, 4200  # that a case may lend; a part may have more data, zeros past the 1,024
+MOST_WORDS, MOST_DATA, MOST_AREA = 512, 1024, 4200  # that a case may lend; a part may have more data, zeros past the 1,024
 FRONT_BYTES = 64  # of the state area, told one by one
 ROW = struct.Struct("<HQQ")  # of a batch: id, address, bytes
 MOST_ROWS = MOST_DATA // ROW.size
@@ -14,32 +16,40 @@ MEMORY = 2**64
 ALL_ONES = 2**64 - 1
 
 
+def rotated(mark, bits):
+    """A mark word rotated left by so many bits, modulo 64."""
+    return (mark << bits % 64 | mark >> 64 - bits % 64) & ALL_ONES
+
+
 # ---- A case
 
 class Controller:
-    """Tracking is None (off) or (granularity, count). The 16 ranges are pairs of start and length in units."""
+    """Tracking is None (off) or (granularity, count). The base is its share's first bit. The 16 ranges are pairs of start
+    and length in units."""
 
-    def __init__(self, tracking=None, ranges=(), suspended=0):
+    def __init__(self, tracking=None, ranges=(), suspended=0, base=0):
         self.tracking = tracking
         self.suspended = suspended
+        self.base = base
         self.ranges = (list(ranges) + [(0, 0)] * 16)[:16]
 
     def track(self, granularity, *ranges):
-        """Tracks these ranges; what stands in the places behind them stays."""
+        """Tracks these ranges; what stands in the places behind them stays, and so does the base."""
         self.tracking = (granularity, len(ranges))
         self.ranges[:len(ranges)] = ranges
 
     def packed(self):
         granularity, count = self.tracking or (0, 0)
-        numbers = [number for pair in self.ranges for number in pair]
-        return struct.pack("<4B" + "QI" * 16, self.tracking is not None, granularity, count, self.suspended, *numbers)
+        head = (self.tracking is not None, granularity, count, self.suspended, self.base)
+        return struct.pack("<4BH" + "QI" * 16, *head, *[number for pair in self.ranges for number in pair])
 
     def readable(self):
         tracking = "on, granularity {}, count {}".format(*self.tracking) if self.tracking else "off"
         used = self.tracking[1] if self.tracking else 0
         listed = " ".join(map(str, self.ranges[:used])) or "none"
         unused = "rubbish" if any(map(any, self.ranges[used:])) else "zeros"
-        return f"{tracking}, {'suspended' if self.suspended else 'running'}; ranges {listed}, then {unused}"
+        running = "suspended" if self.suspended else "running"
+        return f"{tracking}, {running}; base {self.base}, {pool.units(self)} units; ranges {listed}, then {unused}"
 
 
 class Record:
@@ -79,9 +89,11 @@ NOT_SAID = "not said"
 
 class Case:
     """A record, lent marks, bytes and state area, and one call. `known` are the answer's first numbers, as far as known by
-    hand, the row 0 unless said; of some done calls also mark words, runs and the sequence that is left are known."""
+    hand, the row 0 unless said; of some done calls also mark words, runs, the sequence that is left and bases are known."""
 
-    def __init__(self, record, call, id=0, address=0, bytes=0, type=0, data=b"", records=0, words=512, mark=0,
+    share_damaged = False  # a random case whose record was damaged in a share's place
+
+    def __init__(self, record, call, id=0, address=0, bytes=0, type=0, data=b"", records=0, words=pool.WORDS, mark=0,
                  indicator=0, low=0, high=0, count=0, area=0, fill=0, front=b""):
         self.record = record
         self.call = call
@@ -91,9 +103,11 @@ class Case:
         self.indicator, self.low, self.high, self.count = indicator, low, high, count
         self.area, self.fill, self.front = area, fill, front.ljust(FRONT_BYTES, b"%c" % fill)
 
-    def named(self, name, *known, marks=None, runs=(), sequence=NOT_SAID):
-        """The marks are by the number of their word; the runs are pairs of address and length in units."""
+    def named(self, name, *known, marks=None, runs=(), sequence=NOT_SAID, bases=()):
+        """The marks are by the number of their word; the runs are pairs of address and length in units; the bases are those of
+        the first controllers, in their order."""
         self.name, self.known_marks, self.known_runs, self.known_sequence = name, marks or {}, runs, sequence
+        self.known_bases = bases
         self.known = (*known, 0) if len(known) == 1 else known
         return self
 
@@ -103,6 +117,10 @@ class Case:
         part = struct.pack("<BIIIHB", self.indicator, self.low, self.high, self.count, self.area, self.fill) + self.front
         return (self.record.packed() + fields + part).ljust(CASE_BYTES, b"\0")
 
+    def lent_words(self):
+        """The lent marks. Words near each other differ, save for 0 and all ones, so that one that moved can be told."""
+        return ([rotated(self.mark, bits) for bits in range(64)] * (MOST_WORDS // 64))[:self.words]
+
     def lent_area(self):
         """The state area: the front, and behind it one byte again and again. Only a part is lent one."""
         return (self.front + b"%c" % self.fill * MOST_AREA)[:self.area]
@@ -110,7 +128,7 @@ class Case:
     def readable(self):
         yield f"case: {self.name}"
         yield from self.record.readable()
-        yield f"marks: {self.words} words of {self.mark:#x}"
+        yield f"marks: {self.words} words, of which word w is {self.mark:#x} rotated left by w modulo 64 bits"
         yield (f"call: {self.call}, id {self.id}, address {self.address}, bytes {self.bytes}, type {self.type}, "
                f"{len(self.data)} lent bytes {self.data.hex()}")
         if self.call == "batch":
@@ -123,7 +141,8 @@ class Case:
             marks = "".join(f", mark word {word} {mark:#x}" for word, mark in self.known_marks.items())
             runs = "".join(f", run {one}" for one in self.known_runs)
             sequence = "" if self.known_sequence == NOT_SAID else f", sequence {self.known_sequence}"
-            yield f"documents 01 and 02 ask for: {numbers}{marks}{runs}{sequence}"
+            bases = f", bases {list(self.known_bases)}" if self.known_bases else ""
+            yield f"documents 01 and 02 ask for: {numbers}{marks}{runs}{sequence}{bases}"
 
 
 def in_room(lent, room):
@@ -155,6 +174,9 @@ def part(indicator, offset, data, id=7, count=None, area=4096, fill=0xEE, front=
 NUMBERS = ["refusal", "row", "count", "suspended", "more", "granularity", "runs", "notes done", "cut", "whole"]
 PACKED_NUMBERS = struct.Struct("<BBQBBBQQBQ")
 ROW_RULES = (19, 20, 21)  # a start that is refused with one of these answers its row; every other row is 0
+OWN_NUMBERS = {  # behind the row, of a done call; all others are 0
+    "write": {"count"}, "batch": {"count", "notes done", "cut"}, "receive": {"suspended", "more", "granularity", "runs"},
+}
 
 
 def record_fields():
@@ -164,6 +186,7 @@ def record_fields():
     for place in range(8):
         for name in ("tracking", "granularity", "count of ranges", "suspended"):
             yield f"controller {place}: {name}", 1
+        yield f"controller {place}: base", 2
         for row in range(16):
             yield f"controller {place}: start of range {row}", 8
             yield f"controller {place}: length of range {row}", 4
@@ -209,26 +232,89 @@ def asked_for(case, answer):
     """The answer that the documents ask for; of a random case as far as its number alone tells. Of a refused call all is
     known: the number, the row, zeros, and what was given (of a fresh the closed device). So it is of a batch by hand whose
     numbers are all known: what was given, save the mark words named; and of a done part, save its own bytes of the area and
-    the sequence. Of another done call the first numbers are known and what it leaves as given, its sequence among it, at
-    times some mark words and runs, and the rest is taken to be as answered."""
+    the sequence. Of another done call the first numbers are known, the record and all marks, but for the bits that a write,
+    a batch or a report may change, at times some mark words, runs and bases, and the rest is taken to be as answered."""
     known = case.known or as_answered(case.call, *answer[:2])
     if known[0] or case.call == "batch" and len(known) == len(NUMBERS):
         return given(case, known, case.record.sequence)
     if case.call == "part":
         return given(case, known if len(known) == len(NUMBERS) else finished(case), sequence_left(case))
     asked = bytearray(answer)
-    PACKED_NUMBERS.pack_into(asked, 0, *known, *numbers_of(answer)[len(known):])
-    if case.call in ("write", "batch", "receive"):
-        asked[RECORD_AT:MARKS_AT] = case.record.packed()
+    record, words, count = left(case, struct.unpack_from(f"<{pool.WORDS}Q", answer, MARKS_AT))
+    answered = {**dict(zip(NUMBERS, numbers_of(answer))), "count": count}
+    own = OWN_NUMBERS.get(case.call, ())
+    numbers = [answered[name] if name in own else 0 for name in NUMBERS]
+    PACKED_NUMBERS.pack_into(asked, 0, *known, *numbers[len(known):])
+    asked[RECORD_AT:MARKS_AT] = record.packed()
+    asked[MARKS_AT:DATA_AT] = struct.pack(f"<{pool.WORDS}Q", *words).ljust(8 * MOST_WORDS, b"\0")
     if case.call != "receive":
         asked[DATA_AT:AREA_AT] = in_room(case.data, MOST_DATA)
-    asked[SEQUENCE_AT:MARKS_AT] = packed_sequence(sequence_left(case))
     asked[AREA_AT:] = bytes(MOST_AREA)
     for word, mark in case.known_marks.items():
         struct.pack_into("<Q", asked, MARKS_AT + 8 * word, mark)
     for row, (address, length) in enumerate(case.known_runs):
         struct.pack_into("<QII", asked, DATA_AT + 16 + 16 * row, address, length, 0)
+    for place, base in enumerate(case.known_bases):
+        struct.pack_into("<H", asked, RECORD_AT + 35 + 198 * place, base)
     return bytes(asked)
+
+
+# ---- What a done call leaves
+
+def left(case, answered):
+    """The record, the mark words and the count that a done call leaves, other than a part. Of the marks only a write, a
+    batch and a report have some that are taken from the answer: bits of their controllers' shares, of which notes set some
+    that were clear, as many as they count, and a report clears some that were set."""
+    if case.call == "fresh":
+        return fresh(case.record), [0] * pool.WORDS, 0
+    record, count = copy.deepcopy(case.record), 0
+    record.sequence = sequence_left(case)
+    one = called(record, case.id)
+    marks, answered = pool.as_number(case.lent_words()), pool.as_number(answered)
+    if case.call == "start":
+        granularity, listed = data_listed(case.data)
+        one.tracking, one.ranges = (granularity, len(listed)), (listed + [(0, 0)] * 16)[:16]
+        marks = pool.packed(record, one, marks)
+    if case.call == "stop":
+        marks &= ~pool.mask(one)
+        one.__init__()
+    if case.call == "suspend":
+        one.suspended |= case.type
+    if case.call == "resume":
+        one.suspended = 0
+    if case.call in ("write", "batch"):
+        noted = answered & (pool.mask(one) if case.call == "write" else pool.masks(record))
+        marks, count = marks | noted, bin(noted & ~marks).count("1")
+    if case.call == "receive":
+        marks &= answered | ~pool.mask(one)
+    return record, pool.as_words(marks), count
+
+
+def moves(case, record):
+    """Whether a call that leaves this record moves a share in which a unit is pending."""
+    marks = pool.as_number(case.lent_words())
+    pairs = zip(pool.used(case.record), pool.used(record))
+    return any(marks & pool.mask(one) for one, after in pairs if after.tracking and one.base != after.base)
+
+
+def fresh(record):
+    """The fresh device of these settings: zeros in every place that is not used."""
+    made = Record()
+    for name in ("manager", "least", "greatest", "rule", "limit", "count"):
+        setattr(made, name, getattr(record, name))
+    made.identifiers = (record.identifiers[:min(record.count, 8)] + [0] * 8)[:8]
+    return made
+
+
+def called(record, id):
+    """The controller in use of this identifier. Only where the call should have been refused is there none."""
+    return next((one for name, one in zip(record.identifiers, pool.used(record)) if name == id), Controller())
+
+
+def data_listed(data):
+    """Granularity and ranges of a start structure."""
+    count = int.from_bytes(data[4:8], "little")
+    return data[3], list(struct.iter_unpack("<QI", data[8:8 + 12 * min(count, 16)]))
 
 
 def given(case, known, sequence):
@@ -236,7 +322,7 @@ def given(case, known, sequence):
     done part's own bytes of the area."""
     numbers = PACKED_NUMBERS.pack(*known, *[0] * (len(NUMBERS) - len(known)))
     record = CLOSED if case.call == "fresh" else case.record.packed()[:-SEQUENCE_BYTES] + packed_sequence(sequence)
-    words = [case.known_marks.get(word, case.mark) for word in range(case.words)]
+    words = [case.known_marks.get(word, mark) for word, mark in enumerate(case.lent_words())]
     marks = struct.pack(f"<{case.words}Q", *words).ljust(8 * MOST_WORDS, b"\0")
     area = case.lent_area()
     if case.call == "part" and not known[0]:

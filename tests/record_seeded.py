@@ -2,6 +2,7 @@
 
 import random
 
+import pool
 from bad_rows import with_bad_rows
 from batches import MOST_TAKEN, bad_note
 from overlap import beside_another, different_units
@@ -22,13 +23,14 @@ class Maker:
     def __init__(self, seed):
         self.random = random.Random(seed)
         self.place = 0  # the called controller's
+        self.share_damaged = False
 
     def chance(self, share):
         return self.random.random() < share
 
     def case(self):
         # A start has the most ways to be refused, and a part nearly as many.
-        call = self.random.choice(CALLS + ["start"] * 2 + ["part"])
+        call = self.random.choice(CALLS + ["start"] * 3 + ["part"])
         self.record = self.sound_record()
         if self.chance(0.5):
             # A fresh looks at the settings alone.
@@ -36,7 +38,9 @@ class Maker:
         self.called = self.identifier(call)
         fields = {"id": self.called, "mark": self.mark(), "words": self.words()}
         fields.update(getattr(self, call + "_fields", dict)())
-        return Case(self.record, call, **fields)
+        case = Case(self.record, call, **fields)
+        case.share_damaged = self.share_damaged
+        return case
 
     # Sound records
 
@@ -53,14 +57,16 @@ class Maker:
         record.least, record.greatest = sorted(pick.choice([0, 0, 1, 8, 12, 19, 20]) for _ in range(2))
         record.rule = int(self.chance(0.4))
         for place, one in enumerate(record.controllers):
+            one.base = self.number(16) % 2**16
             if self.chance(0.6):
                 one.ranges = [(self.number(64), self.number(32)) for _ in range(16)]
             if place >= record.count:
                 one.tracking = pick.choice([None, (0, 1), (pick.randrange(256), pick.randrange(256))])
-            elif self.chance(0.5):
+            elif self.chance(0.5) and self.units_left():
                 granularity = pick.randint(record.least, record.greatest)
                 one.track(granularity, *self.ranges(granularity))
             one.suspended = int(self.chance(0.25))
+        self.lay_shares()
         # Often little or nothing of the limit is left.
         record.limit = min(128, self.taken() + pick.choice([0, 0, 1, 2, 16, 128, 128, 128]))
         suspended = self.used_places(lambda one: one.suspended)
@@ -73,15 +79,43 @@ class Maker:
         pick = self.random
         return pick.choice([4, 8, 16, 20, 32, 36, 44, 48, 48, 52, 60, 64, 68, 4088, 4092, 4096, 4 * pick.randrange(1, 1025)])
 
+    def lay_shares(self):
+        """Puts the shares into the pool, in any order with any gaps; often as a start leaves them, or side by side. Gaps are
+        small or great, or up to the edge of a word; the last share often ends with the pool."""
+        pick = self.random
+        tracked = [one for one in pool.used(self.record) if one.tracking]
+        if self.chance(0.7):
+            pick.shuffle(tracked)
+        room = pool.POOL - sum(map(pool.units, tracked))
+        gaps, at = pick.choice([[0], [0, 0, 1, 2], [0, 1, 63, 64, 65, 1000], [room // 2, room, 0]]), 0
+        for number, one in enumerate(tracked):
+            gap = pick.choice(gaps + [-at % 64]) if gaps != [0] else 0
+            if number + 1 == len(tracked) and self.chance(0.3):
+                gap = room
+            gap = min(gap, room)
+            one.base, at, room = at + gap, at + gap + pool.units(one), room - gap
+
+    def units_taken(self):
+        return sum(map(pool.units, pool.used(self.record)))
+
+    def units_left(self):
+        """How many units the pool has beside those tracked; 0 where a damaged record has too many."""
+        return max(0, pool.POOL - self.units_taken())
+
     def taken(self):
         used = self.record.controllers[:min(self.record.count, 8)]
         return sum(one.tracking[1] for one in used if one.tracking)
 
     def ranges(self, granularity):
-        """Ranges that keep the rules 18 to 21, 10 and 11, in any order; half of the lists overlap, some end at 2^64."""
+        """Ranges that keep the rules 18 to 21, 10 and 11, in any order; half of the lists overlap, some end at 2^64. Most are
+        small, so that many fit the pool; some take half of what is left of it, or all."""
         pick, unit = self.random, 4096 << granularity
+        left = self.units_left()
+        great = pick.choice([left, left, left // 2, left // 3]) if self.chance(0.2) else 0
         lengths = self.lengths(pick.choice([1, 2, 2, 3, 3, 4, 8, 15, 16]))
-        rows = self.pushed_together(lengths) if self.chance(0.5) else self.apart(lengths)
+        rows = self.pushed_together(lengths, great) if self.chance(0.5) else self.apart(self.grown(lengths, great))
+        if different_units(1, rows) > left:
+            rows = rows[:1] if rows[0][1] <= left else [(rows[0][0], 1)]
         room = MEMORY // unit - max(at + length for at, length in rows)
         base = pick.choice([0, 0, 16, room, pick.randrange(room + 1)])
         if self.chance(0.5):
@@ -96,32 +130,38 @@ class Maker:
             at += length
         return rows
 
-    def pushed_together(self, lengths):
-        """Each row has to do with one before it. Often more units are listed than there may be different ones."""
+    def pushed_together(self, lengths, great):
+        """Each row has to do with one before it. Often more units are listed than there are different ones."""
         pick = self.random
         rows = [(pick.choice([0, 1, 300]), lengths[0])]
         for length in lengths[1:]:
             length = pick.choice([length, length, length, pick.choice(rows)[1]])
             rows.append((beside_another(pick, rows, length), length))
-        missing = 4096 - different_units(1, rows)
-        if missing > 0 and not self.record.rule and self.chance(0.1):
-            # As many different units as may be: the row that ends last is made longer.
+        missing = great - different_units(1, rows)
+        if missing > 0 and not self.record.rule:
+            # The row that ends last is made longer, up to so many different units.
             row = max(range(len(rows)), key=lambda one: sum(rows[one]))
             rows[row] = (rows[row][0], rows[row][1] + missing)
-        return rows if missing >= 0 else rows[:1]
+        elif missing > 0:
+            rows[0] = (rows[0][0], 2 ** (great.bit_length() - 1))
+        return rows
 
     def lengths(self, count):
         pick = self.random
         small, great = [1, 1, 1, 2, 2, 4, 8], [16, 32, 64, 128, 256]
         if not self.record.rule:
             small, great = small + [3, 5, 7], great + [31, 63, 65, 127, 129, 200]
-        lengths = [pick.choice(small if self.chance(0.85) else great) for _ in range(count)]
-        if self.chance(0.05):
-            # As many units as may be: a single range of all, or the rest put to the first.
-            lengths[0] += 4096 - sum(lengths)
-            if self.record.rule:
-                lengths = pick.choice([[4096], [2048, 2048], [256] * 16])
-        return lengths
+        return [pick.choice(small if self.chance(0.85) else great) for _ in range(count)]
+
+    def grown(self, lengths, great):
+        """These lengths with the rest of so many units put to the first; with the rule on, powers of two that are no more."""
+        missing = great - sum(lengths)
+        if missing <= 0:
+            return lengths
+        if not self.record.rule:
+            return [lengths[0] + missing, *lengths[1:]]
+        power = 2 ** (great.bit_length() - 1)
+        return self.random.choice([[power], [power // 2] * 2, [power // 16] * 16] if power >= 16 else [[power]])
 
     def number(self, bits):
         pick = self.random
@@ -135,7 +175,7 @@ class Maker:
         self.one = pick.choice(tracked_ones or used)
         damages = [self.damage_settings, self.damage_tracking, self.damage_sequence]
         if tracked_ones:
-            damages += [self.damage_tracking, self.damage_limit] + [self.damage_range] * 4
+            damages += [self.damage_tracking, self.damage_limit] + [self.damage_range] * 4 + [self.damage_share] * 3
         pick.choice(damages)()
 
     def damage_limit(self):
@@ -170,6 +210,22 @@ class Maker:
             one.tracking = (granularity, pick.choice([0, count - 1, count + 1, 16, 17, 18, 255]) % 256)
             record.limit = pick.choice([record.limit, 128])
 
+    def damage_share(self):
+        """A base at or about the end of the pool, or about another share's ends; or a share that grows by a unit."""
+        record, pick, one = self.record, self.random, self.one
+        self.share_damaged = True
+        units = pool.units(one)
+        others = [other for other in pool.used(record) if other.tracking and other is not one]
+        other = pick.choice(others or record.controllers)
+        end = other.base + pool.units(other)
+        bases = [pool.POOL - units, pool.POOL - units + 1, pool.POOL - 1, pool.POOL, 2**16 - units, 2**16 - 1]
+        beside = [other.base, other.base - units, other.base - units + 1, end, end - 1, (other.base + end) // 2]
+        one.base = pick.choice(bases + beside * (2 if others else 0)) % 2**16
+        if self.chance(0.2):
+            granularity, count = one.tracking
+            start, length = one.ranges[count - 1]
+            one.ranges[count - 1] = (start, length + 1)
+
     def damage_sequence(self):
         """An end that is none, or an owner that may run, be unknown or stand in an unused place."""
         record, pick = self.record, self.random
@@ -188,7 +244,7 @@ class Maker:
         start, length = one.ranges[row]
         beside, beside_length = one.ranges[other]
         start, length = pick.choice([
-            *[(start, new) for new in (0, length + 1, 3, 4096, 4097, 2**32 - 1, pick.getrandbits(32))],
+            *[(start, new) for new in (0, length + 1, 3, 4097, 16384, 16385, 2**32 - 1, pick.getrandbits(32))],
             *[(new, length) for new in (start + 1, start + unit // 2, start - 4096, start ^ 2**63)],
             (beside, length),
             (beside + (beside_length - 1) * unit, length),
@@ -234,7 +290,7 @@ class Maker:
         return pick.choice([0, 0, ALL_ONES, 0x5555555555555555, 1, 2**63, 6, sparse, pick.getrandbits(64)])
 
     def words(self):
-        return self.random.choice(WRONG_WORDS) if self.chance(0.04) else 512
+        return self.random.choice(WRONG_WORDS) if self.chance(0.04) else pool.WORDS
 
     def start_fields(self):
         record, pick = self.record, self.random
@@ -243,7 +299,9 @@ class Maker:
         if self.chance(0.25):
             # Just enough of the limit is left, or one too few.
             record.limit = min(128, self.taken() + len(parts["ranges"]) - pick.choice([0, 1]))
-        if self.chance(0.6):
+        elif self.chance(0.15):
+            self.fill_pool(parts)
+        if self.chance(0.5):
             pick.choice([self.damage_header] * 2 + [self.damage_listed] * 4 + [self.damage_rows] * 4)(parts)
         data = structure(reserved=pick.choice([0, 0, pick.getrandbits(16)]), **parts)
         if self.chance(0.1):
@@ -251,6 +309,15 @@ class Maker:
         elif self.chance(0.2):
             data += pick.randbytes(pick.choice([1, 12, 100]))
         return {"data": data}
+
+    def fill_pool(self, parts):
+        """The start's last range is made longer, so that the pool is just full, or has a unit too few."""
+        *others, (start, _) = parts["ranges"]
+        unit = 4096 << parts["granularity"]
+        missing = self.units_left() - different_units(unit, others) + self.random.choice([-1, 0, 0, 1])
+        start = 2**63 if others and start < 2**62 else start
+        if missing > 0 and start + missing * unit <= MEMORY:
+            parts["ranges"] = [*others, (start, missing)]
 
     def damage_header(self, parts):
         record, pick, number = self.record, self.random, len(parts["ranges"])
@@ -268,9 +335,9 @@ class Maker:
         start, length = listed[row]
         far = (start + 2**63) % MEMORY  # from the others, so that it is the units that are too many
         listed[row] = pick.choice([
-            *[(start, new) for new in (0, 3, 3, max(1, length - 1), length + 1, 4096, 2**32 - 1)],
-            (far, 4096),
-            (far, 4097),
+            *[(start, new) for new in (0, 3, 3, max(1, length - 1), length + 1, 16384, 2**32 - 1)],
+            (far, max(1, self.units_left())),
+            (far, self.units_left() + 1),
             ((start + 1) % MEMORY, length),
             (pick.choice(listed)[0], length),
             (MEMORY - unit, pick.choice([1, 2])),

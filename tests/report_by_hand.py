@@ -151,6 +151,7 @@ FIELDS = [
     ("they touch, later one below", Report((69632, 1), (65536, 1)), DONE),
     ("address 0", Report((0, 1)), DONE),
     ("more than 4,096 units", Report((0, 4097)), DONE),
+    ("as many units as the pool has, and one more", Report((0, 16384), (0, 16385)), DONE),
     ("all of memory at granularity 20, save a unit", Report((0, 2**32 - 1), granularity=20), DONE),
 ]
 

@@ -1,4 +1,5 @@
-"""Sessions from a seed, aimed where errors live: edges of ranges and units, overlaps, small buffers, limits that are hit.
+"""Sessions from a seed, aimed where errors live: edges of ranges and units, overlaps, small buffers, limits that are hit, and
+a pool that is filled, left with gaps and packed again.
 
 The maker keeps a guess of how the session stands, good enough to aim and not good enough to answer: the answers come from
 the two programs alone. Session K of seed N is always the same.
@@ -12,6 +13,7 @@ from damaged import damage
 from overlap import beside_another, different_units
 
 END = 2 ** 64
+POOL = 16_384  # units of all controllers together (document 02, W7)
 
 
 def cases(seed, count):
@@ -41,7 +43,9 @@ class Maker:
         self.suspended = set()  # guess
         self.written = set()    # guess: identifiers with pending units
         self.damaged = dice.choice([0, 0, 0.02, 0.02, 0.3])
-        self.big = dice.random() < 0.15      # ranges of about 4,096 units in all
+        # how much of the pool a start asks for: a little, at times a good part, or about all that is left
+        self.pool = dice.choice(["little", "little", "little", "part", "part", "all"])
+        self.changing = dice.random() < 0.5  # controllers stop and start often, so that the shares of others move
         self.overlaps = dice.choice([0, 0.5, 0.5, 1, 1])  # how often a list of ranges is pushed together
         self.small_buffers = dice.random() < 0.6
 
@@ -51,10 +55,11 @@ class Maker:
         """Settings that are done, so that a session never depends on the one before."""
         dice = self.dice
         names = dice.sample([0, 1, 2, 3, 5, 6, 7, 255, 256, 257, 4096, 32768, 65534, 65535], 9)
-        self.manager, self.identifiers = names[0], names[1:1 + dice.choice([1, 2, 2, 3, 3, 5, 8])]
+        self.manager, self.identifiers = names[0], names[1:1 + dice.choice([3, 4, 5, 8] if self.changing else [1, 2, 2, 3, 3, 5, 8])]
         self.least, self.greatest = dice.choice([(0, 0), (0, 8), (0, 8), (0, 20), (0, 20), (8, 8), (20, 20), (3, 12)])
         self.rule = dice.choice([0, 0, 0, 1])
-        self.limit = dice.choice([dice.choice([0, 1, 2, 3, 8]), 16, 16, 33, 64, 127, 128, 128, 128, 128])
+        limits = [16, 33, 64] if self.changing else [dice.choice([0, 1, 2, 3, 8]), 16, 16, 33, 64, 127]
+        self.limit = dice.choice([*limits, 128, 128, 128, 128])
         self.tracked, self.suspended, self.written = {}, set(), set()
         return self.words("dev", self.manager, self.least, self.greatest, self.rule, self.limit, *self.identifiers)
 
@@ -90,7 +95,9 @@ class Maker:
         if not self.tracked:
             kinds = [(self.start, 70), (self.write, 3), (self.recv, 2), (self.susp, 2), (self.resume, 2), (self.dev, 3)]
         elif len(self.tracked) < len(self.identifiers):
-            kinds.append((self.start, 12))
+            kinds.append((self.start, 12 if not self.changing else 90 if len(self.tracked) < 3 else 20))
+        if len(self.tracked) > 1 and self.changing:
+            kinds += [(self.stop, 6), (self.change, 20)]
         if self.written:
             kinds += [(self.recv, 24), (self.drain, 6)]
         if self.suspended:
@@ -110,8 +117,9 @@ class Maker:
         wanted = [one for one in self.identifiers if one in wanted]
         return self.dice.choice(wanted if wanted and luck < 0.93 else self.identifiers)
 
-    def stop(self):
-        identifier = self.identifier(set(self.tracked) - self.suspended)
+    def stop(self, kept=None):
+        """Of one that may stop, mostly, other than the one that is kept."""
+        identifier = self.identifier(set(self.tracked) - self.suspended - {kept})
         if identifier not in self.suspended:
             self.tracked.pop(identifier, None)
         return self.words("stop", identifier)
@@ -127,14 +135,23 @@ class Maker:
         self.suspended.discard(identifier)
         return self.words("resume", identifier)
 
-    def recv(self):
+    def recv(self, identifier=None):
         small = [16, 31, 32, 32, 33, 47, 47, 48, 48, 63, 64, 79, 80, self.dice.randrange(65)]
         large = [128, 271, 272, 1024, 4095, 4096, 4096, self.dice.randrange(4097)]
         buffer = self.dice.choice(small if self.small_buffers or self.dice.random() < 0.5 else large)
-        identifier = self.identifier(self.written & set(self.tracked) or self.tracked)
+        if identifier is None:
+            identifier = self.identifier(self.written & set(self.tracked) or self.tracked)
         if buffer >= 64 or self.dice.random() < 0.3:
             self.written.discard(identifier)
         return self.words("recv", identifier, buffer)
+
+    def change(self):
+        """One writes, another stops and one starts, which moves the first one's share, mostly; then the first one's report."""
+        writer = self.writer()
+        written = self.scattered(writer) if self.dice.random() < 0.7 else [self.aimed(writer)]
+        notes = [self.words("write", writer, *one) for one in written]
+        moves = [self.stop(writer), self.start()] if self.dice.random() < 0.7 else [self.start()]
+        return [*notes, *moves, self.recv(writer)]
 
     # ---- start
 
@@ -156,7 +173,11 @@ class Maker:
         return (identifier in self.identifiers and identifier not in self.tracked and identifier not in self.suspended
                 and self.least <= granularity <= self.greatest and counts <= self.limit
                 and all(address % unit == 0 and address + unit * length <= END for address, length in ranges)
-                and different_units(unit, ranges) <= 4096)
+                and different_units(unit, ranges) <= self.left())
+
+    def left(self):
+        """How many units of the pool are left, as far as the maker can tell."""
+        return POOL - sum(different_units(2 ** (12 + granularity), ranges) for granularity, ranges in self.tracked.values())
 
     def granularity(self):
         if self.dice.random() < 0.03:
@@ -168,30 +189,44 @@ class Maker:
         lengths = [self.length() for _ in range(self.dice.choice([1, 1, 2, 2, 3, 4, 6, 16]))]
         if self.dice.random() < 0.8:
             lengths = lengths[:max(1, self.limit // 2)]
-        if self.big:
-            lengths[-1] = max(1, 4096 - sum(lengths[:-1]) + self.dice.choice([-1, 0, 0, 0, 1]))
+        great = self.great()
+        if great > sum(lengths):
+            lengths[-1] = self.allowed(great - sum(lengths[:-1]))
         rows, at = [], 0
         for length in lengths:
             at += self.dice.choice([0, 0, 0, 1, 1, 2, 63, 64, 1000])
             rows.append((at, length))
             at += length
         if self.dice.random() < self.overlaps:
-            rows = self.pushed_together(rows)
+            rows = self.pushed_together(rows, great)
         base = self.base(unit, max(at + length for at, length in rows))
         if self.dice.random() < 0.5:
             self.dice.shuffle(rows)
         return [(min(base + unit * row, END - unit), length) for row, length in rows]
 
-    def pushed_together(self, rows):
+    def great(self):
+        """How many units the ranges are to have in all, if these are many; else 0."""
+        dice, left = self.dice, self.left()
+        if self.pool == "all":
+            return dice.choice([left - 1, left, left, left, left + 1, left // 2, left // 3])
+        if self.pool == "part" and dice.random() < 0.5:
+            return dice.choice([left // 2, left // 3, left // 5, 64 * dice.randint(1, 40), dice.randint(1, 4097)])
+        return 0
+
+    def allowed(self, length):
+        """The length, or mostly, with the power-of-two rule on, the power of two below it."""
+        return 2 ** (length.bit_length() - 1) if self.rule and self.dice.random() < 0.9 else length
+
+    def pushed_together(self, rows, great):
         """Each row after the first is put where it has to do with one before it, mostly."""
         dice, placed = self.dice, rows[:1]
         for at, length in rows[1:]:
             length = dice.choice([length, length, length, dice.choice(placed)[1]])
             placed.append((beside_another(dice, placed, length) if dice.random() < 0.9 else at, length))
-        if self.big:  # the row that ends last is made longer, until all have as many different units as may be, or one more
+        missing = great - different_units(1, placed)
+        if missing > 0:  # the row that ends last is made longer, until all have so many different units
             row = max(range(len(placed)), key=lambda one: sum(placed[one]))
-            missing = 4096 + dice.choice([-1, 0, 0, 0, 1]) - different_units(1, placed)
-            placed[row] = (placed[row][0], placed[row][1] + max(0, missing))
+            placed[row] = (placed[row][0], self.allowed(placed[row][1] + missing))
         return placed
 
     def length(self):
@@ -225,7 +260,7 @@ class Maker:
         if kind == 4:
             ranges.append((END - unit, dice.choice([1, 2, 2 ** 32 - 1])))
         if kind == 5:
-            ranges[at] = (address, dice.choice([3, 4096, 4097, 65536, 2 ** 31, 2 ** 32 - 1]))
+            ranges[at] = (address, dice.choice([3, 4097, 16384, 16385, max(1, self.left()), self.left() + 1, 65536, 2 ** 31, 2 ** 32 - 1]))
         if kind == 6:
             granularity = dice.choice([0, self.greatest + 1, 255])
         if kind == 7:  # the descriptor limit counts listed ranges, and 17 are bad
@@ -265,13 +300,16 @@ class Maker:
         return address, self.bytes(unit, length - number, address)
 
     def scattered(self, identifier):
-        """Written ranges of a byte, a sector or a unit, each in another unit."""
-        unit, ranges = self.tracked_by(identifier)
-        step = self.dice.choice([1, 2, 2, 3, 16])
-        addresses = sorted({start + unit * number for start, length in ranges for number in range(0, length, step)})
+        """Written ranges of a byte, a sector or a unit, each in another unit; in long ranges more about their ends."""
+        dice, (unit, ranges) = self.dice, self.tracked_by(identifier)
+        step = dice.choice([1, 2, 2, 3, 16])
+        addresses = set()
+        for start, length in ranges:
+            few = range(0, length, step) if length < 300 else [*range(0, 200, step), *range(length - 100, length), *dice.sample(range(length), 50)]
+            addresses.update(start + unit * number for number in few)
         self.written.add(identifier)
-        chosen = self.dice.sample(addresses, min(len(addresses), self.dice.choice([2, 3, 5, 8, 12])))
-        return [(address, self.dice.choice([1, 1, 1, 512, unit])) for address in chosen]
+        chosen = dice.sample(sorted(addresses), min(len(addresses), dice.choice([2, 3, 5, 8, 12])))
+        return [(address, dice.choice([1, 1, 1, 512, unit])) for address in chosen]
 
     def drain(self):
         """A suspended controller's reports, until More To Report may be clear."""

@@ -1,8 +1,9 @@
 //! The device and its calls (document 01, "Refusal numbers" to "The report").
 //!
 //! The marks are kept here as a set of pending units for each controller, not as words of bits; so the rule about
-//! "512 lent words" has no counterpart here, and refusal 1 is about the record alone, and in W6 about the state area.
-//! (`records` lends words.)
+//! "256 lent words" (W7) has no counterpart here, and refusal 1 is about the record alone, and in W6 about the state area.
+//! (`records` lends words.) A share that moves is another base in the record, and the sets stay as they are: "moving marks
+//! changes no pending unit".
 
 use std::collections::{BTreeMap, BTreeSet};
 
@@ -63,7 +64,8 @@ impl Device {
     }
 
     /// Start: 1, 2, 4, 3, 8 (header), 6, 7, 8 (listed ranges), 18, then row by row 19, 20 and 21, then 10, 11, 12.
-    /// "An accepted start clears the controller's 64 words and records granularity and ranges."
+    /// "An accepted start clears the controller's 64 words and records granularity and ranges." W7: "A share stands for
+    /// 01's 64 words".
     pub fn start(&mut self, id: u64, buffer: &[u8]) -> Result<(), Reason> {
         let controller = self.controller(id)?;
         if controller.suspended {
@@ -93,7 +95,7 @@ impl Device {
         if power_of_two_broken(&self.record.settings, &ranges) {
             return Err(POWER_OF_TWO.into());
         }
-        if too_many_units(header.granularity, &ranges) {
+        if too_many_units(&self.record, header.granularity, &ranges) {
             return Err(TOO_MANY_UNITS.into());
         }
         if limit_passed(&self.record, ranges.len()) {
@@ -107,10 +109,30 @@ impl Device {
         controller.tracking = Tracking::On { granularity: header.granularity, count: header.count };
         controller.ranges = places;
         self.pending.insert(id, BTreeSet::new());
+        self.pack();
         Ok(())
     }
 
-    /// Stop: 1, 2, 4, 5. "An accepted stop clears them again and forgets the ranges."
+    /// READINGS 7.2: "tracked shares stand one after another from bit 0 in the order of the settings, the new one in its
+    /// place among them".
+    ///
+    /// So all tracked units are put in one row, each told by its controller's place, and a share begins where its first
+    /// unit stands there. A controller that is off stands nowhere, and its base is left as it was.
+    fn pack(&mut self) {
+        let used = self.record.settings.used_identifiers().len();
+        let mut row = Vec::new();
+        for (place, controller) in self.record.controllers.iter().take(used).enumerate() {
+            row.extend(units(controller).map(|_| place));
+        }
+        for (place, controller) in self.record.controllers.iter_mut().take(used).enumerate() {
+            if let Some(first) = row.iter().position(|other| *other == place) {
+                controller.base = first as u64;
+            }
+        }
+    }
+
+    /// Stop: 1, 2, 4, 5. "An accepted stop clears them again and forgets the ranges." READINGS 7.2: it "moves nothing"; its
+    /// base is 0 then, as that of every place that is left unused.
     pub fn stop(&mut self, id: u64) -> Result<(), Refusal> {
         let controller = self.controller(id)?;
         if controller.suspended {
@@ -121,6 +143,7 @@ impl Device {
         }
         let controller = self.controller_mut(id)?;
         controller.tracking = Tracking::Off;
+        controller.base = 0;
         controller.ranges = [Range::default(); MOST_RANGES];
         self.pending.insert(id, BTreeSet::new());
         Ok(())
@@ -134,12 +157,13 @@ impl Device {
             Tracking::Off => return Ok(0),
             Tracking::On { granularity, .. } => granularity,
         };
-        // A sound record has at most 4,096 different units.
-        let units: Vec<Unit> = units(controller).collect();
+        let bytes = unit_bytes(granularity);
+        // A sound record has at most 16,384 different units.
+        let units = units(controller);
         let pending = self.pending.entry(note.id).or_default();
         let mut count = 0;
         for unit in units {
-            if touches(note.address, note.bytes, unit.address, unit_bytes(granularity)) && pending.insert(unit) {
+            if touches(note.address, note.bytes, unit.address, bytes) && pending.insert(unit) {
                 count += 1;
             }
         }
@@ -319,7 +343,7 @@ pub fn units(controller: &Controller) -> impl Iterator<Item = Unit> {
     };
     let unit = unit_bytes(granularity);
     stretches(granularity, &controller.used_ranges()).into_iter().flat_map(move |stretch| {
-        (stretch.first..stretch.after)
+        (stretch.span.first..stretch.span.after)
             .map(move |number| Unit { row: stretch.row, address: number.saturating_mul(unit) })
     })
 }
@@ -492,6 +516,92 @@ mod tests {
         assert_eq!(device.pending.get(&6), Some(&[stale].iter().cloned().collect()));
     }
 
+    /// Controllers 5 to 12, and a limit of 128.
+    fn eight() -> Device {
+        let identifiers = [5, 6, 7, 8, 9, 10, 11, 12];
+        Device::fresh(&Settings { limit: 128, number: 8, identifiers, ..device().record.settings }).unwrap()
+    }
+
+    /// Starts a controller with so many pages from page 0 on.
+    fn start_pages(device: &mut Device, id: u64, pages: u64) -> Result<(), Reason> {
+        device.start(id, &structure_bytes(0, &[Range { start: 0, length: pages }]))
+    }
+
+    fn bases(device: &Device) -> Vec<u64> {
+        device.record.controllers.iter().map(|controller| controller.base).collect()
+    }
+
+    #[test]
+    fn starts_pack_and_stops_leave_gaps() {
+        let mut device = eight();
+        for (id, pages) in [(9, 100), (6, 1), (12, 63), (5, 64)].iter() {
+            start_pages(&mut device, *id, *pages).unwrap();
+        }
+        assert_eq!(bases(&device), [0, 64, 0, 0, 65, 0, 0, 165]);
+        // What is off is at 0, and the others stay where they are.
+        device.stop(5).unwrap();
+        assert_eq!(bases(&device), [0, 64, 0, 0, 65, 0, 0, 165]);
+        device.stop(9).unwrap();
+        assert_eq!(bases(&device), [0, 64, 0, 0, 0, 0, 0, 165]);
+        // The next start packs, whoever starts.
+        start_pages(&mut device, 7, 2).unwrap();
+        assert_eq!(bases(&device), [0, 0, 1, 0, 0, 0, 0, 3]);
+        // A suspended one moves too. A refused start moves nothing.
+        device.suspend(12, 1).unwrap();
+        device.stop(6).unwrap();
+        assert_eq!(start_pages(&mut device, 10, 16320), Err(Reason { number: 11, row: None }));
+        assert_eq!(bases(&device), [0, 0, 1, 0, 0, 0, 0, 3]);
+        assert_eq!(start_pages(&mut device, 10, 16319), Ok(()));
+        assert_eq!(bases(&device), [0, 0, 0, 0, 0, 2, 0, 16321]);
+    }
+
+    #[test]
+    fn bases_of_controllers_that_are_off_stay() {
+        let mut device = eight();
+        device.record.controllers[1].base = 60000;
+        device.record.controllers[7].base = 9;
+        start_pages(&mut device, 5, 3).unwrap();
+        start_pages(&mut device, 7, 3).unwrap();
+        assert_eq!(bases(&device), [0, 60000, 3, 0, 0, 0, 0, 9]);
+        // Those that stand in no place of the settings too, on or off.
+        device.record.settings.number = 7;
+        device.record.controllers[7].tracking = Tracking::On { granularity: 255, count: 255 };
+        start_pages(&mut device, 6, 3).unwrap();
+        assert_eq!(bases(&device), [0, 3, 6, 0, 0, 0, 0, 9]);
+        device.stop(5).unwrap();
+        assert_eq!(bases(&device), [0, 3, 6, 0, 0, 0, 0, 9]);
+    }
+
+    #[test]
+    fn a_start_packs_a_record_that_has_its_shares_anywhere() {
+        // 12 lies below 9, and 9 below 6, with gaps; 5 isn't tracked.
+        let mut device = eight();
+        for (place, pages, base) in [(1, 10, 16374), (4, 20, 300), (7, 30, 64)].iter() {
+            let controller: &mut Controller = &mut device.record.controllers[*place];
+            controller.tracking = Tracking::On { granularity: 0, count: 1 };
+            controller.ranges[0] = Range { start: 0, length: *pages };
+            controller.base = *base;
+        }
+        start_pages(&mut device, 10, 5).unwrap();
+        assert_eq!(bases(&device), [0, 0, 0, 0, 10, 30, 0, 35]);
+    }
+
+    #[test]
+    fn a_pool_of_16384_units() {
+        let mut device = eight();
+        assert_eq!(start_pages(&mut device, 5, 16385), Err(Reason { number: 11, row: None }));
+        assert_eq!(start_pages(&mut device, 5, 10000), Ok(()));
+        assert_eq!(start_pages(&mut device, 6, 6385), Err(Reason { number: 11, row: None }));
+        assert_eq!(start_pages(&mut device, 6, 6384), Ok(()));
+        assert_eq!(start_pages(&mut device, 7, 1), Err(Reason { number: 11, row: None }));
+        assert_eq!(device.write(&note(6, 0, u64::MAX)), Ok(6384));
+        device.stop(5).unwrap();
+        assert_eq!(start_pages(&mut device, 7, 10000), Ok(()));
+        assert_eq!(bases(&device), [0, 0, 6384, 0, 0, 0, 0, 0]);
+        assert_eq!(device.pending[&6].len(), 6384);
+        assert_eq!(device.pending[&7].len(), 0);
+    }
+
     #[test]
     fn start_with_a_short_buffer() {
         let device = device();
@@ -561,10 +671,10 @@ mod tests {
             ranges.rotate_left(1);
             assert_eq!(refused_start(&device, &structure_bytes(0, &ranges)), (18, Some(0)));
         }
-        // 10, 11 and 12: lengths of 4097 with the rule on, and a limit of 16.
+        // 10, 11 and 12: lengths of 16,385 with the rule on, and a limit of 16.
         let mut device = device;
         device.record.settings.rule = 1;
-        let long = Range { start: 0, length: 4097 };
+        let long = Range { start: 0, length: 16385 };
         assert_eq!(refused_start(&device, &structure_bytes(0, &[long; 17])), (18, Some(0)));
         assert_eq!(refused_start(&device, &structure_bytes(0, &[long; 16])), (10, None));
         // 7 stands before it.

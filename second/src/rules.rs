@@ -1,6 +1,6 @@
 //! The rules of document 01 that speak of plain numbers: settings, granularities, ranges and whose a unit is (with
-//! change requests W2 and W3 of document 02), touching, and when a device record is sound (with W6). Nothing here knows
-//! of a session.
+//! change requests W2 and W3 of document 02), the pool of units (W7), touching, and when a device record is sound (with
+//! W6 and W7). Nothing here knows of a session.
 //!
 //! Arithmetic on addresses is done in 128 bits and stops at the greatest number there (saturates) instead of
 //! wrapping. No number that passes the rules comes near it; one that stops there is far past 2^64 and so is
@@ -39,8 +39,8 @@ pub const STATE: Refusal = 27;
 pub const MOST_CONTROLLERS: usize = 8;
 /// "At most 16 ranges for each of 8 controllers".
 pub const MOST_RANGES: usize = 16;
-/// "at most 4,096 units in all of one controller's ranges (house)"; W2: "The 4,096 limit counts different units".
-pub const MOST_UNITS: u128 = 4096;
+/// W7: "one pool of 16,384 units"; "The 4,096 rule goes." A unit has a bit.
+pub const POOL_UNITS: u128 = 16_384;
 /// W4: "At most 1,024 records."
 pub const MOST_NOTES: usize = 1024;
 /// W6: "the state is at most 4,096 bytes, in one lent area of that size"
@@ -95,11 +95,13 @@ pub enum Tracking {
     },
 }
 
-/// "Separately it is running or suspended." Of the ranges the first `count` are used, and none where it is off.
+/// "Separately it is running or suspended." Of the ranges the first `count` are used, and none where it is off. W7: "The
+/// device record tells where each share lies": the base is the share's first bit, and not used where it is off.
 #[derive(Clone, Debug, Default, PartialEq, Eq)]
 pub struct Controller {
     pub tracking: Tracking,
     pub suspended: bool,
+    pub base: u64,
     pub ranges: [Range; MOST_RANGES],
 }
 
@@ -281,13 +283,19 @@ fn is_power_of_two(number: u64) -> bool {
     rest == 1
 }
 
-/// Units consecutive in address that belong to one range: from the number `first` on, before the number `after`. A
-/// unit's number is its address divided by its size.
+/// Numbers that follow on each other: from `first` on, before `after`.
+#[derive(Clone, Copy, Debug, PartialEq, Eq)]
+pub struct Span {
+    pub first: u128,
+    pub after: u128,
+}
+
+/// Units consecutive in address that belong to one range, by their numbers. A unit's number is its address divided by its
+/// size.
 #[derive(Clone, Copy, Debug, PartialEq, Eq)]
 pub struct Stretch {
     pub row: usize,
-    pub first: u128,
-    pub after: u128,
+    pub span: Span,
 }
 
 /// W2: "A unit covered by several ranges counts once and belongs to the earliest listed." So of each range there is what
@@ -298,31 +306,74 @@ pub fn stretches(granularity: u64, ranges: &[Range]) -> Vec<Stretch> {
     let mut all: Vec<Stretch> = Vec::new();
     for (row, range) in ranges.iter().enumerate() {
         let first = u128::from(range.start) / unit_bytes(granularity);
-        let mut left = vec![Stretch { row, first, after: first + u128::from(range.length) }];
+        let mut left = vec![Span { first, after: first + u128::from(range.length) }];
         for taken in &all {
-            left = left.iter().flat_map(|stretch| without(stretch, taken)).collect();
+            left = left.iter().flat_map(|span| without(span, &taken.span)).collect();
         }
-        all.extend(left);
+        all.extend(left.into_iter().map(|span| Stretch { row, span }));
     }
     all
 }
 
-/// What is left of a stretch below and above the units that are taken: none, one or two stretches.
-fn without(stretch: &Stretch, taken: &Stretch) -> Vec<Stretch> {
-    let below = Stretch { after: stretch.after.min(taken.first), ..*stretch };
-    let above = Stretch { first: stretch.first.max(taken.after), ..*stretch };
+/// What is left of a span below and above the numbers that are taken: none, one or two spans.
+fn without(span: &Span, taken: &Span) -> Vec<Span> {
+    let below = Span { after: span.after.min(taken.first), ..*span };
+    let above = Span { first: span.first.max(taken.after), ..*span };
     let mut left = vec![below, above];
     left.retain(|part| part.first < part.after);
     left
 }
 
-/// Refusal 11: "more than 4,096 units"; W2: "The 4,096 limit counts different units".
-pub fn too_many_units(granularity: u64, ranges: &[Range]) -> bool {
+/// How many different units these ranges have (W2: "A unit covered by several ranges counts once").
+pub fn different_units(granularity: u64, ranges: &[Range]) -> u128 {
     let mut different: u128 = 0;
     for stretch in stretches(granularity, ranges) {
-        different = different.saturating_add(stretch.after - stretch.first);
+        different = different.saturating_add(stretch.span.after - stretch.span.first);
     }
-    different > MOST_UNITS
+    different
+}
+
+/// The shares of all controllers now tracked, in the order of the settings: as many bits as it has different units, from
+/// its base on. "Unused places aren't looked at", so the base of a controller that is off has no share.
+pub fn shares(record: &Record) -> Vec<Span> {
+    let mut shares = Vec::new();
+    for (controller, _) in record.controllers.iter().zip(0..record.settings.number) {
+        if let Tracking::On { granularity, .. } = controller.tracking {
+            let first = u128::from(controller.base);
+            let units = different_units(granularity, &controller.used_ranges());
+            shares.push(Span { first, after: first.saturating_add(units) });
+        }
+    }
+    shares
+}
+
+/// The units of all controllers now tracked, together; the same page of two controllers is two of them.
+pub fn units_together(record: &Record) -> u128 {
+    let mut together: u128 = 0;
+    for share in shares(record) {
+        together = together.saturating_add(share.after - share.first);
+    }
+    together
+}
+
+/// Refusal 11 (W7): "exactly if the request and all tracked units together pass 16,384".
+pub fn too_many_units(record: &Record, granularity: u64, ranges: &[Range]) -> bool {
+    units_together(record).saturating_add(different_units(granularity, ranges)) > POOL_UNITS
+}
+
+/// W7: "1 covers shares that overlap or leave these words and, in place of 11, tracked units above 16,384 in all."
+///
+/// Each share is taken out of the room that those before it have left, and must be wholly in one span of it. For shares
+/// of at least one bit.
+pub fn pool_broken(record: &Record) -> bool {
+    let mut room = vec![Span { first: 0, after: POOL_UNITS }];
+    for share in shares(record) {
+        if !room.iter().any(|free| free.first <= share.first && share.after <= free.after) {
+            return true;
+        }
+        room = room.iter().flat_map(|free| without(free, &share)).collect();
+    }
+    units_together(record) > POOL_UNITS
 }
 
 /// The counts of all controllers now tracked, together.
@@ -362,7 +413,7 @@ pub fn sequence_broken(record: &Record) -> bool {
 /// Refusal 1, its first half: "A record is sound exactly if its settings would pass 16, each tracked controller's
 /// granularity and ranges would pass 7, 9, 10 and 11, and the counts together are within the limit. Unused places
 /// aren't looked at". W3: "9 becomes 18 ..., 19 ..., 20 ..., 21"; here it is all one which of them, and which row. W6
-/// adds the open sequence.
+/// adds the open sequence, and W7 puts the shares in the place of 11.
 pub fn sound(record: &Record) -> bool {
     let settings = &record.settings;
     if settings_broken(settings) {
@@ -374,13 +425,12 @@ pub fn sound(record: &Record) -> bool {
             if granularity_broken(settings, granularity)
                 || first_fault(granularity, count, &ranges).is_some()
                 || power_of_two_broken(settings, &ranges)
-                || too_many_units(granularity, &ranges)
             {
                 return false;
             }
         }
     }
-    counts_together(record) <= u128::from(settings.limit) && !sequence_broken(record)
+    counts_together(record) <= u128::from(settings.limit) && !pool_broken(record) && !sequence_broken(record)
 }
 
 /// Refusal 14: "a written range ends past 2^64".
@@ -650,11 +700,12 @@ mod tests {
         assert!(!sound(&record));
         record.controllers[0].ranges[1].length = 2;
         assert!(sound(&record));
-        // 11
-        assert!(sound(&tracked(0, &[range(0, 4096)])));
-        assert!(!sound(&tracked(0, &[range(0, 4097)])));
-        assert!(sound(&tracked(0, &[range(0, 4095), range(16777216, 1)])));
-        assert!(!sound(&tracked(0, &[range(0, 4095), range(16777216, 2)])));
+        // units above 16,384 in all; 67108864 is page 16,384
+        assert!(sound(&tracked(0, &[range(0, 4097)])));
+        assert!(sound(&tracked(0, &[range(0, 16384)])));
+        assert!(!sound(&tracked(0, &[range(0, 16385)])));
+        assert!(sound(&tracked(0, &[range(0, 16383), range(67108864, 1)])));
+        assert!(!sound(&tracked(0, &[range(0, 16383), range(67108864, 2)])));
         // a range within another one: its length is asked by 10, and its units are not counted again
         let mut record = tracked(0, &[range(65536, 4), range(65536, 3)]);
         assert!(sound(&record));
@@ -752,8 +803,12 @@ mod tests {
         assert_eq!(Reason::from(fault(15, 21)), Reason { number: 21, row: Some(15) });
     }
 
+    fn span(first: u128, after: u128) -> Span {
+        Span { first, after }
+    }
+
     fn row(row: usize, first: u128, after: u128) -> Stretch {
-        Stretch { row, first, after }
+        Stretch { row, span: span(first, after) }
     }
 
     #[test]
@@ -808,21 +863,167 @@ mod tests {
     }
 
     #[test]
-    fn different_units() {
-        // Two equal ranges of 4,096 units; a unit more at either end; sixteen of them.
-        assert!(!too_many_units(0, &[range(0, 4096), range(0, 4096)]));
-        assert!(!too_many_units(0, &[range(0, 4096); 16]));
-        assert!(too_many_units(0, &[range(4096, 4096), range(8192, 4096)]));
-        assert!(too_many_units(0, &[range(4096, 4096), range(0, 4096)]));
-        assert!(!too_many_units(0, &[range(0, 2049), range(8388608, 2048)]), "2,048, one shared, and 2,047");
-        assert!(too_many_units(0, &[range(0, 2049), range(8392704, 2048)]));
+    fn different_units_by_hand() {
+        let of = |granularity, ranges: &[Range]| different_units(granularity, ranges);
+        assert_eq!(of(0, &[]), 0);
+        assert_eq!(of(0, &[range(65536, 4)]), 4);
+        // Two equal ranges of 16,384 units, and sixteen of them; a unit more at either end.
+        assert_eq!(of(0, &[range(0, 16384), range(0, 16384)]), 16384);
+        assert_eq!(of(0, &[range(0, 16384); 16]), 16384);
+        assert_eq!(of(0, &[range(4096, 16384), range(8192, 16384)]), 16385);
+        assert_eq!(of(0, &[range(4096, 16384), range(0, 16384)]), 16385);
+        assert_eq!(of(0, &[range(0, 2049), range(8388608, 2048)]), 4096, "2,048, one shared, and 2,047");
+        assert_eq!(of(0, &[range(0, 2049), range(8392704, 2048)]), 4097);
         // At another granularity the same starts are other units: 2,048 apart in pages, 8 in units of 1 MiB.
-        assert!(too_many_units(0, &[range(0, 2049), range(8388608, 2049)]));
-        assert!(!too_many_units(8, &[range(0, 2049), range(8388608, 2049)]));
+        assert_eq!(of(0, &[range(0, 2049), range(8388608, 2049)]), 4097);
+        assert_eq!(of(8, &[range(0, 2049), range(8388608, 2049)]), 2057);
         // As long as can be, and as often.
-        assert!(too_many_units(20, &[range(0, 4294967295); 16]));
-        assert!(too_many_units(0, &[range(0, 1), range(0, 4294967295)]));
-        assert!(too_many_units(0, &[range(0, 4294967295), range(4096, 4294967295)]));
+        assert_eq!(of(20, &[range(0, 4294967295); 16]), 4294967295);
+        assert_eq!(of(0, &[range(0, 1), range(0, 4294967295)]), 4294967295);
+        assert_eq!(of(0, &[range(0, 4294967295), range(4096, 4294967295)]), 4294967296);
+    }
+
+    /// Controllers 5 and 6 track 4 pages and 1 page, at these bases.
+    fn two(base_of_5: u64, base_of_6: u64) -> Record {
+        let mut record = tracked(0, &[range(65536, 4)]);
+        record.controllers[1].tracking = on(0, 1);
+        record.controllers[1].ranges[0] = range(65536, 1);
+        record.controllers[0].base = base_of_5;
+        record.controllers[1].base = base_of_6;
+        record
+    }
+
+    #[test]
+    fn shares_by_hand() {
+        assert_eq!(shares(&record()), []);
+        assert_eq!(shares(&two(0, 4)), [span(0, 4), span(4, 5)]);
+        // In the order of the settings, whatever the bases are.
+        assert_eq!(shares(&two(9, 3)), [span(9, 13), span(3, 4)]);
+        assert_eq!(
+            shares(&two(65535, u64::MAX)),
+            [span(65535, 65539), span(18446744073709551615, 18446744073709551616)]
+        );
+        assert_eq!(units_together(&two(9, 3)), 5, "the same page of two controllers is two units");
+        let mut record = two(9, 3);
+        record.controllers[0].tracking = Tracking::Off;
+        assert_eq!(shares(&record), [span(3, 4)]);
+        record.settings.number = 1;
+        assert_eq!(shares(&record), []);
+        assert_eq!(units_together(&record), 0);
+    }
+
+    #[test]
+    fn shares_that_leave_the_pool() {
+        // READINGS W7: base 16,383 with one unit is sound, 16,384 isn't.
+        for (base, good) in
+            [(0, true), (16379, true), (16380, true), (16381, false), (16383, false), (16384, false), (65535, false)]
+                .iter()
+        {
+            assert_eq!(sound(&two(*base, if *base == 0 { 4 } else { 0 })), *good, "{}", base);
+        }
+        for (base, good) in
+            [(4, true), (16382, true), (16383, true), (16384, false), (16385, false), (60000, false), (65535, false)]
+                .iter()
+        {
+            assert_eq!(sound(&two(0, *base)), *good, "{}", base);
+        }
+        // A pool's worth of units lies at 0 alone.
+        let mut record = tracked(0, &[range(0, 16384)]);
+        assert!(sound(&record));
+        record.controllers[0].base = 1;
+        assert!(!sound(&record));
+        record.controllers[0].ranges[0].length = 16383;
+        assert!(sound(&record));
+        record.controllers[0].base = 2;
+        assert!(!sound(&record));
+    }
+
+    #[test]
+    fn shares_that_overlap() {
+        // READINGS W7: 5 at 0 with 4 units, 6 at 3 with one.
+        assert!(!sound(&two(0, 3)));
+        for base in 0..4 {
+            assert!(!sound(&two(0, base)), "{}", base);
+        }
+        assert!(sound(&two(0, 4)), "they touch");
+        assert!(sound(&two(1, 0)), "the later one below");
+        for base in 97..=100 {
+            assert!(!sound(&two(base, 100)), "{}", base);
+        }
+        assert!(sound(&two(96, 100)));
+        assert!(sound(&two(101, 100)));
+        // By a single bit, and over all.
+        let mut record = two(0, 16383);
+        record.controllers[0].ranges[0].length = 16383;
+        assert!(sound(&record));
+        record.controllers[0].ranges[0].length = 16384;
+        assert!(!sound(&record));
+        assert!(pool_broken(&record));
+        // It is the different units that count: 4 pages listed twice.
+        let mut record = two(0, 4);
+        record.controllers[0].tracking = on(0, 2);
+        record.controllers[0].ranges[1] = range(65536, 4);
+        assert!(sound(&record));
+        record.controllers[0].ranges[1] = range(65536, 5);
+        assert!(!sound(&record));
+    }
+
+    #[test]
+    fn bases_that_are_not_looked_at() {
+        let mut record = two(0, 60000);
+        assert!(!sound(&record));
+        record.controllers[1].tracking = Tracking::Off;
+        assert!(sound(&record));
+        record.controllers[1].base = 0;
+        assert!(sound(&record));
+        // In an unused place.
+        let mut record = two(0, 3);
+        record.settings.number = 1;
+        assert!(sound(&record));
+    }
+
+    #[test]
+    fn shares_in_any_order_with_gaps() {
+        // Eight shares of 4 bits: every order of the same eight places, by rotations and turned round.
+        let mut bases = vec![16380, 0, 70, 62, 4, 8192, 100, 66];
+        for turned in 0..2 {
+            for rotation in 0..8 {
+                let mut record = record();
+                record.settings.number = 8;
+                record.settings.identifiers = [5, 6, 7, 8, 9, 10, 11, 12];
+                for (controller, base) in record.controllers.iter_mut().zip(&bases) {
+                    controller.tracking = on(0, 1);
+                    controller.ranges[0] = range(0, 4);
+                    controller.base = *base;
+                }
+                assert!(sound(&record), "{} {}", turned, rotation);
+                // 62 to 65, 66 to 69 and 70 to 73 stand side by side: a unit more is too many for the first two.
+                for place in 0..8 {
+                    let mut longer = record.clone();
+                    longer.controllers[place].ranges[0].length = 5;
+                    let good = ![16380, 0, 62, 66].contains(&longer.controllers[place].base);
+                    assert_eq!(sound(&longer), good, "{}", longer.controllers[place].base);
+                }
+                bases.rotate_left(1);
+            }
+            bases.reverse();
+        }
+    }
+
+    #[test]
+    fn a_request_beside_all_tracked_units() {
+        // 5 units are tracked.
+        let record = two(0, 4);
+        assert!(!too_many_units(&record, 0, &[range(0, 16379)]));
+        assert!(too_many_units(&record, 0, &[range(0, 16380)]));
+        assert!(!too_many_units(&record, 0, &[range(0, 16379); 16]));
+        assert!(too_many_units(&record, 8, &[range(0, 4294967295); 16]));
+        // The bases have nothing to do with it.
+        assert!(!too_many_units(&two(16380, 100), 0, &[range(0, 16379)]));
+        let mut record = two(0, 4);
+        record.controllers[0].tracking = Tracking::Off;
+        assert!(!too_many_units(&record, 0, &[range(0, 16383)]));
+        assert!(too_many_units(&record, 0, &[range(0, 16384)]));
     }
 
     /// Whose each unit is, walked unit by unit: the first range of the list that has it.
@@ -854,7 +1055,7 @@ mod tests {
                     let ranges = [*one, *two, *three];
                     let mut walked = Vec::new();
                     for stretch in stretches(0, &ranges) {
-                        for unit in stretch.first..stretch.after {
+                        for unit in stretch.span.first..stretch.span.after {
                             walked.push((stretch.row, unit));
                         }
                     }
@@ -870,6 +1071,7 @@ mod tests {
         record.controllers[1].tracking = on(8, 2);
         record.controllers[1].ranges[0] = range(0, 1);
         record.controllers[1].ranges[1] = range(1048576, 1);
+        record.controllers[1].base = 3;
         record.settings.limit = 5;
         assert!(sound(&record), "two controllers may track the same memory");
         record.settings.limit = 4;
@@ -890,6 +1092,9 @@ mod tests {
         }
         for row in 0..16 {
             record.controllers[1].ranges[row] = range(1, 0);
+        }
+        for place in 1..8 {
+            record.controllers[place].base = u64::MAX;
         }
         for place in 2..8 {
             record.controllers[place].tracking = on(u64::MAX, u64::MAX);
@@ -979,19 +1184,23 @@ mod tests {
         record.settings.greatest = 20;
         record.settings.limit = 128;
         record.settings.rule = 1;
-        for controller in record.controllers.iter_mut() {
+        for (place, controller) in record.controllers.iter_mut().enumerate() {
             controller.tracking = on(20, 16);
+            controller.base = 2048 * place as u64;
             for (row, range) in controller.ranges.iter_mut().enumerate() {
-                // 256 units of 2^32 bytes are 2^40 bytes.
-                *range = Range { start: row as u64 * 1099511627776, length: 256 };
+                // 128 units of 2^32 bytes are 2^39 bytes.
+                *range = Range { start: row as u64 * 549755813888, length: 128 };
             }
         }
-        assert!(sound(&record));
+        assert!(sound(&record), "8 times 2,048 units, side by side");
         record.settings.limit = 127;
         assert!(!sound(&record));
         record.settings.limit = 128;
-        record.controllers[7].ranges[15].length = 512;
-        assert!(!sound(&record), "4,352 units");
+        for place in 0..8 {
+            let mut longer = record.clone();
+            longer.controllers[place].ranges[15].length = 256;
+            assert!(!sound(&longer), "2,176 units");
+        }
     }
 
     #[test]
@@ -1008,6 +1217,7 @@ mod tests {
         };
         for controller in record.controllers.iter_mut() {
             controller.tracking = on(u64::MAX, u64::MAX);
+            controller.base = u64::MAX;
             controller.ranges = [range(u64::MAX, u64::MAX); 16];
         }
         assert!(!sound(&record));
@@ -1015,8 +1225,10 @@ mod tests {
         assert_eq!(first_fault(u64::MAX, 1, &[range(0, 1)]), Some(fault(0, 21)));
         assert_eq!(first_fault(u64::MAX, 1, &[range(u64::MAX, u64::MAX)]), Some(fault(0, 20)));
         assert_eq!(first_fault(u64::MAX, u64::MAX, &[range(u64::MAX, u64::MAX)]), Some(fault(0, 18)));
-        assert!(too_many_units(u64::MAX, &[range(0, u64::MAX); 16]));
-        assert!(too_many_units(0, &[range(u64::MAX, u64::MAX), range(0, 1), range(4095, 3)]));
+        assert!(too_many_units(&record, u64::MAX, &[range(0, u64::MAX); 16]));
+        assert!(too_many_units(&Record::default(), 0, &[range(u64::MAX, u64::MAX), range(0, 1), range(4095, 3)]));
+        assert!(pool_broken(&record));
+        assert!(!pool_broken(&Record::default()));
         assert!(limit_passed(&record, usize::MAX));
     }
 }

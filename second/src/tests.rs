@@ -177,13 +177,17 @@ fn worked_buffers_31_and_32() {
 }
 
 #[test]
-fn worked_total_of_4096_units() {
+fn worked_total_of_16384_units() {
+    // Document 01's 4,096 and 4,097 are W7's 16,384 and 16,385. 67108864 is page 16,384.
     session(&[
         (DEV, "0"),
-        ("start 5 0 0 4097", "11"),
-        ("start 5 0 0 4096", "0"),
-        ("start 6 0 0 4095 16777216 2", "11"),
-        ("start 6 0 0 4095 16777216 1", "0"),
+        ("start 5 0 0 16385", "11"),
+        ("start 5 0 0 4097", "0"),
+        ("stop 5", "0"),
+        ("start 5 0 0 16384", "0"),
+        ("stop 5", "0"),
+        ("start 6 0 0 16383 67108864 2", "11"),
+        ("start 6 0 0 16383 67108864 1", "0"),
     ]);
 }
 
@@ -453,16 +457,18 @@ fn start_10() {
 fn start_11() {
     session(&[
         ("dev 1 0 20 0 16 5 6", "0"),
-        ("start 5 0 0 4097", "11"),
+        ("start 5 0 0 16385", "11"),
         ("start 5 0 0 4294967295", "11"),
         ("start 5 20 0 4294967295", "11"),
         // Ends at 2^64 exactly.
         ("start 5 20 4294967296 4294967295", "11"),
         ("start 5 20 8589934592 4294967295", "21 0"),
-        ("start 5 0 0 2048 16777216 2048 33554432 1", "11"),
-        ("start 5 0 0 2048 16777216 2047 33554432 1", "0"),
-        // The other controller's units are its own.
-        ("start 6 0 0 4096", "0"),
+        ("start 5 0 0 8192 67108864 8192 134217728 1", "11"),
+        ("start 5 0 0 8192 67108864 8190 134217728 1", "0"),
+        // One is left, at whatever address and granularity; two are too many.
+        ("start 6 0 0 2", "11"),
+        ("start 6 20 0 2", "11"),
+        ("start 6 20 0 1", "0"),
     ]);
 }
 
@@ -597,50 +603,50 @@ fn start_order() {
         ("start 1 9 65536 4", "2"),
         ("start 8 2", "2"),
         ("start 8 2 0 3", "2"),
-        ("start 8 2 0 8192", "2"),
+        ("start 8 2 0 32768", "2"),
         ("start 8 2 0 1 16384 1 32768 1", "2"),
         // 4 before 7, 18, 10, 11, 12.
         ("susp 6 1", "0"),
         ("start 6 9 0 1", "4"),
         ("start 6 2", "4"),
         ("start 6 2 0 3", "4"),
-        ("start 6 2 0 8192", "4"),
+        ("start 6 2 0 32768", "4"),
         ("start 6 2 0 1 16384 1 32768 1", "4"),
         // 7 before 18, 19, 10, 11, 12.
         ("start 5 1", "7"),
         ("start 5 9 1 0", "7"),
         ("start 5 9 0 3", "7"),
-        ("start 5 9 0 8192", "7"),
+        ("start 5 9 0 32768", "7"),
         ("start 5 9 0 1 16777216 1 33554432 1", "7"),
         // 19, 20 and 21 before 10, 11, 12, in whatever row.
         ("start 5 2 1 3", "20 0"),
-        ("start 5 2 1 8192", "20 0"),
+        ("start 5 2 1 32768", "20 0"),
         ("start 5 2 0 3 1 1", "20 1"),
-        ("start 5 2 0 8192 1 1", "20 1"),
+        ("start 5 2 0 32768 1 1", "20 1"),
         ("start 5 2 0 3 0 0", "19 1"),
-        ("start 5 2 0 8192 0 0", "19 1"),
+        ("start 5 2 0 32768 0 0", "19 1"),
         ("start 5 2 18446744073709535232 3", "21 0"),
-        ("start 5 2 0 8192 18446744073709535232 2", "21 1"),
+        ("start 5 2 0 32768 18446744073709535232 2", "21 1"),
         ("start 5 2 0 1 16384 1 32768 0", "19 2"),
         ("start 5 2 0 1 16384 1 32769 1", "20 2"),
         ("start 5 2 0 1 16384 1 18446744073709535232 2", "21 2"),
         // 10 before 11, 12.
-        ("start 5 2 0 4097", "10"),
+        ("start 5 2 0 16385", "10"),
         ("start 5 2 0 3 65536 1 131072 1", "10"),
         ("start 5 2 0 4 0 3", "10"),
         // 11 before 12.
-        ("start 5 2 0 4096 134217728 1 268435456 1", "11"),
-        ("start 5 2 0 4096 0 4096 134217728 1", "11"),
+        ("start 5 2 0 16384 268435456 1 536870912 1", "11"),
+        ("start 5 2 0 16384 0 16384 268435456 1", "11"),
         // 12 last.
         ("start 5 2 0 1 16384 1 32768 1", "12"),
         ("start 5 2 0 1 16384 1 16384 1", "12"),
-        ("start 5 2 0 4096 0 4096 0 4096", "12"),
+        ("start 5 2 0 16384 0 16384 0 16384", "12"),
         ("start 5 2 0 1 16384 1", "0"),
         // 3 before 7, 18, 10, 11, 12.
         ("start 5 9 0 1", "3"),
         ("start 5 2", "3"),
         ("start 5 2 0 3", "3"),
-        ("start 5 2 0 8192", "3"),
+        ("start 5 2 0 32768", "3"),
         ("start 5 2 0 1", "3"),
         // 4 before 3.
         ("susp 5 1", "0"),
@@ -653,7 +659,7 @@ fn start_order() {
         ("start 7 2 1 1", "20 0"),
         ("start 7 2 18446744073709535232 2", "21 0"),
         ("start 7 2 0 3", "10"),
-        ("start 7 2 0 8192", "11"),
+        ("start 7 2 0 32768", "11"),
         ("start 7 2 0 1", "12"),
     ]);
 }
@@ -811,17 +817,17 @@ fn rows_before_10_11_12() {
         ("start 5 0 0 3 0 0", "19 1"),
         ("start 5 0 0 3 1 1", "20 1"),
         ("start 5 0 0 3 18446744073709547520 2", "21 1"),
-        ("start 5 0 0 8192", "11"),
-        ("start 5 0 0 8192 0 0", "19 1"),
-        ("start 5 0 0 8192 1 1", "20 1"),
-        ("start 5 0 0 8192 18446744073709547520 2", "21 1"),
+        ("start 5 0 0 16384", "11"),
+        ("start 5 0 0 16384 0 0", "19 1"),
+        ("start 5 0 0 16384 1 1", "20 1"),
+        ("start 5 0 0 16384 18446744073709547520 2", "21 1"),
         ("start 5 0 0 1 4096 1", "12"),
         ("start 5 0 0 1 4096 1 0 0", "19 2"),
         ("start 5 0 0 1 4096 1 1 1", "20 2"),
         ("start 5 0 0 1 4096 1 18446744073709547520 2", "21 2"),
         // In one row with them.
         ("start 5 0 1 3", "20 0"),
-        ("start 5 0 18446744073709547520 8192", "21 0"),
+        ("start 5 0 18446744073709547520 16384", "21 0"),
         // 10 has no row, whichever it is; 0 is no power of two either.
         ("start 5 0 0 1 4096 1 8192 3", "10"),
         ("start 5 0 0 0", "19 0"),
@@ -946,21 +952,25 @@ fn a_write_into_an_overlap_counts_once() {
 fn overlap_and_11() {
     session(&[
         ("dev 1 0 20 0 16 5 6", "0"),
-        ("start 5 0 0 4096 0 4097", "11"),
-        ("start 5 0 4096 4096 0 4096", "11"),
-        ("start 5 0 0 4096 16777216 1", "11"),
+        ("start 5 0 0 16384 0 16385", "11"),
+        ("start 5 0 4096 16384 0 16384", "11"),
+        ("start 5 0 0 16384 67108864 1", "11"),
         ("start 5 0 0 4294967295 0 4294967295", "11"),
         ("start 5 0 0 1 0 4294967295", "11"),
         ("start 5 0 0 4294967295 0 1", "11"),
         ("start 5 20 4294967296 4294967295 4294967296 4294967295", "11"),
-        ("start 5 0 0 4096 0 4096", "0"),
-        ("write 5 0 16777216", "0 4096"),
-        ("recv 5 32", "0 susp 0 more 0 gran 0 runs 1/0 4096"),
-        // 2,049 and 2,048 that share a page.
+        // READINGS W7: different units, also where they are all there are.
+        ("start 5 0 0 16384 0 16384", "0"),
+        ("write 5 0 67108864", "0 16384"),
+        ("recv 5 32", "0 susp 0 more 0 gran 0 runs 1/0 16384"),
+        ("stop 5", "0"),
+        // 12,288 of them, listed three times; then 2,049 and 2,048 that share a page, in the 4,096 that are left.
+        ("start 5 0 0 12288 0 12288 4096 12287", "0"),
         ("start 6 0 0 2049 8392704 2048", "11"),
         ("start 6 0 0 2049 8388608 2048", "0"),
         ("write 6 0 18446744073709551615", "0 4096"),
         ("recv 6 48", "0 susp 0 more 0 gran 0 runs 2/0 2049/8392704 2047"),
+        ("write 5 0 18446744073709551615", "0 12288"),
     ]);
 }
 
@@ -1180,11 +1190,11 @@ fn limit_0() {
     ]);
 }
 
-/// 16 ranges of 256 pages each, from 0 on without a gap: the first 16 MiB.
+/// 16 ranges of 128 pages each, from 0 on without a gap: the first 8 MiB. Eight times 2,048 pages fill the pool.
 fn sixteen_ranges(id: u64, count: u64) -> String {
     let mut line = format!("start {} 0", id);
     for row in 0..count {
-        line.push_str(&format!(" {} 256", row * 1048576));
+        line.push_str(&format!(" {} 128", row * 524288));
     }
     line
 }
@@ -1200,17 +1210,17 @@ fn eight_controllers_with_16_ranges() {
     }
     for id in 10..18 {
         // Controller 10 + k writes all but the first k pages.
-        input.push_str(&format!("write {} {} {}\n", id, (id - 10) * 4096, 16777216 - (id - 10) * 4096));
-        answers.push_str(&format!("0 {}\n", 4096 - (id - 10)));
+        input.push_str(&format!("write {} {} {}\n", id, (id - 10) * 4096, 8388608 - (id - 10) * 4096));
+        answers.push_str(&format!("0 {}\n", 2048 - (id - 10)));
     }
     for id in 10..18 {
         input.push_str(&format!("recv {} 48\nrecv {} 4096\n", id, id));
         answers.push_str("0 susp 0 more 1 gran 0 runs 2\n");
-        answers.push_str(&format!("{} {}\n", (id - 10) * 4096, 256 - (id - 10)));
-        answers.push_str("1048576 256\n");
+        answers.push_str(&format!("{} {}\n", (id - 10) * 4096, 128 - (id - 10)));
+        answers.push_str("524288 128\n");
         answers.push_str("0 susp 0 more 0 gran 0 runs 14\n");
         for row in 2..16 {
-            answers.push_str(&format!("{} 256\n", row * 1048576));
+            answers.push_str(&format!("{} 128\n", row * 524288));
         }
     }
     assert_eq!(output(input.as_bytes()), answers);
@@ -1510,6 +1520,133 @@ fn long_lines() {
 }
 
 // ---------------------------------------------------------------------------------------------------------------
+// One pool (W7)
+// ---------------------------------------------------------------------------------------------------------------
+
+/// Eight controllers, 5 to 12, and a limit that no start here meets.
+const EIGHT: &str = "dev 1 0 8 0 128 5 6 7 8 9 10 11 12";
+
+#[test]
+fn worked_pool() {
+    session(&[
+        (EIGHT, "0"),
+        ("start 5 0 0 16384", "0"),
+        ("start 6 0 0 1", "11"),
+        ("stop 5", "0"),
+        ("start 6 0 0 1", "0"),
+        (EIGHT, "0"),
+        ("start 5 0 0 16385", "11"),
+        ("start 5 0 0 4097", "0"),
+        (EIGHT, "0"),
+        ("start 5 0 0 16384 0 16384", "0"),
+        (EIGHT, "0"),
+        ("start 5 0 0 10000", "0"),
+        ("start 6 0 0 6385", "11"),
+        ("start 6 0 0 6384", "0"),
+    ]);
+}
+
+#[test]
+fn worked_gaps() {
+    let mut lines = vec![(EIGHT.to_string(), "0")];
+    for id in 5..13 {
+        lines.push((format!("start {} 0 0 2048", id), "0"));
+    }
+    for (line, answer) in [
+        // Pages 2047 and 2048, of which 6 has the first.
+        ("write 6 8388607 2", "0 1"),
+        ("stop 5", "0"),
+        ("stop 7", "0"),
+        ("stop 9", "0"),
+        ("stop 11", "0"),
+        ("start 5 0 0 8193", "11"),
+        ("start 5 0 0 8192", "0"),
+        ("recv 6 64", "0 susp 0 more 0 gran 0 runs 1/8384512 1"),
+    ]
+    .iter()
+    {
+        lines.push((line.to_string(), *answer));
+    }
+    let lines: Vec<(&str, &str)> = lines.iter().map(|(line, answer)| (line.as_str(), *answer)).collect();
+    session(&lines);
+}
+
+#[test]
+fn the_pool_before_the_limit() {
+    session(&[
+        ("dev 1 0 8 0 1 5 6", "0"),
+        ("start 5 0 0 16384", "0"),
+        ("start 6 0 0 1", "11"),
+        ("start 6 0 0 3 0 1", "11"),
+        ("start 6 0 0 0", "19 0"),
+        ("stop 5", "0"),
+        ("start 5 0 0 16383", "0"),
+        ("start 6 0 0 1", "12"),
+        ("start 6 0 0 2", "11"),
+    ]);
+}
+
+#[test]
+fn the_same_pages_of_two_controllers_count_twice() {
+    session(&[
+        (EIGHT, "0"),
+        ("start 5 0 0 8193", "0"),
+        ("start 6 0 0 8192", "11"),
+        ("start 6 0 0 8191", "0"),
+        ("start 7 0 0 1", "11"),
+        ("write 5 0 33558528", "0 8193"),
+        ("recv 6 32", "0 susp 0 more 0 gran 0 runs 0"),
+    ]);
+}
+
+#[test]
+fn pending_units_of_shares_that_move() {
+    session(&[
+        (EIGHT, "0"),
+        // 6 and 8 have pages 0 to 99; pages 0, 63, 64 and 99 of 6 are pending, and pages 1 and 98 of 8.
+        ("start 6 0 0 100", "0"),
+        ("start 8 0 0 100", "0"),
+        ("write 6 0 1", "0 1"),
+        ("write 6 258048 4097", "0 2"),
+        ("write 6 405504 1", "0 1"),
+        ("write 8 4096 1", "0 1"),
+        ("write 8 401408 1", "0 1"),
+        // Both move up, by a bit; then 8 by 16,183 more, and 6 is suspended.
+        ("start 5 0 0 1", "0"),
+        ("susp 6 1", "0"),
+        ("start 7 0 0 16183", "0"),
+        ("recv 6 32", "0 susp 1 more 1 gran 0 runs 1/0 1"),
+        ("start 9 0 0 1", "11"),
+        ("stop 7", "0"),
+        ("stop 5", "0"),
+        // Down again.
+        ("start 9 0 0 16184", "0"),
+        ("recv 6 64", "0 susp 1 more 0 gran 0 runs 2/258048 2/405504 1"),
+        ("recv 8 64", "0 susp 0 more 0 gran 0 runs 2/4096 1/401408 1"),
+        ("recv 9 64", "0 susp 0 more 0 gran 0 runs 0"),
+    ]);
+}
+
+#[test]
+fn a_share_that_was_used_before_begins_clear() {
+    session(&[
+        (EIGHT, "0"),
+        ("start 5 0 0 16384", "0"),
+        ("write 5 0 67108864", "0 16384"),
+        ("stop 5", "0"),
+        ("start 6 0 0 8000", "0"),
+        ("start 7 0 0 8384", "0"),
+        ("recv 6 32", "0 susp 0 more 0 gran 0 runs 0"),
+        ("recv 7 32", "0 susp 0 more 0 gran 0 runs 0"),
+        ("write 7 0 67108864", "0 8384"),
+        ("recv 6 32", "0 susp 0 more 0 gran 0 runs 0"),
+        ("stop 7", "0"),
+        ("start 7 0 0 8384", "0"),
+        ("recv 7 32", "0 susp 0 more 0 gran 0 runs 0"),
+    ]);
+}
+
+// ---------------------------------------------------------------------------------------------------------------
 // Input in pieces, and output in time
 // ---------------------------------------------------------------------------------------------------------------
 
@@ -1652,6 +1789,7 @@ fn random_calls() {
         "4097",
         "8192",
         "12288",
+        "16384",
         "65536",
         "1048576",
         "4294967295",

@@ -4,14 +4,15 @@ use mathlib.Core.Path.{_≡_, refl, sym, ap, ap₂, _∙_}
 use mathlib.Core.Bool.{Bool, true, false, not, cond, _&&_, _||_}
 use Prim.Native.Nat.{ℕ, zero, suc, _+_, _-_, _*_, _/_, _%_, _^_, _≤_, _<_, min, max}
 use native.Mathlib.Nat.{pow-suc, zero-min, zero-max, suc-add, zero-add, div-one, mul-one}
-use native.Mathlib.Numerals.{one-add}
+use native.Mathlib.Numerals.{one-add, add-one}
 use native.Mathlib.Omega.{arith}
 use lib.Arith.{digits-mod}
 use lib.Bits.{bitAnd, bitOr, and-step, or-step, and-shr, or-shr, shifted-half, shifted-even}
 use lib.Count.{ones, ones-step, ones-le, trailingZeros, under}
 use lib.Dec.{eqb}
 use lib.ListN.{length, getD}
-use lib.Pow.{shr-shr, pow-pos}
+use lib.Pow.{shr-shr, pow-pos, mod-mod-pow, field}
+use lib.Seq.{ext-getD}
 use Rattle.bits.specs.Flat.{digits}
 use Rattle.bits.specs.Span.{clears}
 use Rattle.bits.proofs.Span.{clears-cons}
@@ -84,14 +85,27 @@ bit-not (suc n) zero a ha hj = one-flip (((2 ^ suc n - 1) - a) % 2) (a % 2) (ome
 bit-not (suc n) (suc j) a ha hj =
     ap (λ (x : ℕ). bit x j) (omega (arith, pow-suc 2 n, pow-pos n)) ∙ bit-not n j (a / 2) (omega (arith, pow-suc 2 n)) (omega arith)
 
--- ---- shift left
-bit-shl-low : (k a j : ℕ) → j < k → bit (a * 2 ^ k) j ≡ false
+-- ---- shifts, and what a word of n bits keeps
+pub bit-shr : (k a j : ℕ) → bit (a / 2 ^ k) j ≡ bit a (k + j)
+unfolding bit
+bit-shr zero a j = rw (zero-add j, div-one)
+bit-shr (suc k) a j =
+    ap (λ (x : ℕ). bit x j) (ap (λ (x : ℕ). a / 2 ^ x) (sym (one-add k)) ∙ sym (shr-shr a 1 k)) ∙ bit-shr k (a / 2) j ∙ ap (bit a) (sym (suc-add k j))
+
+pub bit-mod : (n a j : ℕ) → j < n → bit (a % 2 ^ n) j ≡ bit a j
+unfolding bit
+bit-mod zero a j h = absurd (omega arith)
+bit-mod (suc n) a zero h = ap (λ (x : ℕ). eqb x 1) (ap (λ (x : ℕ). a % 2 ^ x % 2) (sym (add-one n)) ∙ mod-mod-pow a n 1)
+bit-mod (suc n) a (suc j) h =
+    ap (λ (x : ℕ). bit x j) (ap (λ (x : ℕ). a % 2 ^ x / 2) (sym (add-one n)) ∙ field a n 1) ∙ bit-mod n (a / 2) j (omega arith)
+
+pub bit-shl-low : (k a j : ℕ) → j < k → bit (a * 2 ^ k) j ≡ false
 unfolding bit
 bit-shl-low zero a j h = absurd (omega arith)
 bit-shl-low (suc k) a zero h = ap (λ (x : ℕ). eqb x 1) (shifted-even a k)
 bit-shl-low (suc k) a (suc j) h = ap (λ (x : ℕ). bit x j) (shifted-half a k) ∙ bit-shl-low k a j (omega arith)
 
-bit-shl : (k a j : ℕ) → bit (a * 2 ^ k) (k + j) ≡ bit a j
+pub bit-shl : (k a j : ℕ) → bit (a * 2 ^ k) (k + j) ≡ bit a j
 unfolding bit
 bit-shl zero a j = rw (mul-one, zero-add)
 bit-shl (suc k) a j = rw suc-add (ap (λ (x : ℕ). bit x (k + j)) (shifted-half a k) ∙ bit-shl k a j)
@@ -165,6 +179,12 @@ digits-inj (suc n) a b ha hb e =
     let h : eqb (a % 2) 1 ≡ eqb (b % 2) 1 = cc in
     let t : digits n (a / 2) ≡ digits n (b / 2) = cc in
     omega (arith, one-inj (a % 2) (b % 2) (omega arith) (omega arith) h, digits-inj n (a / 2) (b / 2) (omega (arith, pow-suc 2 n)) (omega (arith, pow-suc 2 n)) t)
+
+pub bit-inj : (n a b : ℕ) → a < 2 ^ n → b < 2 ^ n → ((j : ℕ) → j < n → bit a j ≡ bit b j) → a ≡ b
+bit-inj n a b ha hb h =
+    digits-inj n a b ha hb (ext-getD false _ _ (digits-length n a ∙ sym (digits-length n b)) (λ j g.
+    let l : j < n = omega (arith, digits-length n a) in
+    digits-at n a j false l ∙ h j l ∙ sym (digits-at n b j false l)))
 
 -- the ones of a word are the zeros of its complement
 pub ones-clears : (n x : ℕ) → x < 2 ^ n → ones x ≡ clears (digits n ((2 ^ n - 1) - x)) 0 n

@@ -1,4 +1,4 @@
--- Laws about the definitions of specs/, in files of the same names. Bit, Word and Low are the crate's own: what the code does to one word.
+-- Laws about the definitions of specs/, in files of the same names. Bit, Word, Low and Copy are the crate's own: what the code does to one word.
 pub mod Span
 pub mod Next
 pub mod Share
@@ -7,3 +7,4 @@ mod Bit
 mod Word
 mod Low
 pub mod Pack
+mod Copy

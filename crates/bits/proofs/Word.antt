@@ -28,7 +28,7 @@ mask-is b n h =
     ap (λ (x : ℕ). (2 ^ x - 1) / 2 ^ (64 - n)) (sym e) ∙ ap (λ (x : ℕ). x / 2 ^ (64 - n)) (ones-split n (64 - n)) ∙ high (2 ^ n - 1) (64 - n) (ones-lt (64 - n)) in
     ap (λ (x : ℕ). x * 2 ^ b % 2 ^ 64) s ∙ shl-exact n b 64 (ones-lt n) (omega arith)
 
-mask-lt : (b n : ℕ) → b + n ≤ 64 → maskOf b n < 2 ^ 64
+pub mask-lt : (b n : ℕ) → b + n ≤ 64 → maskOf b n < 2 ^ 64
 mask-lt b n h = rw (← mask-is b n h) (omega arith)
 
 -- ---- a span within one word

@@ -1,12 +1,16 @@
 // Marks: lent 64-bit words seen as one flat list of bits, the lowest bit of word 0 first. A set bit is a pending
-// unit. A place counts over all the words, and every function takes any place: past the words all is clear, and stays so.
+// unit. A place counts over all the words, and every function but `copy_span` takes any place: past the words all is clear,
+// and stays so.
 //
 // The contracts cite specs/; the laws that a caller's proof needs are in proofs/, in files of the same names.
 ghost use mathlib.Core.Path.{_≡_};
 ghost use mathlib.Core.Bool.{true, false};
+ghost use lib.ListN.{getD, drop};
 ghost use Rattle.bits.specs.Flat.{digits, flat};
 ghost use Rattle.bits.specs.Span.{fill, clears};
 ghost use Rattle.bits.specs.Next.{next};
+ghost use Rattle.bits.specs.Share.{Holds, getShare, putShare};
+ghost use Rattle.bits.specs.Pack.{wordOf};
 ghost use Prim.Native.Nat.{_+_, _-_, _*_, _^_, _<_, _≤_, min};
 
 // The lesser of a and b.
@@ -117,5 +121,46 @@ pub fn clear_span(words: &mut [u64], from: usize, to: usize)
         let m = mask(b, n);
         words[i] = words[i] & !m;
         k += n;
+    }
+}
+
+// Word i, or 0 past the words.
+fn word_at(words: &[u64], i: usize) -> u64
+    ensures { λ r. ⌜ r ≡ getD (now (words .entry)) i 0 ⌝ }
+{
+    if i < words.len() { words[i] } else { 0 }
+}
+
+// The 64 places from k on as one word, the lowest bit place k. Past the words all is clear.
+fn window(words: &[u64], k: usize) -> u64
+    ensures { λ r. ⌜ r ≡ wordOf 64 (drop k (flat (now (words .entry)))) ⌝ }
+{
+    let i = k / 64;
+    let b = k % 64;
+    let low = word_at(words, i) >> b;
+    if b == 0 {
+        return low;
+    }
+    let high = word_at(words, i + 1) << (64 - b);
+    low | high
+}
+
+// Copies n places, those of `src` from `from` on, to `dst` from `to` on, up to 64 at a time. No other place changes. The
+// places must be there, in `src` and in `dst`.
+pub fn copy_span(dst: &mut [u64], to: usize, src: &[u64], from: usize, n: usize)
+    requires { ⌜ Holds (now dst) to n × Holds (now src) from n ⌝ }
+    ensures { λ r. ⌜ flat (now (dst .exit)) ≡ putShare (flat (now (dst .entry))) to (getShare (flat (now (src .entry))) from n) ⌝ }
+{
+    let mut j: usize = 0;
+    while j < n {
+        let k = to + j;
+        let i = k / 64;
+        let b = k % 64;
+        let e = least(64 - b, n - j);
+        let m = mask(b, e);
+        let v = window(src, from + j) << b;
+        let w = dst[i];
+        dst[i] = (w & !m) | (v & m);
+        j += e;
     }
 }

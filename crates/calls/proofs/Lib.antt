@@ -1,3 +1,4 @@
 pub mod Answers
 pub mod PlaceLaws
 pub mod ReceiptLaws
+pub mod PoolLaws

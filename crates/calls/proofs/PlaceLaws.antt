@@ -3,14 +3,14 @@ use mathlib.Core.Path.{_≡_, sym, ap, _∙_}
 use Prim.Native.Nat.{ℕ, _+_, _*_, _≤_, _<_}
 use native.Mathlib.Omega.{arith}
 use lib.ListN.{length, getD, take}
-use Rattle.rules.specs.Settings.{shareAt, markWords}
+use Rattle.rules.specs.Settings.{markWords}
 use Rattle.rules.specs.Units.{units}
 use Rattle.rules.specs.declared.Device.{Device}
 use Rattle.rules.specs.declared.Tracking.the-variants.{On}
 use Rattle.record.specs.Record.{noController, whereIs}
 use Rattle.record.specs.declared.Place.{Place}
 use Rattle.record.specs.declared.Place.the-variants.{At, Refused}
-use Rattle.record.proofs.RecordLaws.{whereIs-at, soundDevice-held}
+use Rattle.record.proofs.RecordLaws.{whereIs-at, soundDevice-held, soundDevice-inside}
 use Rattle.ranges.proofs.RangeLaws.{HeldFacts}
 use Rattle.calls.specs.Inner.{placeNumber}
 
@@ -28,5 +28,6 @@ module _ (d : Device) (words id i : ℕ) (e : whereIs d words id ≡ At i) (ther
   held-at = let l = whereIs-at d words id i e in soundDevice-held d i g n (l .sound) (l .used) there t
 
   -- its marks lie within the words
-  pub share-within : shareAt i + length (units g (take n (getD (d .controllers) i noController .ranges))) ≤ 64 * markWords
-  share-within = omega (arith, held-at .total, whereIs-at d words id i e .below)
+  pub share-within : 1 ≤ length (getD (d .controllers) i noController .ranges)
+      → getD (d .controllers) i noController .base + length (units g (take n (getD (d .controllers) i noController .ranges))) ≤ 64 * markWords
+  share-within some = let l = whereIs-at d words id i e in omega (arith, soundDevice-inside d i g n (l .sound) (l .used) there t some)

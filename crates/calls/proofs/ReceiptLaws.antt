@@ -7,7 +7,7 @@ use Prim.Native.Nat.{ℕ, _+_, _*_, _≤_}
 use native.Mathlib.Omega.{arith}
 use borrow.Author.Tests.{leb-true}
 use lib.ListN.{length, take, length-take, length-map}
-use Rattle.rules.specs.Settings.{shareAt, placeOf}
+use Rattle.rules.specs.Settings.{placeOf}
 use Rattle.rules.specs.Units.{Unit, units, pending}
 use Rattle.rules.specs.Report.{runs, descriptor, room}
 use Rattle.rules.specs.Order.{receiveOrder}
@@ -38,7 +38,7 @@ module _ (ws : List ℕ) (id : ℕ) (x : List ℕ) (long : 32 ≤ length x) wher
   -- those of a receive that is not refused
   done-fits : (d : Device) (p : Option ℕ) → Fits x (receiveDone d ws id x p)
   done-fits d none = omega arith
-  done-fits d (some i) = report-fits (shareAt i) (controllerAt d (some i) .suspended) (controllerAt d (some i) .tracking) (controllerAt d (some i) .ranges)
+  done-fits d (some i) = report-fits (controllerAt d (some i) .base) (controllerAt d (some i) .suspended) (controllerAt d (some i) .tracking) (controllerAt d (some i) .ranges)
 
 module _ (d : Device) (ws : List ℕ) (id : ℕ) (x : List ℕ) where
   -- a receive that answers 0 was not refused

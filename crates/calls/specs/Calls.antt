@@ -1,27 +1,29 @@
 -- What each call answers and leaves, as a total function of what it is given: any record, any words, any bytes. The refusals are the tables of
 -- `rules` (Order.antt), and what is done is done by the rules' own functions on the controller's units and marks.
-use Prim.Native.Nat.{ℕ, _+_}
+use Prim.Native.Nat.{ℕ, suc, _+_}
 use mathlib.Core.Bool.{Bool, false, _||_, cond}
-use mathlib.Core.List.{List, [], _∷_}
+use mathlib.Core.List.{List, [], _∷_, map}
 use mathlib.Core.Option.{Option, none, some}
 use lib.Dec.{eqb}
-use lib.ListN.{length, take, replicate}
+use lib.ListN.{length, take, getD, replicate}
 use Rattle.bits.specs.Flat.{flat}
 use Rattle.bits.specs.Span.{fill}
 use Rattle.bits.specs.Share.{getShare, putShare}
 use Rattle.bits.specs.Pack.{pack}
+use Rattle.pool.specs.Pool.{newBase, packed}
 use Rattle.little.specs.Little.{put}
 use Rattle.rules.specs.Refusals.{verdict}
-use Rattle.rules.specs.Settings.{shareSize, shareAt, placeOf}
+use Rattle.rules.specs.Settings.{placeOf}
 use Rattle.rules.specs.Units.{Unit, Write, units, mark, newly}
 use Rattle.rules.specs.StartData.{granularityOf, countOf, rangesOf, placed}
 use Rattle.rules.specs.Report.{Report, room, reportOn, marksLeft, reportBytes}
 use Rattle.rules.specs.Order.{freshOrder, startOrder, stopOrder, writeOrder, batchOrder, receiveOrder, suspendOrder, resumeOrder, Part, offsetOf, isLast, joinedWith, partOrder}
-use Rattle.rules.specs.Device.{freshOf}
+use Rattle.rules.specs.Device.{heldUnits, heldOf, sharesOf, freshOf}
 use Rattle.rules.specs.Machine.{noReport}
 use Rattle.rules.specs.declared.Range.{Range}
 use Rattle.rules.specs.declared.Tracking.{Tracking}
 use Rattle.rules.specs.declared.Tracking.the-variants.{Off, On}
+use Rattle.rules.specs.declared.Share.{Share}
 use Rattle.rules.specs.declared.Sequence.{Sequence}
 use Rattle.rules.specs.declared.Sequence.the-variants.{Nothing, Open}
 use Rattle.rules.specs.declared.Controller.{Controller}
@@ -46,9 +48,36 @@ marksAt ws base n = getShare (flat ws) base n
 unfoldable pub withMarks : List ℕ → ℕ → List Bool → List ℕ
 withMarks ws base p = pack (length ws) (putShare (flat ws) base p)
 
--- words with a whole share clear
-unfoldable pub withClear : List ℕ → ℕ → List ℕ
-withClear ws base = pack (length ws) (fill false (flat ws) base shareSize)
+-- words with so many marks clear from a bit on
+unfoldable pub withClear : List ℕ → ℕ → ℕ → List ℕ
+withClear ws base n = pack (length ws) (fill false (flat ws) base n)
+
+-- ---- W7: the shares of the pool
+
+-- where the shares of a record's places begin, and how many bits they have
+abbrev pub basesOf : Device → List ℕ
+basesOf d = map (λ (a : Share). a .base) (sharesOf d)
+
+abbrev pub sizesOf : Device → List ℕ
+sizesOf d = map (λ (a : Share). a .size) (sharesOf d)
+
+-- the same controller with its share elsewhere
+abbrev pub withBase : Controller → ℕ → Controller
+withBase c base = record { tracking = c .tracking; base = base; suspended = c .suspended; ranges = c .ranges }
+
+-- controllers from place i on whose shares, of these sizes, are packed: one that has none is as it was
+abbrev pub packedFrom : List ℕ → ℕ → List Controller → List Controller
+packedFrom sizes i [] = []
+packedFrom sizes i (c ∷ cs) = cond (eqb (getD sizes i 0) 0) c (withBase c (newBase sizes i)) ∷ packedFrom sizes (suc i) cs
+
+-- a record whose shares stand one after another from bit 0 on, in the order of the settings
+abbrev pub packedDevice : Device → Device
+packedDevice d = record { settings = d .settings; controllers = packedFrom (sizesOf d) 0 (d .controllers); sequence = d .sequence }
+
+-- the words in which shares that began at these bits, of these sizes, stand so, with their marks, but for the one at place i, which is clear; every bit behind
+-- them is 0
+unfoldable pub packedWords : List ℕ → List ℕ → List ℕ → ℕ → List ℕ
+packedWords ws bases sizes i = pack (length ws) (packed (flat ws) bases sizes i)
 
 -- ---- what a call answers, and the marks that it leaves
 
@@ -73,13 +102,15 @@ freshChange s ws =
     (changed 0 (freshOf s (length ws)) (replicate (length ws) 0))
     (λ n i. changed n (freshOf s (length ws)) ws)
 
--- a start records granularity, count and ranges, with zeros in the other places, and clears the share
+-- a start records granularity, count and ranges, with zeros in the other places, and packs the shares, its own clear among them
 abbrev pub started : Controller → List ℕ → Controller
-started c x = record { tracking = On (granularityOf x) (countOf x); suspended = c .suspended; ranges = placed (rangesOf x) }
+started c x = record { tracking = On (granularityOf x) (countOf x); base = 0; suspended = c .suspended; ranges = placed (rangesOf x) }
 
 abbrev pub startDone : Device → List ℕ → List ℕ → Option ℕ → Change Started
 startDone d ws x none = startedWith 0 0 d ws
-startDone d ws x (some i) = startedWith 0 0 (withController d i (started (controllerAt d (some i)) x)) (withClear ws (shareAt i))
+startDone d ws x (some i) =
+    let e = withController d i (started (controllerAt d (some i)) x) in
+    startedWith 0 0 (packedDevice e) (packedWords ws (basesOf d) (sizesOf e) i)
 
 abbrev pub startAt : Device → List ℕ → List ℕ → Option ℕ → Change Started
 startAt d ws x p = verdict (startOrder (d .settings) (seenIn d (length ws) p) x) (startDone d ws x p) (λ n i. startedWith n i d ws)
@@ -87,13 +118,15 @@ startAt d ws x p = verdict (startOrder (d .settings) (seenIn d (length ws) p) x)
 unfoldable pub startChange : Device → List ℕ → ℕ → List ℕ → Change Started
 startChange d ws id x = startAt d ws x (placeOf (d .settings) id)
 
--- a stop forgets the ranges and clears the share
+-- a stop forgets the ranges and clears the share; no other moves
 abbrev pub stopped : Controller → Controller
-stopped c = record { tracking = Off; suspended = c .suspended; ranges = placed [] }
+stopped c = record { tracking = Off; base = 0; suspended = c .suspended; ranges = placed [] }
 
 abbrev pub stopDone : Device → List ℕ → Option ℕ → Change Changed
 stopDone d ws none = changed 0 d ws
-stopDone d ws (some i) = changed 0 (withController d i (stopped (controllerAt d (some i)))) (withClear ws (shareAt i))
+stopDone d ws (some i) =
+    let c = controllerAt d (some i) in
+    changed 0 (withController d i (stopped c)) (withClear ws (c .base) (heldUnits (heldOf c)))
 
 abbrev pub stopAt : Device → List ℕ → Option ℕ → Change Changed
 stopAt d ws p = verdict (stopOrder (seenIn d (length ws) p)) (stopDone d ws p) (λ n i. changed n d ws)
@@ -103,7 +136,7 @@ stopChange d ws id = stopAt d ws (placeOf (d .settings) id)
 
 -- a suspend changes the flag alone
 abbrev pub flagged : Controller → Bool → Controller
-flagged c b = record { tracking = c .tracking; suspended = b; ranges = c .ranges }
+flagged c b = record { tracking = c .tracking; base = c .base; suspended = b; ranges = c .ranges }
 
 abbrev pub flagDone : Device → Option ℕ → Bool → Changed
 flagDone d none b = record { number = 0; device = d }
@@ -148,7 +181,7 @@ noteIn ws base (On g n) rs w =
 
 abbrev pub writeDone : Device → List ℕ → Write → Option ℕ → Note
 writeDone d ws w none = noted 0 0 ws
-writeDone d ws w (some i) = noteIn ws (shareAt i) (controllerAt d (some i) .tracking) (controllerAt d (some i) .ranges) w
+writeDone d ws w (some i) = noteIn ws (controllerAt d (some i) .base) (controllerAt d (some i) .tracking) (controllerAt d (some i) .ranges) w
 
 abbrev pub writeAt : Device → List ℕ → Write → Option ℕ → Note
 writeAt d ws w p = verdict (writeOrder (seenIn d (length ws) p) w) (writeDone d ws w p) (λ n i. noted n 0 ws)
@@ -216,7 +249,7 @@ receiveIn ws base id b (On g n) rs x =
 abbrev pub receiveDone : Device → List ℕ → ℕ → List ℕ → Option ℕ → Receipt
 receiveDone d ws id x none = received 0 noReport ws x
 receiveDone d ws id x (some i) =
-    receiveIn ws (shareAt i) id (controllerAt d (some i) .suspended) (controllerAt d (some i) .tracking) (controllerAt d (some i) .ranges) x
+    receiveIn ws (controllerAt d (some i) .base) id (controllerAt d (some i) .suspended) (controllerAt d (some i) .tracking) (controllerAt d (some i) .ranges) x
 
 abbrev pub receiveAt : Device → List ℕ → ℕ → List ℕ → Option ℕ → Receipt
 receiveAt d ws id x p = verdict (receiveOrder (seenIn d (length ws) p) x) (receiveDone d ws id x p) (λ n i. received n noReport ws x)

@@ -4,10 +4,11 @@
 
 use record::Place;
 use rules::Bytes;
+use rules::Controller;
 use rules::Device;
+use rules::Range;
 ghost use mathlib.Core.Path.{_≡_};
-ghost use Prim.Native.Nat.{_<_};
-ghost use Rattle.rules.specs.Settings.{shareAt};
+ghost use lib.ListN.{length};
 ghost use Rattle.calls.specs.Inner.{placeNumber};
 
 // The answer of a call that may change the record: its number, and the record as it is afterwards.
@@ -60,15 +61,11 @@ pub struct StateSet {
     pub device: Device,
 }
 
-// The bits of each controller's share of the marks: 64 words.
-pub const SHARE: usize = 4096;
-
-// The first bit of the share of the controller at a place.
-pub fn share_at(i: usize) -> usize
-    requires { ⌜ i < 8 ⌝ }
-    ensures { λ r. ⌜ r ≡ shareAt i ⌝ }
+// The ranges of a controller: all sixteen places.
+pub fn ranges_of(c: Controller) -> [Range; 16]
+    ensures { λ r. ⌜ (r ≡ c .ranges) × (length r ≡ 16) ⌝ }
 {
-    SHARE * i
+    c.ranges
 }
 
 // The number of a refused place.

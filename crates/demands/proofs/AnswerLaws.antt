@@ -9,7 +9,7 @@ use lib.Dec.{eqb}
 use lib.ListN.{length}
 use Rattle.little.specs.Little.{put}
 use Rattle.rules.specs.Refusals.{Test, verdict, refusal, placeIn}
-use Rattle.rules.specs.Settings.{shareAt, markWords, settingsOk, placeOf}
+use Rattle.rules.specs.Settings.{markWords, settingsOk, placeOf}
 use Rattle.rules.specs.Units.{Write}
 use Rattle.rules.specs.Order.{freshOrder, startOrder, Part, offsetOf, isLast, joinedWith}
 use Rattle.rules.specs.Device.{closedDevice, freshOf}
@@ -83,7 +83,7 @@ note-zero ws base (On g n) rs w = refl
 
 pub write-zero : (d : Device) (ws : List ℕ) (w : Write) (p : Option ℕ) → writeDone d ws w p .answer .number ≡ 0
 write-zero d ws w none = refl
-write-zero d ws w (some i) = note-zero ws (shareAt i) (controllerAt d (some i) .tracking) (controllerAt d (some i) .ranges) w
+write-zero d ws w (some i) = note-zero ws (controllerAt d (some i) .base) (controllerAt d (some i) .tracking) (controllerAt d (some i) .ranges) w
 
 report-zero : (ws : List ℕ) (base id : ℕ) (b : Bool) (t : Tracking) (rs : List Range) (x : List ℕ) → receiveIn ws base id b t rs x .answer .number ≡ 0
 report-zero ws base id b Off rs x = refl
@@ -91,7 +91,7 @@ report-zero ws base id b (On g n) rs x = refl
 
 pub receive-zero : (d : Device) (ws : List ℕ) (id : ℕ) (x : List ℕ) (p : Option ℕ) → receiveDone d ws id x p .answer .number ≡ 0
 receive-zero d ws id x none = refl
-receive-zero d ws id x (some i) = report-zero ws (shareAt i) id (controllerAt d (some i) .suspended) (controllerAt d (some i) .tracking) (controllerAt d (some i) .ranges) x
+receive-zero d ws id x (some i) = report-zero ws (controllerAt d (some i) .base) id (controllerAt d (some i) .suspended) (controllerAt d (some i) .tracking) (controllerAt d (some i) .ranges) x
 
 -- a refused fresh makes the closed device
 pub fresh-answers : (s : Settings) (ws : List ℕ)

@@ -3,7 +3,7 @@ use mathlib.Core.Path.{_≡_, refl, sym, ap, ap₂, subst, _∙_}
 use mathlib.Core.Logic.{_≢_, _↔_}
 use mathlib.Core.Option.{Option, none, some}
 use mathlib.Core.Bool.{Bool, true, false, cond, not}
-use mathlib.Core.List.{List, [], _∷_, _++_, map}
+use mathlib.Core.List.{List, [], _∷_, map}
 use Prim.Native.Nat.{ℕ, zero, suc, _+_, _^_}
 use native.Mathlib.Omega.{arith}
 use lib.Dec.{eqb, leb}
@@ -16,9 +16,9 @@ use Rattle.rules.specs.declared.Tracking.{Tracking}
 use Rattle.rules.specs.declared.Tracking.the-variants.{Off, On}
 use Rattle.rules.specs.Refusals.{Test, refusal}
 use Rattle.rules.proofs.RefusalLaws.{Passed, verdict-has, verdict-done}
-use Rattle.rules.specs.Settings.{mostNotes, shareAt, placeOf}
+use Rattle.rules.specs.Settings.{mostNotes, placeOf}
 use Rattle.rules.specs.Order.{writeOrder, batchOrder}
-use Rattle.rules.specs.Machine.{refused, wrote, Call, Event, countsIn}
+use Rattle.rules.specs.Machine.{refused, wrote, Call, Event, countsIn, unitsIn}
 use Rattle.rules.specs.Demands.{sessionEnd}
 use Rattle.rules.specs.declared.Device.{Device}
 use Rattle.record.specs.Record.{soundWith, controllerAt, seenIn}
@@ -29,6 +29,7 @@ use Rattle.demands.specs.View.{run}
 use Rattle.demands.specs.Sessions.{Left, Step, one, batch, next, leftAfter, answersTo, stepped, leftBy, noteOf, tried, callsOf, expand, begun, callsIn, historyIn}
 use Rattle.demands.specs.Demand2.{Stands}
 use Rattle.demands.specs.Batches.{doneIn, newlyIn, lastNumber, IsNotes, ByNote, Batches}
+use Rattle.demands.proofs.SessionLaws.{left-append}
 use Rattle.demands.proofs.AnswerLaws.{answers}
 use Rattle.demands.proofs.Demand1.{demand-1}
 use Rattle.demands.proofs.Demand2.{demand-2}
@@ -151,7 +152,7 @@ module _ (d : Device) (ws : List ℕ) where
 
       done : (p : Option ℕ) → length (writeDone d ws w p .marks) ≡ length ws
       done none = refl
-      done (some i) = in-share (shareAt i) (controllerAt d (some i) .tracking) (controllerAt d (some i) .ranges)
+      done (some i) = in-share (controllerAt d (some i) .base) (controllerAt d (some i) .tracking) (controllerAt d (some i) .ranges)
 
   -- a note is refused with 1 exactly where record and marks are unsound, and so is a batch
   note-one : (id : ℕ) (w : Write) → soundWith d (length ws) ≡ false → writeNote d ws id w .answer .number ≡ 1
@@ -213,10 +214,6 @@ by-first l =
 
 -- ---- sessions
 
-left-append : (ks js : List Call) (l : Left) → leftAfter l (ks ++ js) ≡ leftAfter (leftAfter l ks) js
-left-append [] js l = refl
-left-append (k ∷ ks) js l = left-append ks js (next l k)
-
 -- a step leaves what its calls leave
 step-left : (l : Left) (x : Step) → stepped l x ≡ leftAfter l (callsOf l x)
 step-left l (one k) = refl
@@ -248,7 +245,7 @@ batches =
       calls = λ s m ks. only-calls ks (begun s m);
       rules = λ s a m xs sized. demand-2 .rules s a m (callsIn s m xs) sized;
       stands = λ s m xs sized e a.
-          subst (λ (l : Left). Stands s l (historyIn s m (callsIn s m xs) a) (countsIn (sessionEnd s (length (m .marks)) (callsIn s m xs))) a) (sym (left-by xs (begun s m)))
+          subst (λ (l : Left). Stands s l (historyIn s m (callsIn s m xs) a) (countsIn (sessionEnd s (length (m .marks)) (callsIn s m xs))) (unitsIn (sessionEnd s (length (m .marks)) (callsIn s m xs))) a) (sym (left-by xs (begun s m)))
           (demand-2 .stands s m (callsIn s m xs) sized e a);
       together = λ s a m m′ xs xs′ sized sized′ same e f g. demand-3 .together s a m m′ (callsIn s m xs) (callsIn s m′ xs′) sized sized′ same e f g;
       alone = λ s a m xs sized f. demand-3 .alone s a m (callsIn s m xs) sized f;

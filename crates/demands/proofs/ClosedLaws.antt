@@ -10,7 +10,7 @@ use lib.ListN.{length}
 use borrow.Author.Tests.{eqb-true, eqb-false}
 use Rattle.rules.specs.Settings.{markWords, settingsOk}
 use Rattle.rules.specs.Order.{Op, start, stop, write, receive, suspend, resume, part}
-use Rattle.rules.specs.Device.{closedDevice, sound}
+use Rattle.rules.specs.Device.{sharesOk, closedDevice, sound}
 use Rattle.rules.specs.Machine.{Answer, refused, pendingIn, State, closed, opened, fresh, slotOf, Call, step, lent, stored}
 use Rattle.rules.specs.History.{historyOf}
 use Rattle.rules.specs.Demands.{sessionEnd, sessionHistory, lentBytes}
@@ -71,6 +71,7 @@ closed-session s m ks e = let z = fresh-answers s (m .marks) .refused e in rw (z
 
 -- a session of the closed device
 closed-same : (ks : List Call) (m : Given) → Same (shut m) closed ks
+unfolding sharesOk
 closed-same [] m = record { state = refl; told = refl; bytes = λ a. refl }
 closed-same (k ∷ ks) m =
     let o = closed-outcome m k in

@@ -1,48 +1,34 @@
 -- Demand 1, proved of the calls, the structure's reader and writer and the report's reader. Assumes nothing.
 use mathlib.Core.Path.{_≡_, refl, sym, ap, _∙_}
 use mathlib.Core.Logic.{_≢_, _⊎_, inl, inr}
-use mathlib.Core.Bool.{true, false, not, _&&_, _||_, and-false, true≢false}
-use mathlib.Core.List.{List, [], _∷_, map}
+use mathlib.Core.Bool.{false, not, _&&_, _||_, and-false}
+use mathlib.Core.List.{List, [], _∷_}
 use mathlib.Core.Option.{Option, none, some}
-use native.Mathlib.Omega.{arith}
-use lib.Seq.{getD-take}
 use Prim.Native.Nat.{ℕ, _+_, _*_, _%_, _≤_, _<_}
 use Rattle.little.specs.Little.{numberAt}
 use lib.Dec.{leb, eqb}
 use lib.ListN.{length, take, getD}
-use borrow.Author.Tests.{le-leb, lt-leb, leb-true, eq-eqb, ne-eqb, eqb-true}
+use borrow.Author.Tests.{le-leb, lt-leb, eq-eqb, ne-eqb}
 use Rattle.rules.specs.Refusals.{_else_, refusal}
 use Rattle.rules.specs.Settings.{placeOf, granularityOk}
 use Rattle.rules.specs.StartData.{granularityOf, countOf, headerTests, readTests, startData}
-use Rattle.rules.specs.Order.{Op, start, stop, write, receive, suspend, resume, part, Part, Seen, startOrder, stopOrder, writeOrder, receiveOrder, suspendOrder, resumeOrder, partOrder}
-use Rattle.rules.specs.Machine.{refused, soundState, noReport, Call}
-use Rattle.rules.specs.Device.{heldOf, frontOk, freshController, controllersOf, suspendedAt, sequenceOk, soundDevice}
+use Rattle.rules.specs.Order.{start, stop, write, receive, suspend, resume, part, Part, Seen, startOrder, stopOrder, writeOrder, receiveOrder, suspendOrder, resumeOrder, partOrder}
+use Rattle.rules.specs.Machine.{refused, noReport}
+use Rattle.rules.specs.Device.{soundDevice}
 use Rattle.rules.proofs.RefusalLaws.{verdict-has, verdict-refused}
-use Rattle.rules.proofs.ListLaws.{and-left, and-right, getD-any}
-use Rattle.rules.proofs.SoundLaws.{sound-sequence}
 use Rattle.rules.proofs.NameLaws.{early, names}
-use Rattle.rules.proofs.HeldLaws.{held}
-use Rattle.rules.proofs.Theorems as rules
 use Rattle.rules.specs.ReportReader.{reportTests, reportRefusal}
 use Rattle.rules.specs.declared.Settings.{Settings}
 use Rattle.rules.specs.declared.Header.the-variants.{Is, Refused}
-use Rattle.rules.specs.declared.Sequence.the-variants.{Open}
-use Rattle.rules.specs.declared.Controller.{Controller}
 use Rattle.rules.specs.declared.Device.{Device}
-use Rattle.record.specs.Record.{soundWith, noController, controllerAt, seenIn, arrivingIn}
-use Rattle.record.proofs.RecordLaws.{soundDevice-facts}
+use Rattle.record.specs.Record.{soundWith, controllerAt, seenIn, arrivingIn}
 use Rattle.start_data.specs.Answer.{Said}
 use Rattle.start_data.proofs.Answers.{headerOf-says, startData-says, startData-none, startWritten-refused}
 use Rattle.report_reader.proofs.AnswerLaws.{refused-answer, index-zero}
 use Rattle.calls.specs.Calls.{Change, changed, startedWith, startDone, startChange, stopDone, stopChange, flagDone, suspendChange, resumeDone, resumeChange, Note, noted, writeDone, writeNote, Receipt, received, receiveDone, receiveReceipt, Arrival, arrival, partDone, partChange}
 use Rattle.calls.specs.declared.Changed.{Changed}
 use Rattle.calls.specs.declared.Started.{Started}
-use Rattle.demands.specs.View.{run, runAs}
-use Rattle.demands.specs.Sessions.{Left, outcome, begun, endOf}
-use Rattle.demands.specs.Demand1.{Answers, Demand1, LawfulSequence, Soundness}
-use Rattle.demands.proofs.ViewLaws.{sound-same, placeOf-used}
-use Rattle.demands.proofs.SessionLaws.{begins, fits-after}
-use Rattle.demands.proofs.ClosedLaws.{fresh-done, closed-session, closed-answer, session}
+use Rattle.demands.specs.Demand1.{Answers, Demand1}
 use Rattle.demands.proofs.AnswerLaws.{answers, fresh-answers, start-zero, row-is, stop-zero, flag-zero, resume-zero, write-zero, receive-zero, part-zero}
 
 -- a start answers by its table
@@ -85,10 +71,10 @@ unfolding granularityOk
 eight s v x = refl
 
 -- W6: a part on marks or an area of another size
-lent : (d : Device) (words : ℕ) (area : List ℕ) (id : ℕ) (p : Part) → (words ≢ 512) ⊎ (length area ≢ 4096) → partChange d words area id p .answer .number ≡ 1
+lent : (d : Device) (words : ℕ) (area : List ℕ) (id : ℕ) (p : Part) → (words ≢ 256) ⊎ (length area ≢ 4096) → partChange d words area id p .answer .number ≡ 1
 unfolding partChange soundWith
-lent d words area id p (inl h) = rw (ne-eqb words 512 h, and-false (soundDevice d))
-lent d words area id p (inr h) = rw (ne-eqb (length area) 4096 h, and-false (soundDevice d && eqb words 512))
+lent d words area id p (inl h) = rw (ne-eqb words 256 h, and-false (soundDevice d))
+lent d words area id p (inr h) = rw (ne-eqb (length area) 4096 h, and-false (soundDevice d && eqb words 256))
 
 -- a suspend leaves an open sequence
 leaves : (d : Device) (words id kind : ℕ) → suspendChange d words id kind .device .sequence ≡ d .sequence
@@ -107,6 +93,7 @@ unfolding stopChange writeNote receiveReceipt suspendChange resumeChange partCha
 demand-1 =
     record {
       fresh = fresh-answers;
+      fresh-order = λ s words. refl;
       start = start-number;
       row = row-is;
       before = eight;
@@ -179,68 +166,4 @@ demand-1 =
           };
       read-none = none-said;
       read-index = λ x i. record { first = refl; refused = λ h. (sym (index-zero x i _ h), sym (index-zero x i _ h)) };
-    }
-
--- ---- soundness
-
--- an unsound record, or marks of another number of words
-unsound-run : (d : Device) (ws area : List ℕ) (id : ℕ) (o : Op) → soundWith d (length ws) ≡ false → runAs d ws area id o .answer ≡ refused 1 0
-unfolding startChange stopChange writeNote receiveReceipt suspendChange resumeChange partChange
-unsound-run d ws area id (start x) e = rw e
-unsound-run d ws area id stop e = rw e
-unsound-run d ws area id (write w) e = rw e
-unsound-run d ws area id (receive x) e = rw e
-unsound-run d ws area id (suspend kind) e = rw e
-unsound-run d ws area id resume e = rw e
-unsound-run d ws area id (part p) e = rw e
-
-unsound : (l : Left) (k : Call) → (soundDevice (l .device) ≡ false) ⊎ (length (l .marks) ≢ 512) → outcome l k .answer ≡ refused 1 0
-unfolding run soundWith
-unsound l k (inl e) = unsound-run (l .device) (l .marks) (l .area) (k .id) (k .op) (rw e)
-unsound l k (inr h) = unsound-run (l .device) (l .marks) (l .area) (k .id) (k .op) (rw (ne-eqb (length (l .marks)) 512 h) (and-false (soundDevice (l .device))))
-
--- what a sound record says of an open sequence
-lawful : (d : Device) (owner end : ℕ) → length (d .controllers) ≡ 8 → d .sequence ≡ Open owner end → soundDevice d ≡ true → LawfulSequence d owner end
-lawful d owner end eight q e = go (placeOf (d .settings) owner) refl
-  where
-    k : (suspendedAt (controllersOf d) (placeOf (d .settings) owner) && frontOk end) ≡ true
-    k = sym (ap (sequenceOk (d .settings) (controllersOf d)) q) ∙ sound-sequence (d .settings) (map heldOf (controllersOf d)) _ e
-
-    flag : suspendedAt (controllersOf d) (placeOf (d .settings) owner) ≡ true
-    flag = and-left (suspendedAt (controllersOf d) (placeOf (d .settings) owner)) (frontOk end) k
-
-    ends : (leb end 4096 && eqb (end % 4) 0) ≡ true
-    ends = and-right (leb 4 end) _ (and-right (suspendedAt (controllersOf d) (placeOf (d .settings) owner)) (frontOk end) k)
-
-    go : (p : Option ℕ) → placeOf (d .settings) owner ≡ p → LawfulSequence d owner end
-    go none z = absurd (true≢false (sym flag ∙ ap (suspendedAt (controllersOf d)) z))
-    go (some i) z =
-        let u = placeOf-used d owner i z in
-        let same : getD (controllersOf d) i freshController ≡ getD (d .controllers) i noController =
-        getD-take (d .settings .count) (d .controllers) i freshController u ∙ getD-any (d .controllers) i freshController noController (omega (arith, u, soundDevice-facts d e .count, eight)) in
-        record {
-          place = i;
-          known = z;
-          suspended = sym (ap (λ (c : Controller). c .suspended) same) ∙ sym (ap (suspendedAt (controllersOf d)) z) ∙ flag;
-          dwords = eqb-true (end % 4) 0 (and-right (leb end 4096) _ ends);
-          least = leb-true 4 end (and-left (leb 4 end) _ (and-right (suspendedAt (controllersOf d) (placeOf (d .settings) owner)) (frontOk end) k));
-          most = leb-true end 4096 (and-left (leb end 4096) _ ends);
-        }
-
-pub soundness : Soundness
-soundness =
-    record {
-      held = held;
-      sequence = lawful;
-      unsound = unsound;
-      kept = λ s m ks sized e.
-          let f = fresh-done s (m .marks) e in
-          let fits = fits-after ks (begun s m) (begins s m sized (f .0) (f .1) .fits) in (
-            sym (sound-same (endOf s m ks .device) (endOf s m ks .marks) (endOf s m ks .area) fits) ∙ ap soundState (session s m ks sized .state)
-                ∙ rules.soundness .kept s (length (m .marks)) ks (sym (fresh-answers s (m .marks) .first) ∙ e),
-            fits .words,
-          );
-      closed = λ s m ks k e.
-          let z = closed-session s m ks e in
-          (z, rw z (closed-answer m k .0), rw z (closed-answer m k .1));
     }

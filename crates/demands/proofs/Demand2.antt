@@ -11,19 +11,20 @@ use lib.Seq.{getD-take}
 use lib.ListN.{length, take, getD, getElem?, replicate, length-map, length-take}
 use borrow.Author.Tests.{eq-eqb, ne-eqb, le-leb, leb-true, leb-false, not-true}
 use Rattle.bits.specs.Flat.{flat}
-use Rattle.bits.proofs.Flat.{flat-at}
-use Rattle.bits.proofs.Share.{getShare-at}
+use Rattle.bits.proofs.Flat.{flat-at, flat-length}
+use Rattle.bits.proofs.Share.{getShare-at, getShare-length}
+use Rattle.little.specs.Little.{put}
 use Rattle.little.proofs.Put.{put-take-front}
 use Rattle.rules.specs.Lists.{join}
 use Rattle.rules.specs.Refusals.{Test, passes}
-use Rattle.rules.specs.Settings.{shareSize, shareAt, markWords, placeOf, granularityOk}
+use Rattle.rules.specs.Settings.{markWords, mostUnits, placeOf, granularityOk}
 use Rattle.rules.specs.Units.{Unit, Write, units, touches, mark, newly}
 use Rattle.rules.specs.Ranges.{powersOk}
-use Rattle.rules.specs.StartData.{granularityOf, countOf, rangesOf, headerTests, placed}
+use Rattle.rules.specs.StartData.{granularityOf, countOf, rangesOf, headerTests}
 use Rattle.rules.specs.Report.{descriptor, room, marksLeft, reportedRuns, reportBytes}
 use Rattle.rules.specs.Order.{Op, start, stop, write, receive, Part, Seen, order, startWho, startListed, startOwn, startShared, startOrder, stopOrder, writeOrder, receiveOrder}
-use Rattle.rules.specs.Device.{cleaned, freshDevice, freshOf}
-use Rattle.rules.specs.Machine.{off, on, Slot, isSuspended, refused, noReport, State, countsIn, seenAt, slotOf, slotAt, Call, lent}
+use Rattle.rules.specs.Device.{cleaned, freshDevice, freshOf, soundDevice}
+use Rattle.rules.specs.Machine.{off, on, Slot, isSuspended, refused, noReport, State, pendingIn, countsIn, unitsIn, seenAt, slotOf, slotAt, Call, step, fresh, lent}
 use Rattle.rules.specs.History.{Did, pendingBy, PendingBy, tracksBy, suspendedBy, marksBy, slotBy}
 use Rattle.rules.specs.Demands.{sessionEnd, UnitsListed}
 use Rattle.rules.specs.declared.Range.{Range}
@@ -34,34 +35,38 @@ use Rattle.rules.specs.declared.Sequence.{Sequence}
 use Rattle.rules.specs.declared.Sequence.the-variants.{Nothing, Open}
 use Rattle.rules.specs.declared.Controller.{Controller}
 use Rattle.rules.specs.declared.Device.{Device}
-use Rattle.rules.proofs.ListLaws.{All, All-append, not-intro, getElem?-at}
+use Rattle.rules.proofs.ListLaws.{All, All-append, not-intro, and-left, getElem?-at}
 use Rattle.rules.proofs.RefusalLaws.{Passed, passes-Passed, verdict-has, verdict-passed, verdict-done}
 use Rattle.rules.proofs.UnitLaws.{mark-length, mark-at}
 use Rattle.rules.proofs.RunLaws.{clearFirst-length}
 use Rattle.rules.proofs.SlotHistory.{pendingBy-iff}
-use Rattle.rules.proofs.StateLaws.{placeOf-is, cleaned-place, after-settings}
+use Rattle.rules.proofs.StateLaws.{placeOf-is, cleaned-place, after-settings, step-other}
+use Rattle.rules.proofs.OrderLaws.{startOrder-passed}
 use Rattle.rules.proofs.SoundLaws.{fresh-opens}
 use Rattle.rules.proofs.Theorems as rules
-use Rattle.record.specs.Record.{soundWith, noController, controllerAt, withController, seenIn, arrivingIn}
+use Rattle.record.specs.Record.{soundWith, noController, controllerAt, seenIn, arrivingIn}
 use Rattle.ranges.proofs.RangeLaws.{HeldFacts}
-use Rattle.record.proofs.RecordLaws.{soundDevice-facts, soundDevice-held}
+use Rattle.record.proofs.RecordLaws.{soundDevice-facts, soundDevice-held, soundDevice-inside}
+use Rattle.calls.proofs.PoolLaws.{sizesOf-at, sizesOf-share}
 use Rattle.report_data.proofs.Blocks.{reportBytes-length, report-rest}
 use Rattle.report_reader.proofs.ReadBack.{reads-back}
 use Rattle.calls.specs.declared.Changed.{Changed}
-use Rattle.calls.specs.declared.Started.{Started}
+use Rattle.calls.specs.declared.Started.{Started as StartAnswer}
 use Rattle.calls.specs.declared.StateSet.{StateSet}
-use Rattle.calls.specs.Calls.{marksAt, withMarks, withClear, freshChange, Change, changed, startedWith, startDone, startChange, stopDone, stopChange, flagDone, suspendChange, dropped, resumeDone, resumeChange, Note, noted, writeDone, writeNote, Receipt, received, reportIn, receiveDone, receiveReceipt, Arrival, partChange}
+use Rattle.calls.specs.Calls.{marksAt, withMarks, freshChange, Change, changed, startedWith, startDone, startChange, stopDone, stopChange, flagDone, suspendChange, dropped, resumeDone, resumeChange, Note, noted, noteIn, writeDone, writeNote, Receipt, received, reportIn, receiveIn, receiveDone, receiveReceipt, Arrival, partChange}
 use Rattle.demands.specs.View.{marksOf, slotOf as slotSeen, frontAt, view, run}
-use Rattle.demands.specs.Sessions.{Left, Given, Sized, begun, outcome, endOf, historyIn}
+use Rattle.demands.specs.Sessions.{Left, Given, Sized, begun, outcome, next, endOf, historyIn}
 use Rattle.demands.specs.Parts.{wholeBy, IsFinal, Arrives}
-use Rattle.demands.specs.Demand2.{Shaped, Steps, bitOf, toldOf, Elsewhere, Kept, flaggedAt, Resumed, Replaced, Wrote, Received, Tracked, Moves, starts, stops, writes, Stands, Demand2}
-use Rattle.demands.proofs.MarkLaws.{clear-bit, clear-elsewhere, put-bit, put-elsewhere}
+use Rattle.demands.specs.Soundness.{baseAt}
+use Rattle.demands.specs.Demand2.{pendingOf, Shaped, Steps, bitOf, sizeAt, toldOf, Elsewhere, Kept, flaggedAt, Resumed, Started, Stopped, Wrote, Received, Tracked, Moves, starts, stops, writes, Stands, Keeps, Demand2}
+use Rattle.demands.proofs.MarkLaws.{put-bit, put-elsewhere}
 use Rattle.demands.proofs.ViewLaws.{Listed, Fits, slot-at, seen-same, placeOf-used, front-own}
-use Rattle.demands.proofs.StepLaws.{order-numbers, call-step}
-use Rattle.demands.proofs.SessionLaws.{begins, fits-after}
+use Rattle.demands.proofs.StepLaws.{not-on, is-on, listed-some, order-numbers, call-step}
+use Rattle.demands.proofs.Pool.{packs-start, clears-stop}
+use Rattle.demands.proofs.SessionLaws.{begins, fits-after, left-append, after-append}
 use Rattle.demands.proofs.ClosedLaws.{fresh-done, session, history-same, slot-same, equals}
 use Rattle.demands.proofs.AnswerLaws.{fresh-answers, write-zero}
-use Rattle.demands.proofs.Demand1.{soundness}
+use Rattle.demands.proofs.Soundness.{soundness}
 use Rattle.demands.proofs.Parts.{arrives, part-unknown}
 
 -- ---- fresh
@@ -72,11 +77,8 @@ fresh-is s ws e = let f = fresh-done s ws e in rw (f .0, eq-eqb (length ws) mark
 
 -- ---- places
 
-bit-at : (ws : List ℕ) (i m : ℕ) → bitOf ws i m ≡ eqb (getD ws (64 * i + m / 64) 0 / 2 ^ (m % 64) % 2) 1
-bit-at ws i m =
-    let e : (shareAt i + m) / 64 ≡ 64 * i + m / 64 = omega arith in
-    let f : (shareAt i + m) % 64 ≡ m % 64 = omega arith in
-    flat-at ws (shareAt i + m) ∙ rw (e, f)
+bit-at : (ws : List ℕ) (base m : ℕ) → bitOf ws base m ≡ eqb (getD ws ((base + m) / 64) 0 / 2 ^ ((base + m) % 64) % 2) 1
+bit-at ws base m = flat-at ws (base + m)
 
 is-place : (s : Settings) (a i : ℕ) → length (s .identifiers) ≡ 8 → placeOf s a ≡ some i → (i < s .count) × (getD (s .identifiers) i 0 ≡ a)
 is-place s a i eight e =
@@ -100,14 +102,106 @@ dropped-other : (a : ℕ) (q : Sequence) → ((end : ℕ) → q ≢ Open a end) 
 dropped-other a Nothing f = refl
 dropped-other a (Open owner end) f = rw (ne-eqb owner a (λ e. f end (ap (λ x. Open x end) e)))
 
+-- ---- W7: what the calls of any record leave of the pool
+
+module _ (l : Left) (fits : Fits (l .device) (l .marks) (l .area)) (a i : ℕ) (at : placeOf (l .device .settings) a ≡ some i) where
+  abbrev dev : Device
+  dev = l .device
+
+  abbrev ws : List ℕ
+  ws = l .marks
+
+  abbrev own : Controller
+  own = controllerAt dev (some i)
+
+  in-use : i < dev .settings .count
+  in-use = placeOf-used dev a i at
+
+  sound-from : soundWith dev (length ws) ≡ true → soundDevice dev ≡ true
+  unfolding soundWith
+  sound-from e = and-left (soundDevice dev) _ e
+
+  starts-so : (x : List ℕ)
+      → let r = startChange dev ws a x in
+      r .answer .number ≡ 0 → Started dev ws i (granularityOf x) (countOf x) (rangesOf x) (r .answer .device) (r .marks)
+  unfolding startChange order
+  starts-so x e =
+      let r = verdict-done (λ (k : Change StartAnswer). k .answer .number) (startOrder (dev .settings) (seenIn dev (length ws) (some i)) x) (startDone dev ws x (some i)) (λ n j. startedWith n j dev ws)
+      (λ n j. refl) (order-numbers (dev .settings) (seenIn dev (length ws) (some i)) (arrivingIn (dev .sequence) (l .area) a) (start x)) (rw at at e) in
+      let running : own .suspended ≡ false = not-true (own .suspended) (r .1 .1 .1 .0) in
+      let p = startOrder-passed (dev .settings) (seenIn dev (length ws) (some i)) x (r .1) in
+      rw at (subst (λ (k : Change StartAnswer). Started dev ws i (granularityOf x) (countOf x) (rangesOf x) (k .answer .device) (k .marks)) (sym (r .0))
+      (packs-start dev ws (l .area) fits (sound-from (r .1 .0)) i in-use x running (not-on (own .tracking) (p .untracked)) p))
+
+  stops-so : let r = stopChange dev ws a in r .answer .number ≡ 0 → Stopped dev ws i (r .answer .device) (r .marks)
+  unfolding stopChange order
+  stops-so e =
+      let r = verdict-done (λ (k : Change Changed). k .answer .number) (stopOrder (seenIn dev (length ws) (some i))) (stopDone dev ws (some i)) (λ n j. changed n dev ws)
+      (λ n j. refl) (order-numbers (dev .settings) (seenIn dev (length ws) (some i)) (arrivingIn (dev .sequence) (l .area) a) stop) (rw at at e) in
+      let running : own .suspended ≡ false = not-true (own .suspended) (r .1 .1 .1 .0) in
+      let o = is-on (own .tracking) (r .1 .1 .1 .1 .0) in
+      let sure = sound-from (r .1 .0) in
+      rw at (subst (λ (k : Change Changed). Stopped dev ws i (k .answer .device) (k .marks)) (sym (r .0))
+      (clears-stop dev ws (l .area) fits sure i in-use (o .0) (o .1) (o .2) (listed-some dev ws (l .area) fits sure i in-use (o .0) (o .1) (o .2)) running))
+
+  -- words as they were
+  as-were : Elsewhere (baseAt dev i) (sizeAt dev i) ws ws
+  as-were = record { words = refl; below = λ b h. refl; above = λ b h. refl }
+
+  -- other marks in its share, as many as it has units
+  module _ (sure : soundDevice dev ≡ true) (g n : ℕ) (t : own .tracking ≡ On g n) where
+    abbrev mine : List Unit
+    mine = units g (take n (own .ranges))
+
+    there : i < length (dev .controllers)
+    there = omega (arith, in-use, soundDevice-facts dev sure .count, fits .controllers)
+
+    in-words : own .base + length mine ≤ 64 * markWords
+    in-words = soundDevice-inside dev i g n sure in-use there t (listed-some dev ws (l .area) fits sure i in-use g n t)
+
+    as-many : length (marksAt ws (own .base) (length mine)) ≡ length mine
+    as-many = getShare-length (flat ws) (own .base) (length mine) (omega (arith, in-words, flat-length ws, fits .words))
+
+    size-of : sizeAt dev i ≡ length mine
+    size-of =
+        sym (sizesOf-share dev (fits .controllers) (soundDevice-facts dev sure .count) i)
+        ∙ sizesOf-at dev (fits .controllers) (soundDevice-facts dev sure .count) i in-use
+        ∙ rw t
+
+    put-so : (q : List Bool) → length q ≡ length mine → Elsewhere (baseAt dev i) (sizeAt dev i) ws (withMarks ws (own .base) q)
+    put-so q k = subst (λ m. Elsewhere (own .base) m ws (withMarks ws (own .base) q)) (k ∙ sym size-of) (put-elsewhere ws (fits .words) (own .base) q (omega (arith, k, in-words)))
+
+  writes-so : (w : Write) → Elsewhere (baseAt dev i) (sizeAt dev i) ws (writeNote dev ws a w .marks)
+  unfolding writeNote
+  writes-so w =
+      rw at (verdict-has (λ (k : Note). Elsewhere (baseAt dev i) (sizeAt dev i) ws (k .marks)) (λ n j. noted n 0 ws) (λ n j. as-were)
+      (writeOrder (seenIn dev (length ws) (some i)) w) (writeDone dev ws w (some i)) (λ p. go (sound-from (p .0)) (own .tracking) refl))
+    where
+      go : soundDevice dev ≡ true → (t : Tracking) → own .tracking ≡ t → Elsewhere (baseAt dev i) (sizeAt dev i) ws (noteIn ws (own .base) t (own .ranges) w .marks)
+      go sure Off e = as-were
+      go sure (On g n) e = put-so sure g n e (mark w (mine sure g n e) (marksAt ws (own .base) (length (mine sure g n e)))) (mark-length w (mine sure g n e) _ (as-many sure g n e))
+
+  receives-so : (x : List ℕ) → Elsewhere (baseAt dev i) (sizeAt dev i) ws (receiveReceipt dev ws a x .marks)
+  unfolding receiveReceipt
+  receives-so x =
+      rw at (verdict-has (λ (k : Receipt). Elsewhere (baseAt dev i) (sizeAt dev i) ws (k .marks)) (λ n j. received n noReport ws x) (λ n j. as-were)
+      (receiveOrder (seenIn dev (length ws) (some i)) x) (receiveDone dev ws a x (some i)) (λ p. go (sound-from (p .0)) (own .tracking) refl))
+    where
+      go : soundDevice dev ≡ true → (t : Tracking) → own .tracking ≡ t → Elsewhere (baseAt dev i) (sizeAt dev i) ws (receiveIn ws (own .base) a (own .suspended) t (own .ranges) x .marks)
+      go sure Off e = as-were
+      go sure (On g n) e =
+          let us = units g (take n (own .ranges)) in
+          let p = marksAt ws (own .base) (length us) in
+          put-so sure g n e (marksLeft (room (length x)) us p) (clearFirst-length (length (join (reportedRuns (room (length x)) us p))) p ∙ as-many sure g n e)
+
 -- ---- what a session leaves
 
 -- what the record holds of a controller that is tracked with granularity g and ranges rs
-record Held (c : Controller) (l : List ℕ) (i g : ℕ) (rs : List Range) (p : List Bool) : Type 0 where
+record Held (c : Controller) (l : List ℕ) (g : ℕ) (rs : List Range) (p : List Bool) : Type 0 where
   n : ℕ
   tracking : c .tracking ≡ On g n
   ranges : take n (c .ranges) ≡ rs
-  marks : marksAt l (shareAt i) (length (units g rs)) ≡ p
+  marks : marksAt l (c .base) (length (units g rs)) ≡ p
 
 module _ (s : Settings) (m : Given) (ks : List Call) (sizes : Sized s m) (made : freshChange s (m .marks) .answer .number ≡ 0) where
   abbrev d : Device
@@ -121,6 +215,9 @@ module _ (s : Settings) (m : Given) (ks : List Call) (sizes : Sized s m) (made :
 
   fits : Fits d l area
   fits = let f = fresh-done s (m .marks) made in fits-after ks (begun s m) (begins s m sizes (f .0) (f .1) .fits)
+
+  sound : soundDevice d ≡ true
+  sound = soundness .kept s m ks sizes made .0
 
   sure : soundWith d (length l) ≡ true
   unfolding soundWith
@@ -160,49 +257,30 @@ module _ (s : Settings) (m : Given) (ks : List Call) (sizes : Sized s m) (made :
       used = placeOf-used d a i place
 
       inside : i < 8
-      inside = omega (arith, used, soundDevice-facts d (soundness .kept s m ks sizes made .0) .count)
+      inside = omega (arith, used, soundDevice-facts d sound .count)
 
-      is-slot : slotSeen l (shareAt i) c (frontAt (d .settings) (d .sequence) area i) ≡ slotBy h
+      is-slot : slotSeen l c (frontAt (d .settings) (d .sequence) area i) ≡ slotBy h
       is-slot = sym (slot-at d l area fits i used inside) ∙ sym (ap (slotAt (view d l area)) place) ∙ is-told
 
       flag-is : c .suspended ≡ suspendedBy false h
       flag-is = ap isSuspended is-slot
 
-      marks-are : marksOf l (shareAt i) (c .tracking) (c .ranges) ≡ marksBy h (tracksBy none h)
+      marks-are : marksOf l (c .base) (c .tracking) (c .ranges) ≡ marksBy h (tracksBy none h)
       marks-are = ap (λ (z : Slot). z .marks) is-slot
 
-      -- ---- an accepted start, and an accepted stop
+      most : d .settings .count ≤ 8
+      most = soundDevice-facts d sound .count
 
-      replaced : (t : Tracking) (rs : List Range) (d′ : Device) (l′ : List ℕ) → d′ ≡ withController d i (record { tracking = t; suspended = false; ranges = placed rs })
-          → l′ ≡ withClear l (shareAt i) → Replaced d l i t false rs d′ l′
-      replaced t rs d′ l′ e f =
-          subst (Replaced d l i t false rs d′) (sym f)
-          (record { record-is = e; clear = clear-bit l (fits .words) i inside; elsewhere = clear-elsewhere l (fits .words) i inside })
-
-      is-started : (x : List ℕ)
-          → let r = startChange d l a x in
-          r .answer .number ≡ 0 → Replaced d l i (On (granularityOf x) (countOf x)) false (rangesOf x) (r .answer .device) (r .marks)
-      unfolding startChange order
-      is-started x e =
-          let r = verdict-done (λ (k : Change Started). k .answer .number) (startOrder (d .settings) (seenIn d (length l) (some i)) x) (startDone d l x (some i)) (λ n j. startedWith n j d l)
-          (λ n j. refl) (order-numbers (d .settings) (seenIn d (length l) (some i)) (arrivingIn (d .sequence) area a) (start x)) (rw place at e) in
-          let running : c .suspended ≡ false = not-true (c .suspended) (r .1 .1 .1 .0) in
-          rw place (replaced _ _ _ _ (ap (λ (k : Change Started). k .answer .device) (r .0) ∙ rw running) (ap (λ (k : Change Started). k .marks) (r .0)))
-
-      is-stopped : let r = stopChange d l a in r .answer .number ≡ 0 → Replaced d l i Off false [] (r .answer .device) (r .marks)
-      unfolding stopChange order
-      is-stopped e =
-          let r = verdict-done (λ (k : Change Changed). k .answer .number) (stopOrder (seenIn d (length l) (some i))) (stopDone d l (some i)) (λ n j. changed n d l)
-          (λ n j. refl) (order-numbers (d .settings) (seenIn d (length l) (some i)) (arrivingIn (d .sequence) area a) stop) (rw place at e) in
-          let running : c .suspended ≡ false = not-true (c .suspended) (r .1 .1 .1 .0) in
-          rw place (replaced _ _ _ _ (ap (λ (k : Change Changed). k .answer .device) (r .0) ∙ rw running) (ap (λ (k : Change Changed). k .marks) (r .0)))
+      -- a tracked one has its ranges
+      some-ranges : (g n : ℕ) → c .tracking ≡ On g n → 1 ≤ length (c .ranges)
+      some-ranges g n t = listed-some d l area fits sound i used g n t
 
       -- ---- not tracked, as its calls and answers tell
 
       is-off : tracksBy none h ≡ none → c .tracking ≡ Off
       is-off e = go (c .tracking) (marks-are ∙ ap (marksBy h) e)
         where
-          go : (t : Tracking) → marksOf l (shareAt i) t (c .ranges) ≡ off → t ≡ Off
+          go : (t : Tracking) → marksOf l (c .base) t (c .ranges) ≡ off → t ≡ Off
           go Off q = refl
           go (On g n) q = let z : _≡_ {A = ℕ} 0 1 = cc in absurd (omega arith)
 
@@ -237,7 +315,7 @@ module _ (s : Settings) (m : Given) (ks : List Call) (sizes : Sized s m) (made :
 
       is-arriving : Arrives (endOf s m ks) h a
       is-arriving =
-          arrives d l area fits a i h place (soundness .kept s m ks sizes made .0) flag-is
+          arrives d l area fits a i h place sound flag-is
           (sym (front-own (d .settings) a i place (d .sequence) area) ∙ ap (λ (z : Slot). z .front) is-slot)
 
       -- ---- what is not refused
@@ -252,19 +330,25 @@ module _ (s : Settings) (m : Given) (ks : List Call) (sizes : Sized s m) (made :
       listed-same x = ap (λ (t : Settings). startListed t x) settings-are
 
       may-start : (x : List ℕ) → suspendedBy false h ≡ false → tracksBy none h ≡ none → passes (headerTests x ++ startListed s x) ≡ true
+          → length (units (granularityOf x) (rangesOf x)) + unitsIn (sessionEnd s (length (m .marks)) ks) ≤ 16384
           → countOf x + countsIn (sessionEnd s (length (m .marks)) ks) ≤ s .limit → startChange d l a x .answer .number ≡ 0
       unfolding startChange
-      may-start x e idle ok few =
+      may-start x e idle ok fit few =
           let v = seenIn d (length l) (some i) in
-          let counts : v .counts ≡ countsIn (sessionEnd s (length (m .marks)) ks) = ap (λ (z : Seen). z .counts) (subst (λ q. seenIn d (length l) q ≡ seenAt (view d l area) q) place (seen-same d l area fits a)) ∙ ap countsIn (session s m ks sizes .state) in
+          let seen = subst (λ q. seenIn d (length l) q ≡ seenAt (view d l area) q) place (seen-same d l area fits a) in
+          let counts : v .counts ≡ countsIn (sessionEnd s (length (m .marks)) ks) = ap (λ (z : Seen). z .counts) seen ∙ ap countsIn (session s m ks sizes .state) in
+          let units-held : v .units ≡ unitsIn (sessionEnd s (length (m .marks)) ks) = ap (λ (z : Seen). z .units) seen ∙ ap unitsIn (session s m ks sizes .state) in
           let structure : Passed (headerTests x ++ startListed (d .settings) x) = subst (λ (ts : List Test). Passed (headerTests x ++ ts)) (sym (listed-same x)) (passes-Passed (headerTests x ++ startListed s x) ok) in
           let who : Passed (startWho v) = (sure, (refl, (not-intro (c .suspended) (flag-is ∙ e), (rw (is-off idle) refl, tt)))) in
           let limit : d .settings .limit ≡ s .limit = ap (λ (t : Settings). t .limit) settings-are in
-          let shared : Passed (startShared (d .settings) (v .counts) x) = (le-leb (countOf x + v .counts) (d .settings .limit) (omega (arith, few, counts, limit)), tt) in
+          let shared : Passed (startShared (d .settings) (v .counts) (v .units) x) = (
+            le-leb (length (units (granularityOf x) (rangesOf x)) + v .units) mostUnits (omega (arith, fit, units-held)),
+            (le-leb (countOf x + v .counts) (d .settings .limit) (omega (arith, few, counts, limit)), tt),
+          ) in
           rw place
-          (ap (λ (k : Change Started). k .answer .number)
+          (ap (λ (k : Change StartAnswer). k .answer .number)
           (verdict-passed (startOrder (d .settings) v x) (startDone d l x (some i)) (λ n j. startedWith n j d l)
-          (All-append (λ (t : Test). t .ok ≡ true) (startOwn (d .settings) v x) (startShared (d .settings) (v .counts) x)
+          (All-append (λ (t : Test). t .ok ≡ true) (startOwn (d .settings) v x) (startShared (d .settings) (v .counts) (v .units) x)
           (All-append (λ (t : Test). t .ok ≡ true) (startWho v) (headerTests x ++ startListed (d .settings) x) who structure) shared)))
 
       -- ---- suspended, as its calls and answers tell
@@ -284,80 +368,92 @@ module _ (s : Settings) (m : Given) (ks : List Call) (sizes : Sized s m) (made :
         abbrev p : List Bool
         p = toldOf h us
 
-        held : Held c l i g rs p
+        held : Held c l g rs p
         held = go (c .tracking) refl (marks-are ∙ ap (marksBy h) by)
           where
-            go : (t : Tracking) → c .tracking ≡ t → marksOf l (shareAt i) t (c .ranges) ≡ on g rs p → Held c l i g rs p
+            go : (t : Tracking) → c .tracking ≡ t → marksOf l (c .base) t (c .ranges) ≡ on g rs p → Held c l g rs p
             go Off e q = let z : _≡_ {A = ℕ} 0 1 = cc in absurd (omega arith)
             go (On k n) e q =
                 let same : k ≡ g = cc in
                 let listed : take n (c .ranges) ≡ rs = cc in
-                let kept : marksAt l (shareAt i) (length (units k (take n (c .ranges)))) ≡ p = cc in
+                let kept : marksAt l (c .base) (length (units k (take n (c .ranges)))) ≡ p = cc in
                 record {
                   n = n;
                   tracking = e ∙ ap (λ x. On x n) same;
                   ranges = listed;
-                  marks = ap₂ (λ (x : ℕ) (y : List Range). marksAt l (shareAt i) (length (units x y))) (sym same) (sym listed) ∙ kept;
+                  marks = ap₂ (λ (x : ℕ) (y : List Range). marksAt l (c .base) (length (units x y))) (sym same) (sym listed) ∙ kept;
                 }
 
         facts : HeldFacts (d .settings) g (held .n) rs
         facts =
             subst (HeldFacts (d .settings) g (held .n)) (held .ranges)
-            (soundDevice-held d i g (held .n) (soundness .kept s m ks sizes made .0) used (omega (arith, inside, fits .controllers)) (held .tracking))
+            (soundDevice-held d i g (held .n) sound used (omega (arith, inside, fits .controllers)) (held .tracking))
+
+        -- its share has a bit for each unit, and lies within the words
+        size-is : sizeAt d i ≡ length us
+        size-is =
+            sym (sizesOf-share d (fits .controllers) most i)
+            ∙ sizesOf-at d (fits .controllers) most i used
+            ∙ rw (held .tracking, held .ranges)
+
+        within : c .base + length us ≤ 64 * markWords
+        within =
+            subst (λ (y : List Range). c .base + length (units g y) ≤ 64 * markWords) (held .ranges)
+            (soundDevice-inside d i g (held .n) sound used (omega (arith, inside, fits .controllers)) (held .tracking) (some-ranges g (held .n) (held .tracking)))
 
         sized : length p ≡ length us
         sized = length-map us (pendingBy h)
 
-        bit-is : (m : ℕ) → m < length us → bitOf l i m ≡ getD p m false
-        bit-is m k = sym (getShare-at (flat l) (shareAt i) (length us) m false k) ∙ ap (λ q. getD q m false) (held .marks)
+        bit-is : (m : ℕ) → m < length us → bitOf l (c .base) m ≡ getD p m false
+        bit-is m k = sym (getShare-at (flat l) (c .base) (length us) m false k) ∙ ap (λ q. getD q m false) (held .marks)
 
         is-listed : UnitsListed g rs
         is-listed = rules.demand-2 .listed g rs (facts .rows)
 
-        is-pending : (m : ℕ) (u : Unit) → getElem? us m ≡ some u → (bitOf l i m ≡ true) ↔ PendingBy h u
+        is-pending : (m : ℕ) (u : Unit) → getElem? us m ≡ some u → (bitOf l (c .base) m ≡ true) ↔ PendingBy h u
         is-pending m u k =
             let q = getElem?-at us m u u k in
-            let e : bitOf l i m ≡ pendingBy h u = bit-is m (q .0) ∙ getD-map (pendingBy h) us m u q in (
+            let e : bitOf l (c .base) m ≡ pendingBy h u = bit-is m (q .0) ∙ getD-map (pendingBy h) us m u q in (
               (λ t. pendingBy-iff h u .0 (sym e ∙ t)),
               (λ w. e ∙ pendingBy-iff h u .1 w),
             )
 
         -- ---- an accepted write
 
-        written : (w : Write) → Wrote h i us w l (newly w us p) (withMarks l (shareAt i) (mark w us p))
+        written : (w : Write) → Wrote h (c .base) us w l (newly w us p) (withMarks l (c .base) (mark w us p))
         written w =
             let n : length (mark w us p) ≡ length us = mark-length w us p sized in
-            let few : length (mark w us p) ≤ shareSize = omega (arith, n, facts .total) in
+            let fit : c .base + length (mark w us p) ≤ 64 * markWords = omega (arith, n, within) in
             record {
               marked = λ m u k.
                   let q = getElem?-at us m u u k in
-                  put-bit l (fits .words) i inside (mark w us p) few m (omega (arith, q .0, n))
+                  put-bit l (fits .words) (c .base) (mark w us p) fit m (omega (arith, q .0, n))
                   ∙ mark-at w us p m u sized (q .0)
                   ∙ ap₂ (λ (x : Bool) (v : Unit). x || touches w v) (sym (bit-is m (q .0))) (q .1);
-              elsewhere = subst (λ k. Elsewhere i k l (withMarks l (shareAt i) (mark w us p))) n (put-elsewhere l (fits .words) i inside (mark w us p) few);
+              elsewhere = subst (λ k. Elsewhere (c .base) k l (withMarks l (c .base) (mark w us p))) n (put-elsewhere l (fits .words) (c .base) (mark w us p) fit);
               counted = refl;
               writes = rules.demand-2 .writes w us p;
             }
 
-        is-written : (w : Write) → writeNote d l a w .answer .number ≡ 0 → Wrote h i us w l (writeNote d l a w .answer .count) (writeNote d l a w .marks)
+        is-written : (w : Write) → writeNote d l a w .answer .number ≡ 0 → Wrote h (c .base) us w l (writeNote d l a w .answer .count) (writeNote d l a w .marks)
         unfolding writeNote order
         is-written w e =
             let r = verdict-done (λ (k : Note). k .answer .number) (writeOrder (seenIn d (length l) (some i)) w) (writeDone d l w (some i)) (λ n j. noted n 0 l)
             (λ n j. refl) (order-numbers (d .settings) (seenIn d (length l) (some i)) (arrivingIn (d .sequence) area a) (write w)) (rw place at e) in
-            let is : writeDone d l w (some i) ≡ noted 0 (newly w us p) (withMarks l (shareAt i) (mark w us p)) = rw (held .tracking, held .ranges, held .marks) in
-            rw place (subst (λ (k : Note). Wrote h i us w l (k .answer .count) (k .marks)) (sym (r .0 ∙ is)) (written w))
+            let is : writeDone d l w (some i) ≡ noted 0 (newly w us p) (withMarks l (c .base) (mark w us p)) = rw (held .tracking, held .ranges, held .marks) in
+            rw place (subst (λ (k : Note). Wrote h (c .base) us w l (k .answer .count) (k .marks)) (sym (r .0 ∙ is)) (written w))
 
         -- ---- an accepted receive
 
         abbrev made-of : List ℕ → Receipt
-        made-of x = reportIn l (shareAt i) a (suspendedBy false h) g us p x
+        made-of x = reportIn l (c .base) a (suspendedBy false h) g us p x
 
-        stored : (x : List ℕ) → 32 ≤ length x → Received h a i g us x l (made-of x)
+        stored : (x : List ℕ) → 32 ≤ length x → Received h a (c .base) g us x l (made-of x)
         stored x long =
             let k = room (length x) in
             let q = marksLeft k us p in
             let n : length q ≡ length us = clearFirst-length (length (join (reportedRuns k us p))) p ∙ sized in
-            let few : length q ≤ shareSize = omega (arith, n, facts .total) in
+            let share : c .base + length q ≤ 64 * markWords = omega (arith, n, within) in
             let r = made-of x .report in
             let fit : 16 + 16 * length (r .descriptors) ≤ length x = omega (arith, long, listed-few k us p) in
             record {
@@ -370,17 +466,17 @@ module _ (s : Settings) (m : Given) (ks : List Call) (sizes : Sized s m) (made :
               answer = refl;
               front = put-take-front x (16 + 16 * length (r .descriptors)) (reportBytes a r) (reportBytes-length a r) fit;
               rest = report-rest a r x;
-              read-back = λ small. reads-back a g (suspendedBy false h) rs p x small (facts .small) (facts .rows) (facts .total) long;
-              left = λ m u e. put-bit l (fits .words) i inside q few m (omega (arith, n, getElem?-at us m u u e .0));
-              elsewhere = subst (λ j. Elsewhere i j l (withMarks l (shareAt i) q)) n (put-elsewhere l (fits .words) i inside q few);
+              read-back = λ small. reads-back a g (suspendedBy false h) rs p x small (facts .small) (facts .rows) (omega (arith, within)) long;
+              left = λ m u e. put-bit l (fits .words) (c .base) q share m (omega (arith, n, getElem?-at us m u u e .0));
+              elsewhere = subst (λ j. Elsewhere (c .base) j l (withMarks l (c .base) q)) n (put-elsewhere l (fits .words) (c .base) q share);
             }
 
-        is-received : (x : List ℕ) → receiveReceipt d l a x .answer .number ≡ 0 → Received h a i g us x l (receiveReceipt d l a x)
+        is-received : (x : List ℕ) → receiveReceipt d l a x .answer .number ≡ 0 → Received h a (c .base) g us x l (receiveReceipt d l a x)
         unfolding receiveReceipt order
         is-received x e =
             let r = verdict-done (λ (k : Receipt). k .answer .number) (receiveOrder (seenIn d (length l) (some i)) x) (receiveDone d l a x (some i)) (λ n j. received n noReport l x)
             (λ n j. refl) (order-numbers (d .settings) (seenIn d (length l) (some i)) (arrivingIn (d .sequence) area a) (receive x)) (rw place at e) in
-            rw place (subst (Received h a i g us x l) (sym (r .0 ∙ rw (held .tracking, held .ranges, held .marks, flag-is))) (stored x (leb-true 32 (length x) (r .1 .1 .1 .1 .0))))
+            rw place (subst (Received h a (c .base) g us x l) (sym (r .0 ∙ rw (held .tracking, held .ranges, held .marks, flag-is))) (stored x (leb-true 32 (length x) (r .1 .1 .1 .1 .0))))
 
         -- ---- what is not refused
 
@@ -399,6 +495,7 @@ module _ (s : Settings) (m : Given) (ks : List Call) (sizes : Sized s m) (made :
               pending = is-pending;
               written = is-written;
               received = is-received;
+              size = size-is;
               may-stop = may-stop;
               may-receive = may-receive;
             }
@@ -424,7 +521,7 @@ module _ (s : Settings) (m : Given) (ks : List Call) (sizes : Sized s m) (made :
         go none k = absurd (true≢false (sym e ∙ ap isSuspended (sym is-told ∙ ap (slotAt (view d l area)) (place-of ∙ k))))
         go (some i) k = is-refused i k e
 
-    pub is-standing : Stands s (endOf s m ks) h (countsIn (sessionEnd s (length (m .marks)) ks)) a
+    pub is-standing : Stands s (endOf s m ks) h (countsIn (sessionEnd s (length (m .marks)) ks)) (unitsIn (sessionEnd s (length (m .marks)) ks)) a
     is-standing =
         record {
           told = is-told;
@@ -433,8 +530,8 @@ module _ (s : Settings) (m : Given) (ks : List Call) (sizes : Sized s m) (made :
           suspended = is-suspended;
           may-write = λ i w at. may-write i at w;
           may-start = λ i x at. may-start i at x;
-          started = λ i x at. is-started i at x;
-          stopped = λ i at. is-stopped i at;
+          started = λ i x at. starts-so (endOf s m ks) fits a i (place i at) x;
+          stopped = λ i at. stops-so (endOf s m ks) fits a i (place i at);
           suspends = λ i kind at. is-suspend i at kind;
           resumes = λ i at. is-resume i at;
           parts = λ i at. is-arriving i at;
@@ -446,12 +543,38 @@ All-from : (P : Controller → Type 0) (cs : List Controller) → ((i : ℕ) →
 All-from P [] f = tt
 All-from P (c ∷ cs) f = (f 0, All-from P cs (λ i. f (suc i)))
 
+shaped-fits : (l : Left) → Shaped l → Fits (l .device) (l .marks) (l .area)
+shaped-fits l s =
+    record { controllers = s .controllers; identifiers = s .identifiers; listed = All-from Listed (l .device .controllers) (s .listed); words = s .words; bytes = s .bytes }
+
 is-step : (l : Left) → Shaped l → (k : Call) → Steps l k
 is-step l s k =
-    let fits : Fits (l .device) (l .marks) (l .area) =
-    record { controllers = s .controllers; identifiers = s .identifiers; listed = All-from Listed (l .device .controllers) (s .listed); words = s .words; bytes = s .bytes } in
-    let w = call-step (l .device) (l .marks) (l .area) fits k in
+    let w = call-step (l .device) (l .marks) (l .area) (shaped-fits l s) k in
     record { answer = w .answer; device = w .state; bytes = w .bytes }
+
+-- ---- W7: a call to another
+
+-- a record and marks that agree with the rules' device before and after a call: the units of a controller to which it was not made
+apart : (l l′ : Left) (st : State) (k : Call) (b : ℕ) → view (l .device) (l .marks) (l .area) ≡ st → view (l′ .device) (l′ .marks) (l′ .area) ≡ (step st k) .1 → k .id ≢ b
+    → pendingOf l′ b ≡ pendingOf l b
+apart l l′ st k b before afterwards other =
+    ap (λ (x : State). pendingIn (slotOf x b)) afterwards ∙ ap pendingIn (step-other st k b other) ∙ sym (ap (λ (x : State). pendingIn (slotOf x b)) before)
+
+undisturbed : (s : Settings) (m : Given) (ks : List Call) → Sized s m → (k : Call) (b : ℕ) → k .id ≢ b → pendingOf (next (endOf s m ks) k) b ≡ pendingOf (endOf s m ks) b
+undisturbed s m ks sized k b other =
+    apart (endOf s m ks) (next (endOf s m ks) k) (sessionEnd s (length (m .marks)) ks) k b (session s m ks sized .state)
+    (ap (λ (l : Left). view (l .device) (l .marks) (l .area)) (sym (left-append ks (k ∷ []) (begun s m)))
+    ∙ session s m (ks ++ k ∷ []) sized .state
+    ∙ after-append ks (k ∷ []) (fresh s (length (m .marks))))
+    other
+
+unmoved : (l : Left) → Shaped l → (k : Call) (b : ℕ) → k .id ≢ b → pendingOf (next l k) b ≡ pendingOf l b
+unmoved l shaped k b other = apart l (next l k) (view (l .device) (l .marks) (l .area)) k b refl (is-step l shaped k .device) other
+
+keeps : (l : Left) → Shaped l → (a i : ℕ) → placeOf (l .device .settings) a ≡ some i → Keeps l a i
+keeps l s a i e =
+    let fits = shaped-fits l s in
+    record { started = starts-so l fits a i e; stopped = stops-so l fits a i e; written = writes-so l fits a i e; received = receives-so l fits a i e }
 
 -- ---- two divisions
 
@@ -495,16 +618,20 @@ divided s m ks ok e a p s′ m′ ks′ ok′ e′ a′ p′ z z′ f f′ same 
 -- ---- all of it
 
 pub demand-2 : Demand2
+unfolding put
 demand-2 =
     record {
       rules = λ s a m ks sized. equals s m ks sized a ks (record { answers = refl; bytes = refl; units = refl });
       steps = is-step;
       fresh = fresh-is;
-      none-under-way = λ s. (refl, refl);
+      zeros = λ s. (refl, refl, refl);
       bits = bit-at;
       place = is-place;
       settings = settings-kept;
       stands = is-standing;
+      undisturbed = undisturbed;
+      unmoved = unmoved;
+      keeps = keeps;
       divided = λ s s′ m m′ ks ks′ ok ok′ e e′ a a′ p p′. divided s m ks ok e a p s′ m′ ks′ ok′ e′ a′ p′;
       runs = rules.demand-2 .runs;
       touches = rules.demand-2 .touches;

@@ -1,17 +1,23 @@
 -- Demand 3, proved of the calls: a session of theirs is one of the rules, of which it is proved. Assumes nothing.
-use mathlib.Core.Path.{_≡_, sym, _∙_}
-use mathlib.Core.Bool.{true}
-use mathlib.Core.List.{List}
-use Prim.Native.Nat.{ℕ}
-use lib.ListN.{length}
-use Rattle.rules.specs.Machine.{Call}
-use Rattle.rules.specs.History.{only}
-use Rattle.rules.specs.Demands.{unhindered}
+use mathlib.Core.Path.{_≡_, refl, sym, subst, _∙_}
+use mathlib.Core.Bool.{true, false, not, _||_, true≢false}
+use mathlib.Core.List.{List, [], _∷_}
+use mathlib.Core.Option.{some}
+use Prim.Native.Nat.{ℕ, suc}
+use lib.Dec.{eqb}
+use lib.ListN.{length, getElem?}
+use borrow.Author.Tests.{eqb-true}
+use Rattle.rules.specs.Lists.{member}
+use Rattle.rules.specs.Order.{Op, start, stop, write, receive, suspend, resume, part}
+use Rattle.rules.specs.Machine.{Call, numberOf}
+use Rattle.rules.specs.History.{Did, only}
+use Rattle.rules.specs.Demands.{sharedRefusals, unhindered}
+use Rattle.rules.proofs.ListLaws.{and-intro, or-cases, not-intro, false-intro}
 use Rattle.rules.specs.declared.Settings.{Settings}
 use Rattle.rules.proofs.Theorems as rules
 use Rattle.demands.specs.Sessions.{Given, Sized, historyIn}
 use Rattle.demands.specs.Demand2.{Equals}
-use Rattle.demands.specs.Demand3.{Agree, Demand3}
+use Rattle.demands.specs.Demand3.{Agree, Shared, pool, limit, sequence, Demand3}
 use Rattle.demands.proofs.ClosedLaws.{history-same, equals}
 
 -- two sessions that equal one of the rules agree
@@ -28,9 +34,30 @@ is-alone : (s : Settings) (a : ℕ) (m : Given) (ks : List Call) → Sized s m �
 is-alone s a m ks sized f =
     equals s m ks sized a (only a ks) (rules.demand-3 .alone s (length (m .marks)) a ks (rw (history-same s m ks sized a) at f))
 
+-- an answer that is not refused for what controllers share
+free : (o : Op) (n : ℕ) → (Shared o n → ⊥) → member n (sharedRefusals o) ≡ false
+free (start x) n f =
+    false-intro _ (λ e.
+    or-cases (eqb 11 n) (eqb 12 n || false) ⊥ e (λ q. f (subst (Shared (start x)) (eqb-true 11 n q) (pool x)))
+    (λ r. or-cases (eqb 12 n) false ⊥ r (λ q. f (subst (Shared (start x)) (eqb-true 12 n q) (limit x))) (λ z. true≢false (sym z))))
+free stop n f = refl
+free (write w) n f = refl
+free (receive x) n f = refl
+free (suspend kind) n f = refl
+free resume n f = refl
+free (part p) n f = false-intro _ (λ e. or-cases (eqb 23 n) false ⊥ e (λ q. f (subst (Shared (part p)) (eqb-true 23 n q) (sequence p))) (λ z. true≢false (sym z)))
+
+premise : (h : List Did) → ((i : ℕ) (d : Did) → getElem? h i ≡ some d → Shared (d .op) (numberOf (d .answer)) → ⊥) → unhindered h ≡ true
+premise [] f = refl
+premise (d ∷ h) f =
+    and-intro (not (member (numberOf (d .answer)) (sharedRefusals (d .op)))) (unhindered h)
+    (not-intro (member (numberOf (d .answer)) (sharedRefusals (d .op))) (free (d .op) (numberOf (d .answer)) (f 0 d refl)))
+    (premise h (λ i. f (suc i)))
+
 pub demand-3 : Demand3
 demand-3 =
     record {
+      premise = premise;
       alone = is-alone;
       together = λ s a m m′ ks ks′ sized sized′ e j f f′.
           agree s a m m′ ks ks′ (only a ks) (only a ks′) e j (is-alone s a m ks sized f) (is-alone s a m′ ks′ sized′ f′);

@@ -1,11 +1,13 @@
 pub mod MarkLaws
 pub mod ViewLaws
 pub mod StepLaws
+pub mod Pool
 pub mod SessionLaws
 pub mod AnswerLaws
 pub mod ClosedLaws
 pub mod Contracts
 pub mod Demand1
+pub mod Soundness
 pub mod Parts
 pub mod Demand2
 pub mod Structures

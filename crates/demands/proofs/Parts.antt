@@ -1,36 +1,34 @@
 -- W6, proved of the calls: what a part is asked, and what an accepted one leaves, where the record is seen as the controller's history tells. Assumes nothing.
 use mathlib.Core.Path.{_≡_, refl, sym, ap, ap₂, subst, _∙_}
-use mathlib.Core.Logic.{_≢_, _↔_, _⊎_, inl, inr}
+use mathlib.Core.Logic.{_≢_, _⊎_, inl, inr}
 use mathlib.Core.Bool.{Bool, true, false, _&&_, _||_, not, cond, true≢false}
-use mathlib.Core.List.{List, [], _∷_, _++_}
-use mathlib.Core.Option.{Option, none, some}
+use mathlib.Core.List.{List, _++_}
+use mathlib.Core.Option.{none, some}
 use Prim.Native.Nat.{ℕ, _+_, _*_, _%_, _≤_}
 use native.Mathlib.Omega.{arith}
 use lib.Dec.{leb, ltb, eqb}
 use lib.ListN.{length, take, drop, length-append}
-use borrow.Author.Tests.{leb-true, le-leb, ltb-true, lt-ltb, eqb-true, eq-eqb, ne-eqb, eqb-false, not-true, not-false}
+use borrow.Author.Tests.{leb-true, le-leb, ltb-true, lt-ltb, eqb-true, eq-eqb, eqb-false, not-true, not-false}
 use Rattle.little.specs.Little.{put}
 use Rattle.little.proofs.Put.{put-is}
-use Rattle.rules.specs.Refusals.{Test}
 use Rattle.rules.specs.Settings.{markWords, placeOf}
 use Rattle.rules.specs.ControllerState.{stateMost, stateOk}
-use Rattle.rules.specs.Order.{Seen, Arriving, Part, part, offsetOf, isFirst, isLast, isOffset, offsetOk, dataOk, followsOn, follows, soFar, joinedWith, joinedOk, partOrder}
-use Rattle.rules.specs.Device.{controllersOf, heldOf, frontOk, suspendedAt, sequenceOk, soundDevice}
+use Rattle.rules.specs.Order.{Seen, Arriving, Part, offsetOf, isFirst, isLast, offsetOk, dataOk, followsOn, follows, joinedWith, joinedOk, partOrder}
+use Rattle.rules.specs.Device.{controllersOf, frontOk, suspendedAt, sequenceOk, soundDevice}
 use Rattle.rules.specs.History.{Did, suspendedBy, openBy, joinedBy, frontBy}
 use Rattle.rules.specs.declared.Sequence.{Sequence}
 use Rattle.rules.specs.declared.Sequence.the-variants.{Nothing, Open}
 use Rattle.rules.specs.declared.Device.{Device}
-use Rattle.rules.proofs.ListLaws.{All, and-left, and-right, and-intro, or-cases, or-neither, some-inj}
+use Rattle.rules.proofs.ListLaws.{and-left, and-right, and-intro, or-cases, some-inj}
 use Rattle.rules.proofs.RefusalLaws.{Passed, verdict-done, verdict-passed}
 use Rattle.rules.proofs.OrderLaws.{PartPassed, partOrder-passed}
 use Rattle.rules.proofs.SlotHistory.{joinedWith-told}
-use Rattle.rules.proofs.SoundLaws.{sound-sequence}
 use Rattle.record.specs.Record.{soundWith, controllerAt, withSequence, seenIn, othersIn, frontOf, frontIn, arrivingIn}
-use Rattle.record.proofs.RecordLaws.{frontOf-length, frontOf-take, sequence-within}
+use Rattle.record.proofs.RecordLaws.{frontOf-length, frontOf-take, soundDevice-sequence, sequence-within}
 use Rattle.state_bytes.proofs.StateLaws.{stateOk-true, stateOk-is}
 use Rattle.controller_state.proofs.ArrivalLaws.{joined-stored}
 use Rattle.calls.specs.Calls.{Arrival, arrival, partDone, partChange}
-use Rattle.demands.specs.Parts.{IsState, beginsAt, wholeBy, StartsAnew, GoesBehind, IsFinal, IsMore, Fitting, Arrives}
+use Rattle.demands.specs.Parts.{beginsAt, wholeBy, StartsAnew, GoesBehind, IsFinal, IsMore, Fitting, Arrives}
 use Rattle.demands.proofs.ViewLaws.{Fits}
 use Rattle.demands.proofs.AnswerLaws.{part-zero}
 
@@ -112,7 +110,7 @@ module _ (d : Device) (ws area : List ℕ) (fits : Fits d ws area) (a i : ℕ) (
   kept : openBy h ≡ true → frontOk (length so-far) ≡ true
   kept o =
       and-right (suspendedAt (controllersOf d) (placeOf (d .settings) a)) (frontOk (length so-far))
-      (sym (ap (sequenceOk (d .settings) (controllersOf d)) (open-told o)) ∙ sound-sequence (d .settings) _ _ sure)
+      (sym (ap (sequenceOk (d .settings) (controllersOf d)) (open-told o)) ∙ soundDevice-sequence d sure)
 
   bytes-told : openBy h ≡ true → take (length so-far) area ≡ so-far
   bytes-told o =

@@ -1,18 +1,16 @@
 -- Reserved bytes and bits are not looked at: what is read is made of the other bytes. Assumes nothing.
-use mathlib.Core.Path.{_≡_, refl, sym, ap, ap₂, _∙_}
-use mathlib.Core.Logic.{_≢_, _⊎_, inl, inr}
-use mathlib.Core.List.{List, [], _∷_}
+use mathlib.Core.Path.{_≡_, refl, ap, ap₂, _∙_}
+use mathlib.Core.Logic.{_≢_, inl, inr}
+use mathlib.Core.List.{List, _∷_}
 use Prim.Native.Nat.{ℕ, zero, suc, _+_, _*_, _/_, _%_, _≤_, _<_}
 use native.Mathlib.Omega.{arith}
 use native.Mathlib.Nat.{mul-suc}
-use lib.Dec.{eqb}
 use lib.ListN.{length, getD}
 use Rattle.little.specs.Little.{numberAt, recordsAt}
 use Rattle.rules.specs.Refusals.{Test, refusal, placeIn, orZero}
-use Rattle.rules.specs.StartData.{countOf, rangeAt, rangesOf, startSize, headerOf, startData}
-use Rattle.rules.specs.ReportReader.{moreIn, suspendedIn, identifierIn, countIn, granularityIn, descriptorAt, descriptorOf, descriptorsIn, reportTests, indexTests, bit}
+use Rattle.rules.specs.StartData.{countOf, rangeAt, rangesOf, headerOf, startData}
+use Rattle.rules.specs.ReportReader.{moreIn, suspendedIn, identifierIn, countIn, granularityIn, descriptorAt, descriptorsIn, reportTests, indexTests, bit}
 use Rattle.rules.specs.Report.{Descriptor}
-use Rattle.rules.specs.declared.Range.{Range}
 use Rattle.demands.specs.Reserved.{AlikeStructure, AlikeReport, Ignored}
 
 -- ---- numbers and records are made of their own bytes

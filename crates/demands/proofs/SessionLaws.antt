@@ -1,7 +1,7 @@
 -- A session of the calls is a session of the rules: every answer, every byte that was lent, and the device that is left. Assumes nothing.
 use mathlib.Core.Path.{_≡_, refl, sym, ap, ap₂, _∙_}
-use mathlib.Core.Bool.{Bool, true, false, cond}
-use mathlib.Core.List.{List, [], _∷_, map}
+use mathlib.Core.Bool.{Bool, true, false, not, cond}
+use mathlib.Core.List.{List, [], _∷_, _++_, map}
 use mathlib.Core.Option.{none}
 use Prim.Native.Nat.{ℕ, zero, suc, _-_, _≤_}
 use native.Mathlib.Omega.{arith}
@@ -10,12 +10,14 @@ use lib.ListN.{length, take, replicate, length-append, length-replicate}
 use lib.Seq.{length-take-le}
 use borrow.Author.Tests.{eq-eqb, eqb-true}
 use Rattle.rules.specs.Settings.{markWords, settingsOk, identifiersOf}
-use Rattle.rules.specs.Device.{cleaned, freshController, freshOf}
+use Rattle.rules.specs.Device.{cleaned, freshController, noShare, areApart, shareOf, sharesOk, freshOf}
+use Rattle.rules.specs.Lists.{all}
+use Rattle.rules.specs.declared.Share.{Share}
 use Rattle.rules.specs.Machine.{Answer, freshSlot, State, opened, Call, Event, step, after, events, lent, stored}
 use Rattle.rules.specs.History.{historyOf}
 use Rattle.rules.specs.Demands.{lentBytes}
 use Rattle.rules.specs.declared.Settings.{Settings}
-use Rattle.rules.proofs.ListLaws.{All}
+use Rattle.rules.proofs.ListLaws.{All, and-intro}
 use Rattle.settings.proofs.SettingsLaws.{settingsOk-count}
 use Rattle.calls.specs.Calls.{freshChange}
 use Rattle.demands.specs.View.{slotsFrom, view, run}
@@ -39,6 +41,17 @@ off-listed : (n : ℕ) → All Listed (replicate n freshController)
 off-listed zero = tt
 off-listed (suc n) = ((λ g m e. let z : _≡_ {A = ℕ} 0 1 = cc in absurd (omega arith)), off-listed n)
 
+-- nobody has a share
+apart-none : (xs : List Share) → all (areApart noShare) xs ≡ true
+apart-none [] = refl
+apart-none (x ∷ xs) = apart-none xs
+
+none-ok : (n m : ℕ) → sharesOk (map shareOf (replicate n freshController) ++ replicate m noShare) ≡ true
+unfolding sharesOk
+none-ok zero zero = refl
+none-ok zero (suc m) = and-intro (all (areApart noShare) (replicate m noShare)) _ (apart-none (replicate m noShare)) (none-ok zero m)
+none-ok (suc n) m = and-intro (all (areApart noShare) (map shareOf (replicate n freshController) ++ replicate m noShare)) _ (apart-none (map shareOf (replicate n freshController) ++ replicate m noShare)) (none-ok n m)
+
 -- what an accepted fresh leaves is the rules' fresh device
 pub record Begins (s : Settings) (l : Left) : Type 0 where
   pub state : view (l .device) (l .marks) (l .area) ≡ opened s
@@ -51,9 +64,10 @@ begins s m sized e whole =
     rw (e, eq-eqb (length (m .marks)) markWords whole, whole)
     (record {
       state =
-          ap (λ l. record { settings = cleaned s; slots = l; stray = false })
+          ap₂ (λ l b. record { settings = cleaned s; slots = l; amiss = b })
           (ap (slotsFrom (replicate markWords 0) (λ i. none) 0) (take-replicate (s .count) 8 freshController (settingsOk-count s e))
-          ∙ slots-fresh (replicate markWords 0) (identifiersOf s) 0 (s .count) (length-take-le (s .count) (s .identifiers) few));
+          ∙ slots-fresh (replicate markWords 0) (identifiersOf s) 0 (s .count) (length-take-le (s .count) (s .identifiers) few))
+          (ap not (ap (λ cs. sharesOk (map shareOf cs ++ replicate (8 - s .count) noShare)) (take-replicate (s .count) 8 freshController (settingsOk-count s e)) ∙ none-ok (s .count) (8 - s .count)));
       fits =
           record {
             controllers = length-replicate 8 freshController;
@@ -101,3 +115,13 @@ same (k ∷ ks) l st e h =
 pub fits-after : (ks : List Call) (l : Left) → Fits (l .device) (l .marks) (l .area) → Fits (leftAfter l ks .device) (leftAfter l ks .marks) (leftAfter l ks .area)
 fits-after [] l h = h
 fits-after (k ∷ ks) l h = fits-after ks (next l k) (call-step (l .device) (l .marks) (l .area) h k .fits)
+
+-- ---- calls after others
+
+pub left-append : (ks js : List Call) (l : Left) → leftAfter l (ks ++ js) ≡ leftAfter (leftAfter l ks) js
+left-append [] js l = refl
+left-append (k ∷ ks) js l = left-append ks js (next l k)
+
+pub after-append : (ks js : List Call) (st : State) → after st (ks ++ js) ≡ after (after st ks) js
+after-append [] js st = refl
+after-append (k ∷ ks) js st = after-append ks js ((step st k) .1)

@@ -1,30 +1,32 @@
 -- Each call of `tracker` is a step of the rules: of a record and marks seen as a device. Assumes nothing.
-use mathlib.Core.Path.{_≡_, refl, sym, ap, subst, _∙_}
+use mathlib.Core.Path.{_≡_, refl, sym, ap, ap₂, subst, _∙_}
 use mathlib.Core.Logic.{_≢_}
 use mathlib.Core.Bool.{Bool, true, false, _||_, not, cond, true≢false}
 use mathlib.Core.List.{List, [], _∷_}
 use mathlib.Core.Option.{Option, none, some}
-use Prim.Native.Nat.{ℕ, zero, suc, _%_, _≤_, _<_}
+use Prim.Native.Nat.{ℕ, zero, suc, _+_, _*_, _%_, _≤_, _<_}
 use native.Mathlib.Omega.{arith}
 use lib.Dec.{leb, eqb}
 use lib.ListN.{length, getD, set, take, replicate, length-replicate, length-set}
-use lib.Seq.{set-getD}
-use borrow.Author.Tests.{leb-true, eq-eqb, ne-eqb, not-true}
+use lib.Seq.{set-getD, getD-set-same, getD-set-other}
+use borrow.Author.Tests.{leb-true, eqb-true, eq-eqb, ne-eqb, not-true}
 use Rattle.little.specs.Little.{put}
 use Rattle.bits.proofs.Share.{getShare-length}
+use Rattle.bits.specs.Flat.{flat}
+use Rattle.bits.specs.Share.{getShare}
 use Rattle.bits.proofs.Flat.{flat-length}
 use Rattle.little.proofs.Put.{put-take-front, put-length}
 use Rattle.rules.specs.Lists.{join}
 use Rattle.rules.specs.Refusals.{Test, verdict}
-use Rattle.rules.specs.Settings.{shareSize, shareAt, markWords, placeOf}
+use Rattle.rules.specs.Settings.{markWords, mostUnits, placeOf}
 use Rattle.rules.specs.Units.{Unit, Write, units, clear, mark}
 use Rattle.rules.specs.StartData.{granularityOf, countOf, rangesOf, noRange, placed}
 use Rattle.rules.specs.Report.{room, marksLeft, reportedRuns}
 use Rattle.rules.specs.Order.{Op, start, stop, write, receive, suspend, resume, part, Seen, Arriving, Part, startShared, offsetOf, isLast, joinedWith, partOrder, order}
-use Rattle.rules.specs.Device.{soundDevice}
+use Rattle.rules.specs.Device.{heldUnits, heldOf, noShare, shareOf, sharesOf, sharesOk, soundDevice}
 use Rattle.rules.specs.Ranges.{listTests}
 use Rattle.rules.specs.ControllerState.{stateMost, stateOk}
-use Rattle.rules.specs.Machine.{Answer, refused, done, assembled, on, Slot, withMarksOf, withFront, wroteIn, reportedIn, accepted, slotStep, State, slotAt, withSlot, seenAt, arrivingAt, stepAt, Call, step, lent, stored, noReport}
+use Rattle.rules.specs.Machine.{Answer, refused, done, assembled, Marks, on, Slot, withMarksOf, withFront, wroteIn, reportedIn, accepted, slotStep, State, slotAt, withSlot, seenAt, arrivingAt, stepAt, Call, step, lent, stored, noReport}
 use Rattle.rules.specs.declared.Settings.{Settings}
 use Rattle.rules.specs.declared.Tracking.{Tracking}
 use Rattle.rules.specs.declared.Tracking.the-variants.{Off, On}
@@ -39,16 +41,18 @@ use Rattle.rules.proofs.RunLaws.{clearFirst-length}
 use Rattle.rules.proofs.OrderLaws.{StartPassed, startOrder-passed, PartPassed, partOrder-passed}
 use Rattle.rules.proofs.StartLaws.{rangesOf-length}
 use Rattle.rules.proofs.Isolation.{withSlot-slotAt}
-use Rattle.record.specs.Record.{soundWith, noController, controllerAt, withController, withSequence, isOn, seenIn, othersIn, frontIn, arrivingIn}
-use Rattle.ranges.proofs.RangeLaws.{listTests-numbers, listTests-facts}
-use Rattle.record.proofs.RecordLaws.{soundDevice-facts, soundDevice-held, sequence-within, frontOf-take}
+use Rattle.record.specs.Record.{soundWith, noController, controllerAt, withController, withSequence, unitsOf, isOn, seenIn, othersIn, frontIn, arrivingIn}
+use Rattle.ranges.proofs.RangeLaws.{HeldFacts, listTests-numbers, listTests-facts}
+use Rattle.record.proofs.RecordLaws.{soundDevice-facts, soundDevice-held, sequence-within, frontOf-take, sharesOf-at, soundDevice-shares, soundDevice-inside, soundDevice-apart}
+use Rattle.calls.proofs.PoolLaws.{sharesOf-with, sizesOf-at, base-at, packedAt, packed-at, packed-eight, packed-alike, packed-ok, shares-less, sizes-fit, start-packs}
+use Rattle.pool.specs.Pool.{newBase, Packs}
 use Rattle.state_bytes.proofs.StateLaws.{stateOk-true}
 use Rattle.controller_state.proofs.ArrivalLaws.{joined-stored}
-use Rattle.calls.specs.Calls.{marksAt, withMarks, withClear, Change, changed, started, startedWith, startDone, startChange, stopped, stopDone, stopChange, flagged, flagDone, suspendChange, dropped, resumeDone, resumeChange, Note, noted, noteIn, writeDone, writeNote, Receipt, received, receiveIn, receiveDone, receiveReceipt, Arrival, arrival, partDone, partAt, partChange}
+use Rattle.calls.specs.Calls.{marksAt, withMarks, withClear, basesOf, sizesOf, withBase, packedFrom, packedDevice, packedWords, Change, changed, started, startedWith, startDone, startChange, stopped, stopDone, stopChange, flagged, flagDone, suspendChange, dropped, resumeDone, resumeChange, Note, noted, noteIn, writeDone, writeNote, Receipt, received, receiveIn, receiveDone, receiveReceipt, Arrival, arrival, partDone, partAt, partChange}
 use Rattle.calls.specs.declared.Changed.{Changed}
 use Rattle.calls.specs.declared.Started.{Started}
-use Rattle.demands.specs.View.{marksOf, slotOf, frontAt, strayIn, view, Outcome, answered, starts, stops, flags, notes, receipts, arrives, runAs, run}
-use Rattle.demands.proofs.MarkLaws.{clear-length, clear-own, clear-other, put-length as marks-length, put-own, put-other}
+use Rattle.demands.specs.View.{marksOf, slotOf, frontAt, strayIn, amissIn, view, Outcome, answered, starts, stops, flags, notes, receipts, arrives, runAs, run}
+use Rattle.demands.proofs.MarkLaws.{Away, clear-length, clear-other, put-length as marks-length, put-own, put-other, packs-length, packs-kept, packs-clear}
 use Rattle.demands.proofs.ViewLaws.{Listed, Fits, slot-at, seen-same, placeOf-used, view-with, front-own, front-others, stray-own, front-dropped, front-undropped, stray-dropped, arriving-same}
 
 -- ---- the tables
@@ -72,8 +76,8 @@ order-numbers s v a (start x) = (
               omega arith,
               (
                 omega arith,
-                All-append (λ (t : Test). 1 ≤ t .number) (listTests s (granularityOf x) (countOf x) (rangesOf x)) (startShared s (v .counts) x)
-                    (listTests-numbers s (granularityOf x) (countOf x) (rangesOf x)) (omega arith, tt),
+                All-append (λ (t : Test). 1 ≤ t .number) (listTests s (granularityOf x) (countOf x) (rangesOf x)) (startShared s (v .counts) (v .units) x)
+                    (listTests-numbers s (granularityOf x) (countOf x) (rangesOf x)) (omega arith, (omega arith, tt)),
               ),
             ),
           ),
@@ -118,6 +122,23 @@ All-getD P (x ∷ xs) (suc i) d k h = All-getD P xs i d k (h .1)
 clear-is : (us : List Unit) → replicate (length us) false ≡ clear us
 clear-is [] = refl
 clear-is (u ∷ us) = ap (λ l. false ∷ l) (clear-is us)
+
+-- ---- tracked or not
+
+pub not-on : (t : Tracking) → not (isOn t) ≡ true → t ≡ Off
+not-on Off e = refl
+not-on (On g n) e = absurd (true≢false (sym e))
+
+pub is-on : (t : Tracking) → isOn t ≡ true → (g : ℕ) × (n : ℕ) × (t ≡ On g n)
+is-on Off e = absurd (true≢false (sym e))
+is-on (On g n) e = (g, n, refl)
+
+-- a tracked controller of a sound record has its ranges
+pub listed-some : (d : Device) (ws area : List ℕ) → Fits d ws area → soundDevice d ≡ true → (j : ℕ) → j < d .settings .count → (g n : ℕ) → getD (d .controllers) j noController .tracking ≡ On g n
+    → 1 ≤ length (getD (d .controllers) j noController .ranges)
+listed-some d ws area fits sure j h g n e =
+    let l = All-getD Listed (d .controllers) j noController (λ g n e. let z : _≡_ {A = ℕ} 0 1 = cc in absurd (omega arith)) (fits .listed) g n e in
+    omega (arith, l, soundDevice-held d j g n sure h (omega (arith, h, soundDevice-facts d sure .count, fits .controllers)) e .some)
 
 -- ---- what a call answers and leaves is what a step of the rules does
 
@@ -195,30 +216,66 @@ module _ (d : Device) (ws area : List ℕ) (fits : Fits d ws area) (id : ℕ) wh
     listed : Listed c
     listed = All-getD Listed (d .controllers) i noController (λ g n e. let z : _≡_ {A = ℕ} 0 1 = cc in absurd (omega arith)) (fits .listed)
 
-    held : (j g n : ℕ) → j < d .settings .count → getD (d .controllers) j noController .tracking ≡ On g n → length (units g (take n (getD (d .controllers) j noController .ranges))) ≤ shareSize
-    held j g n h e = soundDevice-held d j g n sure h (omega (arith, most, fits .controllers)) e .total
+    eight : (j : ℕ) → j < d .settings .count → j < length (d .controllers)
+    eight j h = omega (arith, h, most, fits .controllers)
 
-    -- it is replaced, and the marks of other places are as they were
-    replaced : (e : Controller) (ws′ : List ℕ) → ((j n : ℕ) → j ≢ i → j < 8 → n ≤ shareSize → marksAt ws′ (shareAt j) n ≡ marksAt ws (shareAt j) n)
-        → view (withController d i e) ws′ area ≡ withSlot st (some i) (slotOf ws′ (shareAt i) e (front i))
-    replaced e ws′ same =
-        view-with d ws ws′ area area i e (d .sequence) (fits .controllers) most used refl
-        (λ j other h. let k = getD (d .controllers) j noController in ap (withMarksOf (slotOf ws (shareAt j) k (front j))) (go j other h (k .tracking) refl))
+    -- the controller at a place in use
+    abbrev at : ℕ → Controller
+    at j = getD (d .controllers) j noController
+
+    -- how many units a tracked one has, and that its share lies in the pool
+    abbrev sizeOf : ℕ → ℕ → ℕ → ℕ
+    sizeOf j g n = length (units g (take n (at j .ranges)))
+
+    some-ranges : (j g n : ℕ) → j < d .settings .count → at j .tracking ≡ On g n → 1 ≤ length (at j .ranges)
+    some-ranges j g n h e = listed-some d ws area fits sure j h g n e
+
+    within : (j g n : ℕ) → j < d .settings .count → at j .tracking ≡ On g n → at j .base + sizeOf j g n ≤ 64 * markWords
+    within j g n h e = soundDevice-inside d j g n sure h (eight j h) e (some-ranges j g n h e)
+
+    -- the shares of two do not overlap
+    away : (g n : ℕ) → c .tracking ≡ On g n → (j g′ n′ : ℕ) → j ≢ i → j < d .settings .count → at j .tracking ≡ On g′ n′ → Away (c .base) (sizeOf i g n) (at j .base) (sizeOf j g′ n′)
+    away g n e j g′ n′ other h e′ = soundDevice-apart d i g n j g′ n′ sure (λ z. other (sym z)) used h (eight i used) (eight j h) e e′ (some-ranges i g n used e) (some-ranges j g′ n′ h e′)
+
+    -- marks of other places that are as they were
+    abbrev Kept : List ℕ → Type 0
+    Kept ws′ = (j g n : ℕ) → j ≢ i → j < d .settings .count → at j .tracking ≡ On g n → marksAt ws′ (at j .base) (sizeOf j g n) ≡ marksAt ws (at j .base) (sizeOf j g n)
+
+    kept-slot : (ws′ : List ℕ) → Kept ws′ → (j : ℕ) → j ≢ i → j < d .settings .count → marksOf ws′ (at j .base) (at j .tracking) (at j .ranges) ≡ marksOf ws (at j .base) (at j .tracking) (at j .ranges)
+    kept-slot ws′ same j other h = go (at j .tracking) refl
       where
-        go : (j : ℕ) → j ≢ i → j < d .settings .count → (t : Tracking) → getD (d .controllers) j noController .tracking ≡ t
-            → marksOf ws′ (shareAt j) t (getD (d .controllers) j noController .ranges) ≡ marksOf ws (shareAt j) t (getD (d .controllers) j noController .ranges)
-        go j other h Off q = refl
-        go j other h (On g n) q =
-            let k = getD (d .controllers) j noController in
-            ap (on g (take n (k .ranges))) (same j (length (units g (take n (k .ranges)))) other (omega (arith, most)) (held j g n h q))
+        go : (t : Tracking) → at j .tracking ≡ t → marksOf ws′ (at j .base) t (at j .ranges) ≡ marksOf ws (at j .base) t (at j .ranges)
+        go Off q = refl
+        go (On g n) q = ap (on g (take n (at j .ranges))) (same j g n other h q)
 
-    -- the sequence and the area are replaced too, and the bytes so far of other places are as they were
-    moved : (e : Controller) (q : Sequence) (area′ : List ℕ) → strayIn (d .settings) q ≡ strayIn (d .settings) (d .sequence)
+    -- the shares of a sound record are as they may be; so are those of what it leaves
+    amiss-same : (d′ : Device) → strayIn (d .settings) (d′ .sequence) ≡ strayIn (d .settings) (d .sequence) → d′ .settings ≡ d .settings → sharesOk (sharesOf d′) ≡ true → amissIn d′ ≡ amissIn d
+    amiss-same d′ stray e ok = ap₂ (λ a b. a || not b) (ap (λ (t : Settings). strayIn t (d′ .sequence)) e ∙ stray) (ok ∙ sym (soundDevice-shares d sure))
+
+    -- a controller is replaced by one with a share that may be there, and with it the sequence, the words and the area
+    moved : (e : Controller) (q : Sequence) (ws′ area′ : List ℕ) → sharesOk (set (sharesOf d) i (shareOf e)) ≡ true → strayIn (d .settings) q ≡ strayIn (d .settings) (d .sequence) → Kept ws′
         → ((j : ℕ) → j ≢ i → frontAt (d .settings) q area′ j ≡ front j)
-        → view (withSequence (withController d i e) q) ws area′ ≡ withSlot st (some i) (slotOf ws (shareAt i) e (frontAt (d .settings) q area′ i))
-    moved e q area′ stray same =
-        view-with d ws ws area area′ i e q (fits .controllers) most used stray
-        (λ j other h. ap (slotOf ws (shareAt j) (getD (d .controllers) j noController)) (same j other))
+        → view (withSequence (withController d i e) q) ws′ area′ ≡ withSlot st (some i) (slotOf ws′ e (frontAt (d .settings) q area′ i))
+    moved e q ws′ area′ ok stray kept fronts =
+        view-with d (withSequence (withController d i e) q) ws ws′ area area′ i (fits .controllers) (length-set (d .controllers) i e ∙ fits .controllers) refl most used
+        (amiss-same (withSequence (withController d i e) q) stray refl (rw (sharesOf-with d (fits .controllers) most i e used) ok)) other
+        ∙ ap (λ x. withSlot st (some i) (slotOf ws′ x (frontAt (d .settings) q area′ i))) (getD-set-same (d .controllers) i e noController (eight i used))
+      where
+        other : (j : ℕ) → j ≢ i → j < d .settings .count
+            → slotOf ws′ (getD (set (d .controllers) i e) j noController) (frontAt (d .settings) q area′ j) ≡ slotOf ws (at j) (front j)
+        other j n h =
+            ap (λ x. slotOf ws′ x (frontAt (d .settings) q area′ j)) (getD-set-other (d .controllers) i j e noController n)
+            ∙ ap₂ (λ m f. record { suspended = at j .suspended; marks = m; front = f }) (kept-slot ws′ kept j n h) (fronts j n)
+
+    -- the same without another sequence
+    replaced : (e : Controller) (ws′ : List ℕ) → sharesOk (set (sharesOf d) i (shareOf e)) ≡ true → Kept ws′
+        → view (withController d i e) ws′ area ≡ withSlot st (some i) (slotOf ws′ e (front i))
+    replaced e ws′ ok kept = moved e (d .sequence) ws′ area ok refl kept (λ j n. refl)
+
+    -- a share that stays
+    same-share : (e : Controller) → shareOf e ≡ shareOf c → sharesOk (set (sharesOf d) i (shareOf e)) ≡ true
+    same-share e q =
+        rw (q, sym (sharesOf-at d i used (eight i used)), set-getD (sharesOf d) i noShare) (soundDevice-shares d sure)
 
     still : (e : Controller) (ws′ : List ℕ) → Listed e → length ws′ ≡ markWords → Fits (withController d i e) ws′ area
     still e ws′ h k =
@@ -234,38 +291,133 @@ module _ (d : Device) (ws area : List ℕ) (fits : Fits d ws area) (id : ℕ) wh
     same-record : withController d i c ≡ d
     same-record = ap (λ l. record { settings = d .settings; controllers = l; sequence = d .sequence }) (set-getD (d .controllers) i noController)
 
-    own : slotAt st (some i) ≡ slotOf ws (shareAt i) c (front i)
+    own : slotAt st (some i) ≡ slotOf ws c (front i)
     own = slot-at d ws area fits i used below
 
     -- ---- start
 
-    start-done : (x : List ℕ) → StartPassed (d .settings) (seenIn d (length ws) (some i)) x
+    start-done : (x : List ℕ) → StartPassed (d .settings) (seenIn d (length ws) (some i)) x → c .tracking ≡ Off
         → Does x (starts area x (startDone d ws x (some i))) (some i) (start x)
-    start-done x q =
-        let f = listTests-facts (d .settings) (granularityOf x) (countOf x) (rangesOf x) (soundDevice-facts d sure .greatest) (q .granularity) (q .list) in
-        let first : take (countOf x) (placed (rangesOf x)) ≡ rangesOf x = put-take-front (replicate 16 noRange) (countOf x) (rangesOf x) (rangesOf-length x) (f .few) in
-        let us = units (granularityOf x) (rangesOf x) in
-        rw own (record {
-          answer = refl;
-          state =
-              replaced (started c x) (withClear ws (shareAt i)) (clear-other ws (fits .words) i below)
-              ∙ ap (withSlot st (some i)) (rw (first, clear-own ws (fits .words) i below (length us) (f .total), clear-is us));
-          bytes = refl;
-          fits =
-              still (started c x) (withClear ws (shareAt i))
-              (λ g n e. let z : countOf x ≡ n = cc in omega (arith, f .few, put-length (replicate 16 noRange) 0 (rangesOf x), length-replicate 16 noRange))
-              (clear-length ws (fits .words) i below);
-        })
+    unfolding getShare
+    start-done x q idle =
+        rw own (record { answer = refl; state = state; bytes = refl; fits = packed-fits })
+      where
+        f : HeldFacts (d .settings) (granularityOf x) (countOf x) (rangesOf x)
+        f = listTests-facts (d .settings) (granularityOf x) (countOf x) (rangesOf x) (soundDevice-facts d sure .greatest) (q .granularity) (q .list)
+
+        first : take (countOf x) (placed (rangesOf x)) ≡ rangesOf x
+        first = put-take-front (replicate 16 noRange) (countOf x) (rangesOf x) (rangesOf-length x) (f .few)
+
+        e : Device
+        e = withController d i (started c x)
+
+        eight-e : length (e .controllers) ≡ 8
+        eight-e = length-set (d .controllers) i (started c x) ∙ fits .controllers
+
+        sizes : List ℕ
+        sizes = sizesOf e
+
+        us : List Unit
+        us = units (granularityOf x) (rangesOf x)
+
+        ws′ : List ℕ
+        ws′ = packedWords ws (basesOf d) sizes i
+
+        room : heldUnits (heldOf (started c x)) + unitsOf d ≤ mostUnits
+        room = rw first (q .room)
+
+        packs : Packs (flat ws) (basesOf d) sizes i
+        packs = start-packs d (fits .controllers) sure i used idle (started c x) room ws (fits .words)
+
+        fit : newBase sizes 8 ≤ 16384
+        fit = sizes-fit d (fits .controllers) sure i used idle (started c x) room
+
+        -- how many bits the share at a place has
+        size-at : (j : ℕ) → j < d .settings .count → getD sizes j 0 ≡ heldUnits (heldOf (getD (e .controllers) j noController))
+        size-at j h = sizesOf-at e eight-e most j h
+
+        -- a controller that is on, at its new place: its share reads as some marks do
+        based : (j : ℕ) (k : Controller) (g n : ℕ) → k .tracking ≡ On g n → getD sizes j 0 ≡ length (units g (take n (k .ranges))) → (p : List Bool) → length p ≡ getD sizes j 0
+            → marksAt ws′ (newBase sizes j) (getD sizes j 0) ≡ p → marksOf ws′ (packedAt sizes j k .base) (k .tracking) (k .ranges) ≡ on g (take n (k .ranges)) p
+        based j k g n t size p long reads =
+            ap (λ (y : Tracking). marksOf ws′ (packedAt sizes j k .base) y (k .ranges)) t
+            ∙ ap (λ m. on g (take n (k .ranges)) (marksAt ws′ (packedAt sizes j k .base) m)) (sym size)
+            ∙ ap (on g (take n (k .ranges))) (go (eqb (getD sizes j 0) 0) refl)
+          where
+            nothing : (l : List Bool) → length l ≡ 0 → [] ≡ l
+            nothing [] z = refl
+            nothing (x ∷ l) z = absurd (omega (arith, z))
+
+            go : (b : Bool) → eqb (getD sizes j 0) 0 ≡ b → marksAt ws′ (cond b k (withBase k (newBase sizes j)) .base) (getD sizes j 0) ≡ p
+            go true z = let n0 = eqb-true (getD sizes j 0) 0 z in rw n0 (nothing p (long ∙ n0))
+            go false z = reads
+
+        slot-is : (j : ℕ) (k : Controller) (m : Marks) (y : Option (List ℕ)) → marksOf ws′ (packedAt sizes j k .base) (k .tracking) (k .ranges) ≡ m
+            → slotOf ws′ (packedAt sizes j k) y ≡ record { suspended = k .suspended; marks = m; front = y }
+        slot-is j k m y is = let a = packed-alike e eight-e most j k in rw (a .0, a .1, a .2) (ap (λ z. record { suspended = k .suspended; marks = z; front = y }) is)
+
+        words′ : length ws′ ≡ markWords
+        words′ = packs-length ws (fits .words) (basesOf d) sizes i packs
+
+        others : (j : ℕ) → j ≢ i → j < d .settings .count → slotOf ws′ (getD (packedDevice e .controllers) j noController) (front j) ≡ slotOf ws (at j) (front j)
+        others j n h =
+            ap (λ k. slotOf ws′ k (front j)) (packed-at e j (omega (arith, h, most, eight-e)) ∙ ap (packedAt sizes j) (getD-set-other (d .controllers) i j (started c x) noController n))
+            ∙ slot-is j (at j) (marksOf ws (at j .base) (at j .tracking) (at j .ranges)) (front j) (go (at j .tracking) refl)
+          where
+            size : getD sizes j 0 ≡ heldUnits (heldOf (at j))
+            size = size-at j h ∙ ap (λ k. heldUnits (heldOf k)) (getD-set-other (d .controllers) i j (started c x) noController n)
+
+            go : (t : Tracking) → at j .tracking ≡ t → marksOf ws′ (packedAt sizes j (at j) .base) (at j .tracking) (at j .ranges) ≡ marksOf ws (at j .base) (at j .tracking) (at j .ranges)
+            go Off t = rw t
+            go (On g m) t =
+                let z : getD sizes j 0 ≡ sizeOf j g m = size ∙ rw t in
+                let b : getD (basesOf d) j 0 ≡ at j .base = base-at d (fits .controllers) most j h g m t in
+                based j (at j) g m t z (marksAt ws (at j .base) (sizeOf j g m)) (getShare-length (flat ws) (at j .base) (sizeOf j g m) (omega (arith, within j g m h t, flat-length ws, fits .words)) ∙ sym z)
+                (packs-kept ws (fits .words) (basesOf d) sizes i packs j (omega (arith, h, most)) n ∙ rw (b, z))
+                ∙ rw t
+
+        state : view (packedDevice e) ws′ area ≡ withSlot st (some i) (withMarksOf (slotOf ws c (front i)) (on (granularityOf x) (rangesOf x) (clear us)))
+        state =
+            let size : getD sizes i 0 ≡ length us = size-at i used ∙ ap (λ k. heldUnits (heldOf k)) (getD-set-same (d .controllers) i (started c x) noController (eight i used)) ∙ rw first in
+            view-with d (packedDevice e) ws ws′ area area i (fits .controllers) (packed-eight e eight-e most) refl most used
+            (amiss-same (packedDevice e) refl refl (packed-ok e eight-e most fit)) others
+            ∙ ap (withSlot st (some i))
+            (ap (λ k. slotOf ws′ k (front i)) (packed-at e i (omega (arith, used, most, eight-e)) ∙ ap (packedAt sizes i) (getD-set-same (d .controllers) i (started c x) noController (eight i used)))
+            ∙ slot-is i (started c x) (on (granularityOf x) (rangesOf x) (clear us)) (front i)
+            (based i (started c x) (granularityOf x) (countOf x) refl (size ∙ rw first) (replicate (getD sizes i 0) false) (length-replicate (getD sizes i 0) false)
+            (packs-clear ws (fits .words) (basesOf d) sizes i packs (omega (arith, used, most)))
+            ∙ rw (first, size) (ap (on (granularityOf x) (rangesOf x)) (clear-is us))))
+
+        listed-packed : (cs : List Controller) (k : ℕ) → All Listed cs → All Listed (packedFrom sizes k cs)
+        listed-packed [] k h = tt
+        listed-packed (y ∷ cs) k h = (let a = packed-alike e eight-e most k y in rw (a .1, a .2) (h .0), listed-packed cs (suc k) (h .1))
+
+        packed-fits : Fits (packedDevice e) ws′ area
+        packed-fits =
+            record {
+              controllers = packed-eight e eight-e most;
+              identifiers = fits .identifiers;
+              listed =
+                  listed-packed (e .controllers) 0
+                  (All-set Listed (d .controllers) i (started c x) (fits .listed)
+                  (λ g n t. let z : countOf x ≡ n = cc in omega (arith, f .few, put-length (replicate 16 noRange) 0 (rangesOf x), length-replicate 16 noRange)));
+              words = words′;
+              bytes = fits .bytes;
+            }
 
     -- ---- stop
 
-    stop-done : Does [] (stops area (stopDone d ws (some i))) (some i) stop
-    stop-done =
+    stop-done : (g n : ℕ) → c .tracking ≡ On g n → Does [] (stops area (stopDone d ws (some i))) (some i) stop
+    stop-done g n t =
+        let size : heldUnits (heldOf c) ≡ sizeOf i g n = rw t in
+        let inside : c .base + heldUnits (heldOf c) ≤ 64 * markWords = omega (arith, size, within i g n used t) in
         rw own (record {
           answer = refl;
-          state = replaced (stopped c) (withClear ws (shareAt i)) (clear-other ws (fits .words) i below);
+          state =
+              replaced (stopped c) (withClear ws (c .base) (heldUnits (heldOf c))) (shares-less (sharesOf d) i (soundDevice-shares d sure))
+              (λ j g′ n′ other h e. clear-other ws (fits .words) (c .base) (heldUnits (heldOf c)) inside (at j .base) (sizeOf j g′ n′) (within j g′ n′ h e) (rw size (away g n t j g′ n′ other h e)));
           bytes = refl;
-          fits = still (stopped c) (withClear ws (shareAt i)) (λ g n e. let z : _≡_ {A = ℕ} 0 1 = cc in absurd (omega arith)) (clear-length ws (fits .words) i below);
+          fits = still (stopped c) (withClear ws (c .base) (heldUnits (heldOf c))) (λ g n e. let z : _≡_ {A = ℕ} 0 1 = cc in absurd (omega arith)) (clear-length ws (fits .words) (c .base) (heldUnits (heldOf c)) inside);
         })
 
     -- ---- suspend and resume
@@ -273,7 +425,7 @@ module _ (d : Device) (ws area : List ℕ) (fits : Fits d ws area) (id : ℕ) wh
     suspend-done : (kind : ℕ) → Does [] (flags ws area (flagDone d (some i) (c .suspended || eqb kind 1))) (some i) (suspend kind)
     suspend-done kind =
         let e = flagged c (c .suspended || eqb kind 1) in
-        rw own (record { answer = refl; state = replaced e ws (λ j n other h k. refl); bytes = refl; fits = still e ws listed (fits .words) })
+        rw own (record { answer = refl; state = replaced e ws (same-share e refl) (λ j g n other h t. refl); bytes = refl; fits = still e ws listed (fits .words) })
 
     resume-done : Does [] (flags ws area (resumeDone d id (some i))) (some i) resume
     resume-done =
@@ -282,8 +434,9 @@ module _ (d : Device) (ws area : List ℕ) (fits : Fits d ws area) (id : ℕ) wh
         rw own (record {
           answer = refl;
           state =
-              moved e (dropped id (d .sequence)) area (stray-dropped (d .settings) id i place (d .sequence)) (front-undropped (d .settings) id i place (d .sequence) area)
-              ∙ ap (λ y. withSlot st (some i) (slotOf ws (shareAt i) e y)) (front-dropped (d .settings) id i place (d .sequence) area);
+              moved e (dropped id (d .sequence)) ws area (same-share e refl) (stray-dropped (d .settings) id i place (d .sequence)) (λ j g n other h t. refl)
+              (front-undropped (d .settings) id i place (d .sequence) area)
+              ∙ ap (λ y. withSlot st (some i) (slotOf ws e y)) (front-dropped (d .settings) id i place (d .sequence) area);
           bytes = refl;
           fits = record { controllers = f .controllers; identifiers = f .identifiers; listed = f .listed; words = f .words; bytes = f .bytes };
         })
@@ -292,36 +445,37 @@ module _ (d : Device) (ws area : List ℕ) (fits : Fits d ws area) (id : ℕ) wh
 
     -- marks of its units that are put: the record is as it was
     marks-put : (g n : ℕ) (p : List Bool) → c .tracking ≡ On g n → length p ≡ length (units g (take n (c .ranges)))
-        → view d (withMarks ws (shareAt i) p) area ≡ withSlot st (some i) (withMarksOf (slotOf ws (shareAt i) c (front i)) (on g (take n (c .ranges)) p))
+        → view d (withMarks ws (c .base) p) area ≡ withSlot st (some i) (withMarksOf (slotOf ws c (front i)) (on g (take n (c .ranges)) p))
     marks-put g n p e h =
         let us = units g (take n (c .ranges)) in
-        let few : length p ≤ shareSize = omega (arith, h, held i g n used e) in
-        let ws′ = withMarks ws (shareAt i) p in
+        let inside : c .base + length p ≤ 64 * markWords = omega (arith, h, within i g n used e) in
+        let ws′ = withMarks ws (c .base) p in
         sym (ap (λ (r : Device). view r ws′ area) same-record)
-        ∙ replaced c ws′ (put-other ws (fits .words) i below p few)
-        ∙ ap (withSlot st (some i)) (rw (e, put-own ws (fits .words) i below p few (length us) (sym h)))
+        ∙ replaced c ws′ (same-share c refl)
+        (λ j g′ n′ other k t. put-other ws (fits .words) (c .base) p inside (at j .base) (sizeOf j g′ n′) (within j g′ n′ k t) (rw h (away g n e j g′ n′ other k t)))
+        ∙ ap (withSlot st (some i)) (rw (e, put-own ws (fits .words) (c .base) p inside (length us) (sym h)))
 
-    marks-fit : (g n : ℕ) (p : List Bool) → c .tracking ≡ On g n → length p ≡ length (units g (take n (c .ranges))) → Fits d (withMarks ws (shareAt i) p) area
+    marks-fit : (g n : ℕ) (p : List Bool) → c .tracking ≡ On g n → length p ≡ length (units g (take n (c .ranges))) → Fits d (withMarks ws (c .base) p) area
     marks-fit g n p e h =
         record {
           controllers = fits .controllers;
           identifiers = fits .identifiers;
           listed = fits .listed;
-          words = marks-length ws (fits .words) i below p (omega (arith, h, held i g n used e));
+          words = marks-length ws (fits .words) (c .base) p (omega (arith, h, within i g n used e));
           bytes = fits .bytes;
         }
 
     -- its marks, one for each unit
     marks-sized : (g n : ℕ) → c .tracking ≡ On g n
-        → length (marksAt ws (shareAt i) (length (units g (take n (c .ranges))))) ≡ length (units g (take n (c .ranges)))
-    marks-sized g n e = getShare-length _ (shareAt i) (length (units g (take n (c .ranges)))) (omega (arith, held i g n used e, below, flat-length ws, fits .words))
+        → length (marksAt ws (c .base) (length (units g (take n (c .ranges))))) ≡ length (units g (take n (c .ranges)))
+    marks-sized g n e = getShare-length _ (c .base) (length (units g (take n (c .ranges)))) (omega (arith, within i g n used e, flat-length ws, fits .words))
 
     write-done : (w : Write) → Does [] (notes d area (writeDone d ws w (some i))) (some i) (write w)
     write-done w = rw own (go (c .tracking) refl)
       where
         go : (t : Tracking) → c .tracking ≡ t
-            → let r = wroteIn w (marksOf ws (shareAt i) t (c .ranges)) in
-            Like id [] (notes d area (noteIn ws (shareAt i) t (c .ranges) w)) (r .0) (withSlot st (some i) (withMarksOf (slotOf ws (shareAt i) c (front i)) (r .1)))
+            → let r = wroteIn w (marksOf ws (c .base) t (c .ranges)) in
+            Like id [] (notes d area (noteIn ws (c .base) t (c .ranges) w)) (r .0) (withSlot st (some i) (withMarksOf (slotOf ws c (front i)) (r .1)))
         go Off e =
             record {
               answer = refl;
@@ -331,7 +485,7 @@ module _ (d : Device) (ws area : List ℕ) (fits : Fits d ws area) (id : ℕ) wh
             }
         go (On g n) e =
             let us = units g (take n (c .ranges)) in
-            let p = marksAt ws (shareAt i) (length us) in
+            let p = marksAt ws (c .base) (length us) in
             let h = mark-length w us p (marks-sized g n e) in
             record {
               answer = refl;
@@ -346,13 +500,13 @@ module _ (d : Device) (ws area : List ℕ) (fits : Fits d ws area) (id : ℕ) wh
     receive-done x q = rw own (go (c .tracking) refl q)
       where
         go : (t : Tracking) → c .tracking ≡ t → isOn t ≡ true
-            → let r = reportedIn (c .suspended) (length x) (marksOf ws (shareAt i) t (c .ranges)) in
-            Like id x (receipts d area (receiveIn ws (shareAt i) id (c .suspended) t (c .ranges) x)) (r .0)
-            (withSlot st (some i) (withMarksOf (slotOf ws (shareAt i) c (front i)) (r .1)))
+            → let r = reportedIn (c .suspended) (length x) (marksOf ws (c .base) t (c .ranges)) in
+            Like id x (receipts d area (receiveIn ws (c .base) id (c .suspended) t (c .ranges) x)) (r .0)
+            (withSlot st (some i) (withMarksOf (slotOf ws c (front i)) (r .1)))
         go Off e f = absurd (true≢false (sym f))
         go (On g n) e f =
             let us = units g (take n (c .ranges)) in
-            let p = marksAt ws (shareAt i) (length us) in
+            let p = marksAt ws (c .base) (length us) in
             let h = clearFirst-length (length (join (reportedRuns (room (length x)) us p))) p ∙ marks-sized g n e in
             record {
               answer = refl;
@@ -405,12 +559,12 @@ module _ (d : Device) (ws area : List ℕ) (fits : Fits d ws area) (id : ℕ) wh
 
         -- its own bytes so far are replaced, and there are no others
         left : (q : Sequence) (y : Option (List ℕ)) → othersIn id q ≡ false → frontIn id q area′ ≡ y
-            → view (withSequence d q) ws area′ ≡ withSlot st (some i) (withFront (slotOf ws (shareAt i) c so-far) y)
+            → view (withSequence d q) ws area′ ≡ withSlot st (some i) (withFront (slotOf ws c so-far) y)
         left q y others e =
             sym (ap (λ (r : Device). view (withSequence r q) ws area′) same-record)
-            ∙ moved c q area′ (stray-own (d .settings) id i place q others ∙ sym (stray-own (d .settings) id i place (d .sequence) alone))
+            ∙ moved c q ws area′ (same-share c refl) (stray-own (d .settings) id i place q others ∙ sym (stray-own (d .settings) id i place (d .sequence) alone)) (λ j g n other h t. refl)
             (λ j other. front-others (d .settings) id i place q area′ others j other ∙ sym (front-others (d .settings) id i place (d .sequence) area alone j other))
-            ∙ ap (λ x. withSlot st (some i) (slotOf ws (shareAt i) c x)) (front-own (d .settings) id i place q area′ ∙ e)
+            ∙ ap (λ x. withSlot st (some i) (slotOf ws c x)) (front-own (d .settings) id i place q area′ ∙ e)
 
         -- a finished state has its header, so it is not empty
         long : isLast p ≡ true → eqb (length whole) 0 ≡ false
@@ -424,7 +578,7 @@ module _ (d : Device) (ws area : List ℕ) (fits : Fits d ws area) (id : ℕ) wh
             (arrives ws (p .bytes)
             (cond l (arrival 0 (length whole) (withSequence d Nothing) area′) (arrival 0 0 (withSequence d (Open id (length whole))) area′)))
             (r .0)
-            (withSlot st (some i) (withFront (slotOf ws (shareAt i) c so-far) (r .1)))
+            (withSlot st (some i) (withFront (slotOf ws c so-far) (r .1)))
         go true l =
             record {
               answer = rw (long l) (ap assembled has);
@@ -485,9 +639,9 @@ module _ (d : Device) (ws area : List ℕ) (fits : Fits d ws area) (id : ℕ) wh
   unfolding order startChange stopChange writeNote receiveReceipt suspendChange resumeChange
   every-call (start x) =
       at-place (start x) (Change Started) x (starts area x) (startDone d ws x) (λ n i. startedWith n i d ws) (start-refuses x)
-      (λ i e s q. start-done i e s x (startOrder-passed (d .settings) (seenIn d (length ws) (some i)) x q))
+      (λ i e s q. let p = startOrder-passed (d .settings) (seenIn d (length ws) (some i)) x q in start-done i e s x p (not-on (controllerAt d (some i) .tracking) (p .untracked)))
   every-call stop =
-      at-place stop (Change Changed) [] (stops area) (stopDone d ws) (λ n i. changed n d ws) (λ v a. (refl, (refl, (refl, (refl, tt))))) (λ i e s q. stop-done i e s)
+      at-place stop (Change Changed) [] (stops area) (stopDone d ws) (λ n i. changed n d ws) (λ v a. (refl, (refl, (refl, (refl, tt))))) (λ i e s q. let o = is-on (controllerAt d (some i) .tracking) (q .1 .1 .1 .0) in stop-done i e s (o .0) (o .1) (o .2))
   every-call (write w) =
       at-place (write w) Note [] (notes d area) (writeDone d ws w) (λ n i. noted n 0 ws) (λ v a. (refl, (refl, (refl, (refl, tt))))) (λ i e s q. write-done i e s w)
   every-call (receive x) =

@@ -2,7 +2,7 @@
 -- slot that is replaced. Assumes nothing.
 use mathlib.Core.Path.{_≡_, refl, sym, ap, ap₂, _∙_}
 use mathlib.Core.Logic.{_≢_}
-use mathlib.Core.Bool.{Bool, true, false, _&&_, not, cond, and-true, true≢false}
+use mathlib.Core.Bool.{Bool, true, false, _&&_, _||_, not, cond, and-true, and-false, true≢false}
 use mathlib.Core.List.{List, [], _∷_, map}
 use mathlib.Core.Option.{Option, none, some}
 use Prim.Native.Nat.{ℕ, zero, suc, _+_, _-_, _≤_, _<_}
@@ -12,10 +12,10 @@ use lib.ListN.{length, getD, set, take, length-take, length-set}
 use lib.Seq.{ext-getD, getD-set-same, getD-set-other, length-take-le}
 use borrow.Author.Tests.{eq-eqb, ne-eqb, eqb-true, eqb-false, not-false}
 use Rattle.rules.specs.Lists.{all, any, sum, isSome}
-use Rattle.rules.specs.Settings.{shareAt, markWords, placeOf}
+use Rattle.rules.specs.Settings.{markWords, placeOf}
 use Rattle.rules.specs.ControllerState.{stateMost}
-use Rattle.rules.specs.Device.{heldCount, heldIn, heldOf, frontOk, freshController, controllersOf, suspendedAt, sequenceOk, sound, soundDevice}
-use Rattle.rules.specs.Machine.{Slot, freshSlot, areOn, heldOn, heldBy, isOpen, openOk, slotAt, withSlot, soundState, countsIn, seenAt, arrivingAt}
+use Rattle.rules.specs.Device.{heldCount, heldUnits, heldIn, heldOf, frontOk, freshController, controllersOf, suspendedAt, sequenceOk, sharesOf, sharesOk, sound, soundDevice}
+use Rattle.rules.specs.Machine.{Slot, freshSlot, areOn, heldOn, heldBy, isOpen, openOk, slotAt, withSlot, soundState, countsIn, unitsIn, seenAt, arrivingAt}
 use Rattle.rules.specs.declared.Range.{Range}
 use Rattle.rules.specs.declared.Tracking.{Tracking}
 use Rattle.rules.specs.declared.Tracking.the-variants.{Off, On}
@@ -26,11 +26,10 @@ use Rattle.rules.specs.declared.Device.{Device}
 use Rattle.rules.specs.declared.Settings.{Settings}
 use Rattle.rules.proofs.ListLaws.{All, All-take, getD-any, any-from, any-nowhere}
 use Rattle.rules.proofs.StateLaws.{placeOf-is, placeOf-apart}
-use Rattle.rules.proofs.SoundLaws.{sound-sequence}
-use Rattle.record.specs.Record.{soundWith, noController, withController, withSequence, isOn, countsOf, seenIn, othersIn, frontOf, frontIn, arrivingIn}
-use Rattle.record.proofs.RecordLaws.{frontOf-length}
+use Rattle.record.specs.Record.{soundWith, noController, isOn, countsOf, unitsOf, seenIn, othersIn, frontOf, frontIn, arrivingIn}
+use Rattle.record.proofs.RecordLaws.{frontOf-length, soundDevice-sequence}
 use Rattle.calls.specs.Calls.{dropped}
-use Rattle.demands.specs.View.{marksOf, slotOf, isAt, frontAt, slotsFrom, strayIn, view}
+use Rattle.demands.specs.View.{marksOf, slotOf, isAt, frontAt, slotsFrom, strayIn, amissIn, view}
 
 -- ---- what holds of each record and its marks in a session
 
@@ -53,28 +52,28 @@ module _ (ws : List ℕ) (f : ℕ → Option (List ℕ)) where
   slots-length (c ∷ cs) k = ap suc (slots-length cs (suc k))
 
   slots-at : (cs : List Controller) (k n i : ℕ) → i < n → i < length cs
-      → getD (slotsFrom ws f k (take n cs)) i freshSlot ≡ slotOf ws (shareAt (k + i)) (getD cs i noController) (f (k + i))
+      → getD (slotsFrom ws f k (take n cs)) i freshSlot ≡ slotOf ws (getD cs i noController) (f (k + i))
   slots-at cs k zero i h l = absurd (omega arith)
   slots-at [] k (suc n) i h l = absurd (omega arith)
-  slots-at (c ∷ cs) k (suc n) zero h l = ap (λ z. slotOf ws (shareAt z) c (f z)) (omega arith)
+  slots-at (c ∷ cs) k (suc n) zero h l = ap (λ z. slotOf ws c (f z)) (omega arith)
   slots-at (c ∷ cs) k (suc n) (suc i) h l =
-      slots-at cs (suc k) n i (omega arith) (omega arith) ∙ ap (λ z. slotOf ws (shareAt z) (getD cs i noController) (f z)) (omega arith)
+      slots-at cs (suc k) n i (omega arith) (omega arith) ∙ ap (λ z. slotOf ws (getD cs i noController) (f z)) (omega arith)
 
   pub slots-front : (cs : List Controller) (n i : ℕ) → i < n → i < length cs
-      → getD (slotsFrom ws f 0 (take n cs)) i freshSlot ≡ slotOf ws (shareAt i) (getD cs i noController) (f i)
-  slots-front cs n i h l = slots-at cs 0 n i h l ∙ ap (λ z. slotOf ws (shareAt z) (getD cs i noController) (f z)) (omega arith)
+      → getD (slotsFrom ws f 0 (take n cs)) i freshSlot ≡ slotOf ws (getD cs i noController) (f i)
+  slots-front cs n i h l = slots-at cs 0 n i h l ∙ ap (λ z. slotOf ws (getD cs i noController) (f z)) (omega arith)
 
   -- a slot holds what its controller holds
-  held-by : (base : ℕ) (c : Controller) (k : ℕ) → Listed c → heldBy (slotOf ws base c (f k)) ≡ heldOf c
-  held-by base c k h = go (c .tracking) refl
+  held-by : (c : Controller) (k : ℕ) → Listed c → heldBy (slotOf ws c (f k)) ≡ heldOf c
+  held-by c k h = go (c .tracking) refl
     where
-      go : (t : Tracking) → c .tracking ≡ t → heldOn (marksOf ws base t (c .ranges)) ≡ heldIn t (c .ranges)
+      go : (t : Tracking) → c .tracking ≡ t → heldOn (marksOf ws (c .base) t (c .ranges)) ≡ heldIn t (c .ranges)
       go Off e = refl
       go (On g n) e = ap (λ m. some (record { granularity = g; count = m; ranges = take n (c .ranges) })) (length-take-le n (c .ranges) (h g n e))
 
   pub slots-held : (cs : List Controller) (k : ℕ) → All Listed cs → map heldBy (slotsFrom ws f k cs) ≡ map heldOf cs
   slots-held [] k h = refl
-  slots-held (c ∷ cs) k h = ap₂ (λ x xs. x ∷ xs) (held-by (shareAt k) c k (h .0)) (slots-held cs (suc k) (h .1))
+  slots-held (c ∷ cs) k h = ap₂ (λ x xs. x ∷ xs) (held-by c k (h .0)) (slots-held cs (suc k) (h .1))
 
   tracked-same : (base : ℕ) (t : Tracking) (rs : List Range) → areOn (marksOf ws base t rs) ≡ isOn t
   tracked-same base Off rs = refl
@@ -133,7 +132,12 @@ module _ (d : Device) (ws area : List ℕ) (fits : Fits d ws area) where
           (frontOf-length end area)
 
   pub sound-same : soundState (view d ws area) ≡ soundDevice d
-  sound-same = ap₂ (sound (d .settings)) held-same (sequence-same (d .sequence))
+  sound-same = ap₂ (sound (d .settings)) held-same (regroup (strayIn (d .settings) (d .sequence)) (sharesOk (sharesOf d)) _ ∙ ap (λ b. b && sharesOk (sharesOf d)) (sequence-same (d .sequence)))
+    where
+      regroup : (a b c : Bool) → (not (a || not b) && c) ≡ ((not a && c) && b)
+      regroup true b c = refl
+      regroup false true c = sym (and-true c)
+      regroup false false c = sym (and-false c)
 
   sound-with : soundWith d (length ws) ≡ soundState (view d ws area)
   unfolding soundWith
@@ -142,71 +146,78 @@ module _ (d : Device) (ws area : List ℕ) (fits : Fits d ws area) where
   counts-same : countsOf d ≡ countsIn (view d ws area)
   counts-same = ap (λ hs. sum (map heldCount hs)) (sym held-same)
 
+  units-same : unitsOf d ≡ unitsIn (view d ws area)
+  units-same = ap (λ hs. sum (map heldUnits hs)) (sym held-same)
+
   pub slot-at : (i : ℕ) → i < d .settings .count → i < 8
-      → slotAt (view d ws area) (some i) ≡ slotOf ws (shareAt i) (getD (d .controllers) i noController) (frontAt (d .settings) (d .sequence) area i)
+      → slotAt (view d ws area) (some i) ≡ slotOf ws (getD (d .controllers) i noController) (frontAt (d .settings) (d .sequence) area i)
   slot-at i h k = slots-front ws (frontAt (d .settings) (d .sequence) area) (d .controllers) (d .settings .count) i h (omega (arith, k, fits .controllers))
 
   pub seen-same : (id : ℕ) → seenIn d (length ws) (placeOf (d .settings) id) ≡ seenAt (view d ws area) (placeOf (d .settings) id)
   seen-same id = go (placeOf (d .settings) id) (λ i e. placeOf-used d id i e) (λ i e. placeOf-there d id i (fits .identifiers) e)
     where
       go : (p : Option ℕ) → ((i : ℕ) → p ≡ some i → i < d .settings .count) → ((i : ℕ) → p ≡ some i → i < 8) → seenIn d (length ws) p ≡ seenAt (view d ws area) p
-      go none h k = rw (sound-with, counts-same)
+      go none h k = rw (sound-with, counts-same, units-same)
       go (some i) h k =
           let c = getD (d .controllers) i noController in
-          rw (sound-with, counts-same, slot-at i (h i refl) (k i refl), tracked-same ws (frontAt (d .settings) (d .sequence) area) (shareAt i) (c .tracking) (c .ranges))
+          rw (sound-with, counts-same, units-same, slot-at i (h i refl) (k i refl), tracked-same ws (frontAt (d .settings) (d .sequence) area) (c .base) (c .tracking) (c .ranges))
 
--- ---- a controller replaced
+-- ---- another record of which one slot differs
 
--- the marks, and the bytes so far, of other places are as they were
-pub view-with : (d : Device) (ws ws′ area area′ : List ℕ) (i : ℕ) (c : Controller) (q : Sequence) → length (d .controllers) ≡ 8 → d .settings .count ≤ 8 → i < d .settings .count
-    → strayIn (d .settings) q ≡ strayIn (d .settings) (d .sequence)
-    → ((j : ℕ) → j ≢ i → j < d .settings .count
-    → slotOf ws′ (shareAt j) (getD (d .controllers) j noController) (frontAt (d .settings) q area′ j)
-    ≡ slotOf ws (shareAt j) (getD (d .controllers) j noController) (frontAt (d .settings) (d .sequence) area j))
-    → view (withSequence (withController d i c) q) ws′ area′ ≡ withSlot (view d ws area) (some i) (slotOf ws′ (shareAt i) c (frontAt (d .settings) q area′ i))
-view-with d ws ws′ area area′ i c q eight most used stray same =
-    ap₂ (λ l b. record { settings = d .settings; slots = l; stray = b }) (ext-getD freshSlot new old (sizes ∙ sym old-length) at) stray
-  where
-    n : ℕ
-    n = d .settings .count
+module _ (d d′ : Device) (ws ws′ area area′ : List ℕ) where
+  -- the slot at a place, before and afterwards
+  abbrev before : ℕ → Slot
+  before j = slotOf ws (getD (d .controllers) j noController) (frontAt (d .settings) (d .sequence) area j)
 
-    f : ℕ → Option (List ℕ)
-    f = frontAt (d .settings) (d .sequence) area
+  abbrev afterwards : ℕ → Slot
+  afterwards j = slotOf ws′ (getD (d′ .controllers) j noController) (frontAt (d .settings) (d′ .sequence) area′ j)
 
-    f′ : ℕ → Option (List ℕ)
-    f′ = frontAt (d .settings) q area′
+  pub view-with : (i : ℕ) → length (d .controllers) ≡ 8 → length (d′ .controllers) ≡ 8 → d′ .settings ≡ d .settings → d .settings .count ≤ 8 → i < d .settings .count
+      → amissIn d′ ≡ amissIn d → ((j : ℕ) → j ≢ i → j < d .settings .count → afterwards j ≡ before j)
+      → view d′ ws′ area′ ≡ withSlot (view d ws area) (some i) (afterwards i)
+  view-with i eight eight′ settings most used amiss same =
+      ap (λ b. record { settings = d′ .settings; slots = view d′ ws′ area′ .slots; amiss = b }) amiss
+      ∙ ap (λ (t : Settings). record { settings = t; slots = slotsFrom ws′ (frontAt t (d′ .sequence) area′) 0 (take (t .count) (d′ .controllers)); amiss = amissIn d }) settings
+      ∙ ap (λ l. record { settings = d .settings; slots = l; amiss = amissIn d }) (ext-getD freshSlot new old (sizes ∙ sym old-length) at)
+    where
+      n : ℕ
+      n = d .settings .count
 
-    new : List Slot
-    new = slotsFrom ws′ f′ 0 (take n (set (d .controllers) i c))
+      f : ℕ → Option (List ℕ)
+      f = frontAt (d .settings) (d .sequence) area
 
-    old : List Slot
-    old = set (slotsFrom ws f 0 (take n (d .controllers))) i (slotOf ws′ (shareAt i) c (f′ i))
+      f′ : ℕ → Option (List ℕ)
+      f′ = frontAt (d .settings) (d′ .sequence) area′
 
-    sizes : length new ≡ n
-    sizes = slots-length ws′ f′ (take n (set (d .controllers) i c)) 0 ∙ length-take-le n (set (d .controllers) i c) (omega (arith, length-set (d .controllers) i c))
+      new : List Slot
+      new = slotsFrom ws′ f′ 0 (take n (d′ .controllers))
 
-    was : length (slotsFrom ws f 0 (take n (d .controllers))) ≡ n
-    was = slots-length ws f (take n (d .controllers)) 0 ∙ length-take-le n (d .controllers) (omega arith)
+      old : List Slot
+      old = set (slotsFrom ws f 0 (take n (d .controllers))) i (afterwards i)
 
-    old-length : length old ≡ n
-    old-length = length-set (slotsFrom ws f 0 (take n (d .controllers))) i (slotOf ws′ (shareAt i) c (f′ i)) ∙ was
+      sizes : length new ≡ n
+      sizes = slots-length ws′ f′ (take n (d′ .controllers)) 0 ∙ length-take-le n (d′ .controllers) (omega (arith, eight′, most))
 
-    at : (j : ℕ) → j < length new → getD new j freshSlot ≡ getD old j freshSlot
-    at j h =
-        let k : j < n = omega (arith, sizes, h) in
-        slots-front ws′ f′ (set (d .controllers) i c) n j k (omega (arith, k, most, eight, length-set (d .controllers) i c)) ∙ go (eqb j i) refl k
-      where
-        go : (b : Bool) → eqb j i ≡ b → j < n → slotOf ws′ (shareAt j) (getD (set (d .controllers) i c) j noController) (f′ j) ≡ getD old j freshSlot
-        go true e k =
-            let z = eqb-true j i e in
-            rw (z, getD-set-same (d .controllers) i c noController (omega arith))
-            (sym (getD-set-same (slotsFrom ws f 0 (take n (d .controllers))) i (slotOf ws′ (shareAt i) c (f′ i)) freshSlot (omega (arith, was))))
-        go false e k =
-            let z = eqb-false j i e in
-            ap (λ x. slotOf ws′ (shareAt j) x (f′ j)) (getD-set-other (d .controllers) i j c noController z)
-            ∙ same j z k
-            ∙ sym (slots-front ws f (d .controllers) n j k (omega arith))
-            ∙ sym (getD-set-other (slotsFrom ws f 0 (take n (d .controllers))) i j (slotOf ws′ (shareAt i) c (f′ i)) freshSlot z)
+      was : length (slotsFrom ws f 0 (take n (d .controllers))) ≡ n
+      was = slots-length ws f (take n (d .controllers)) 0 ∙ length-take-le n (d .controllers) (omega (arith, eight, most))
+
+      old-length : length old ≡ n
+      old-length = length-set (slotsFrom ws f 0 (take n (d .controllers))) i (afterwards i) ∙ was
+
+      at : (j : ℕ) → j < length new → getD new j freshSlot ≡ getD old j freshSlot
+      at j h =
+          let k : j < n = omega (arith, sizes, h) in
+          slots-front ws′ f′ (d′ .controllers) n j k (omega (arith, k, most, eight′)) ∙ go (eqb j i) refl k
+        where
+          go : (b : Bool) → eqb j i ≡ b → j < n → afterwards j ≡ getD old j freshSlot
+          go true e k =
+              let z = eqb-true j i e in
+              rw z (sym (getD-set-same (slotsFrom ws f 0 (take n (d .controllers))) i (afterwards i) freshSlot (omega (arith, was, used))))
+          go false e k =
+              let z = eqb-false j i e in
+              same j z k
+              ∙ sym (slots-front ws f (d .controllers) n j k (omega (arith, k, most, eight)))
+              ∙ sym (getD-set-other (slotsFrom ws f 0 (take n (d .controllers))) i j (afterwards i) freshSlot z)
 
 -- ---- a state under way (W6): a controller is its owner exactly if it stands at the owner's place
 
@@ -306,7 +317,7 @@ module _ (d : Device) (ws area : List ℕ) (fits : Fits d ws area) (id i : ℕ) 
               placed none r = absurd (true≢false (sym kept ∙ ap (λ x. suspendedAt (controllersOf d) x && frontOk end) r))
                 where
                   kept : (suspendedAt (controllersOf d) (placeOf (d .settings) owner) && frontOk end) ≡ true
-                  kept = sym (ap (sequenceOk (d .settings) (controllersOf d)) f) ∙ sound-sequence (d .settings) (map heldOf (controllersOf d)) _ sure
+                  kept = sym (ap (sequenceOk (d .settings) (controllersOf d)) f) ∙ soundDevice-sequence d sure
               placed (some j) r =
                   let h : j ≢ i = placeOf-apart (d .settings) owner id j i r e (eqb-false owner id z) in
                   let k : j < length slots = omega (arith, size, placeOf-used d owner j r, placeOf-there d owner j (fits .identifiers) r, fits .controllers, length-take (d .settings .count) (d .controllers)) in

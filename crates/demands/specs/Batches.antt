@@ -8,7 +8,7 @@ use lib.ListN.{length}
 use Rattle.rules.specs.Lists.{sum}
 use Rattle.rules.specs.Units.{Write}
 use Rattle.rules.specs.Order.{batchOrder}
-use Rattle.rules.specs.Machine.{Call, Event, countsIn, numberOf, newlyOf}
+use Rattle.rules.specs.Machine.{Call, Event, countsIn, unitsIn, numberOf, newlyOf}
 use Rattle.rules.specs.History.{only, isAccepted}
 use Rattle.rules.specs.Demands.{sessionEnd, unhindered}
 use Rattle.rules.specs.declared.Settings.{Settings}
@@ -89,7 +89,7 @@ pub record Batches : Type 1 where
   -- demand 2: it comes for each controller to what the rules give for these calls, and each stands as its calls and answers tell
   pub rules : (s : Settings) (a : ℕ) (m : Given) (xs : List Step) → Sized s m → Equals s a m (callsIn s m xs) (callsIn s m xs)
   pub stands : (s : Settings) (m : Given) (xs : List Step) → Sized s m → freshChange s (m .marks) .answer .number ≡ 0
-      → (a : ℕ) → Stands s (endBy s m xs) (historyIn s m (callsIn s m xs) a) (countsIn (sessionEnd s (length (m .marks)) (callsIn s m xs))) a
+      → (a : ℕ) → Stands s (endBy s m xs) (historyIn s m (callsIn s m xs) a) (countsIn (sessionEnd s (length (m .marks)) (callsIn s m xs))) (unitsIn (sessionEnd s (length (m .marks)) (callsIn s m xs))) a
   -- demand 3: "For demand 3 a batch is its notes carried out, each answered singly; a cut by another controller's note is outside": then A's calls differ
   pub together : (s : Settings) (a : ℕ) (m m′ : Given) (xs xs′ : List Step) → Sized s m → Sized s m′ → length (m .marks) ≡ length (m′ .marks)
       → only a (callsIn s m xs) ≡ only a (callsIn s m′ xs′) → unhindered (historyIn s m (callsIn s m xs) a) ≡ true → unhindered (historyIn s m′ (callsIn s m′ xs′) a) ≡ true

@@ -10,23 +10,21 @@ use mathlib.Core.List.{List, [], _∷_}
 use mathlib.Core.Option.{none, some}
 use lib.ListN.{length, take, getD}
 use Rattle.rules.specs.Refusals.{Test, _else_, refusal, placeIn, passes}
-use Rattle.rules.specs.Settings.{placeOf}
+use Rattle.rules.specs.Settings.{settingsOk, placeOf}
 use Rattle.rules.specs.Units.{Write}
 use Rattle.rules.specs.StartData.{granularityOf, rangesOf, placed, headerTests, headerOf, readTests, startData, writeTests, startWritten}
 use Rattle.rules.specs.ReportReader.{reportTests, indexTests, reportRefusal, reportBadIndex, reportSuspended, reportMore, reportIdentifier, reportGranularity, reportCount, reportRefusalAt, reportAddress, reportLength}
 use Rattle.rules.specs.Order.{Seen, Arriving, freshOrder, startOrder, stopOrder, writeOrder, receiveOrder, suspendOrder, resumeOrder, Part, followsOn, joinedOk, partOrder}
-use Rattle.rules.specs.Device.{closedDevice, soundDevice}
-use Rattle.rules.specs.Machine.{refused, Call, lent}
-use Rattle.rules.specs.Demands.{Rowless, Names, Held}
+use Rattle.rules.specs.Device.{closedDevice}
+use Rattle.rules.specs.Demands.{Rowless, Names}
 use Rattle.rules.specs.declared.Range.{Range}
 use Rattle.rules.specs.declared.Sequence.the-variants.{Nothing, Open}
 use Rattle.rules.specs.declared.Settings.{Settings}
 use Rattle.rules.specs.declared.Header.the-variants.{Is, Refused}
 use Rattle.rules.specs.declared.Device.{Device}
-use Rattle.record.specs.Record.{countsOf, controllerAt, seenIn, arrivingIn}
+use Rattle.record.specs.Record.{countsOf, unitsOf, seenIn, arrivingIn}
 use Rattle.start_data.specs.Answer.{headerSays}
 use Rattle.calls.specs.Calls.{freshChange, startChange, stopChange, suspendChange, resumeChange, writeNote, receiveReceipt, partChange}
-use Rattle.demands.specs.Sessions.{Left, Given, Sized, outcome, endOf}
 
 -- "A refusal returns its number from document 01 and zeros (the structure reader adds a place), and the device record, the marks and the
 -- report buffer stay as they were"; W3: a start adds its row
@@ -41,6 +39,8 @@ pub record Demand1 : Type 0 where
   pub fresh : (s : Settings) (ws : List ℕ)
       → let c = freshChange s ws in
       Answers (c .answer .number) (freshOrder s (length ws)) ((c .answer .device ≡ closedDevice) × (c .marks ≡ ws))
+  -- 16, then 1 unless there are 256 words (W7), and for nothing else
+  pub fresh-order : (s : Settings) (words : ℕ) → freshOrder s words ≡ (settingsOk s else 16) ∷ (eqb words 256 else 1) ∷ []
   pub start : (d : Device) (ws : List ℕ) (id : ℕ) (x : List ℕ)
       → let c = startChange d ws id x in
       Answers (c .answer .number) (startOrder (d .settings) (seenIn d (length ws) (placeOf (d .settings) id)) x) ((c .answer .device ≡ d) × (c .marks ≡ ws))
@@ -51,7 +51,7 @@ pub record Demand1 : Type 0 where
   pub names : (d : Device) (ws : List ℕ) (id : ℕ) (x : List ℕ)
       → let a = startChange d ws id x .answer in
       let first = passes (take 8 (startOrder (d .settings) (seenIn d (length ws) (placeOf (d .settings) id)) x)) in
-      (first ≡ true → Names (d .settings) (countsOf d) (granularityOf x) (rangesOf x) (a .number) (a .row)) × (first ≡ false → Rowless (a .number) (a .row))
+      (first ≡ true → Names (d .settings) (countsOf d) (unitsOf d) (granularityOf x) (rangesOf x) (a .number) (a .row)) × (first ≡ false → Rowless (a .number) (a .row))
   -- those eight, in the order of document 01
   pub before : (s : Settings) (v : Seen) (x : List ℕ)
       → take 8 (startOrder s v x)
@@ -85,8 +85,8 @@ pub record Demand1 : Type 0 where
       → let a = partChange d words area id p in
       Answers (a .answer .number) (partOrder (seenIn d words (placeOf (d .settings) id)) (arrivingIn (d .sequence) area id) p)
       ((a .answer .whole ≡ 0) × (a .answer .device ≡ d) × (a .area ≡ area))
-  -- marks of 512 words and an area of 4,096 bytes, or 1, whatever else it is given
-  pub part-lent : (d : Device) (words : ℕ) (area : List ℕ) (id : ℕ) (p : Part) → (words ≢ 512) ⊎ (length area ≢ 4096) → partChange d words area id p .answer .number ≡ 1
+  -- marks of 256 words and an area of 4,096 bytes, or 1, whatever else it is given
+  pub part-lent : (d : Device) (words : ℕ) (area : List ℕ) (id : ℕ) (p : Part) → (words ≢ 256) ⊎ (length area ≢ 4096) → partChange d words area id p .answer .number ≡ 1
   -- its tests, in the order of document 02. (When a part is accepted, and so the last two of them, is said in plain numbers by `Fitting`.)
   pub part-order : (v : Seen) (a : Arriving) (p : Part)
       → let offset = p .low + 2 ^ 32 * p .high in
@@ -128,25 +128,3 @@ pub record Demand1 : Type 0 where
   -- W3: "W1's use of 9 is unchanged"
   pub read-none : (x : List ℕ) → 16 ≤ length x → getD x 0 0 ≡ 0 → numberAt x 8 2 ≤ 20 → getD x 1 0 % 2 ≡ 1 → numberAt x 4 4 ≡ 0 → reportRefusal x ≡ 9
   pub read-index : (x : List ℕ) (i : ℕ) → Answers (reportRefusalAt x i) (indexTests x i) ((reportAddress x i ≡ 0) × (reportLength x i ≡ 0))
-
--- W6: an open sequence that a sound record may have: "unsound if its owner isn't suspended or its end isn't whole dwords, 4 to 4,096 bytes"
-pub record LawfulSequence (d : Device) (owner end : ℕ) : Type 0 where
-  pub place : ℕ
-  pub known : placeOf (d .settings) owner ≡ some place
-  pub suspended : controllerAt d (some place) .suspended ≡ true
-  pub dwords : end % 4 ≡ 0
-  pub least : 4 ≤ end
-  pub most : end ≤ 4096
-
--- "From a fresh device no sequence of calls leads to an unsound record, save the closed device of a refused fresh", which answers 1 to every call
-pub record Soundness : Type 0 where
-  -- of a tracked controller it asks what a start asks: 7, 18 to 21, 10 and 11
-  pub held : Held
-  pub sequence : (d : Device) (owner end : ℕ) → length (d .controllers) ≡ 8 → d .sequence ≡ Open owner end → soundDevice d ≡ true → LawfulSequence d owner end
-  -- an unsound record, or marks of another number of words, answers 1 to every call
-  pub unsound : (l : Left) (k : Call) → (soundDevice (l .device) ≡ false) ⊎ (length (l .marks) ≢ 512) → outcome l k .answer ≡ refused 1 0
-  pub kept : (s : Settings) (m : Given) (ks : List Call) → Sized s m → freshChange s (m .marks) .answer .number ≡ 0
-      → (soundDevice (endOf s m ks .device) ≡ true) × (length (endOf s m ks .marks) ≡ 512)
-  pub closed : (s : Settings) (m : Given) (ks : List Call) (k : Call) → freshChange s (m .marks) .answer .number ≢ 0
-      → (endOf s m ks ≡ record { device = closedDevice; marks = m .marks; area = m .area }) × (outcome (endOf s m ks) k .answer ≡ refused 1 0)
-      × (outcome (endOf s m ks) k .bytes ≡ lent (k .op))

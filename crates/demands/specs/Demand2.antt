@@ -1,6 +1,6 @@
 -- Demand 2, as statements about the calls of `tracker`, after any session of them: fresh, then any calls in any order. Its settings have the eight places of
 -- their type. What is said of a controller begins with what its own calls and answers tell (rules' History), not with what the record says.
-use Prim.Native.Nat.{ℕ, _+_, _-_, _*_, _/_, _%_, _^_, _≤_, _<_}
+use Prim.Native.Nat.{ℕ, _+_, _-_, _/_, _%_, _^_, _≤_, _<_}
 use mathlib.Core.Path.{_≡_}
 use mathlib.Core.Logic.{_≢_, _↔_}
 use mathlib.Core.Bool.{Bool, true, false, _||_}
@@ -10,27 +10,28 @@ use lib.Dec.{eqb}
 use lib.ListN.{length, take, drop, getD, getElem?, set, replicate}
 use Rattle.bits.specs.Flat.{flat}
 use Rattle.rules.specs.Refusals.{passes}
-use Rattle.rules.specs.Settings.{shareSize, shareAt, placeOf}
+use Rattle.rules.specs.Settings.{placeOf}
+use Rattle.rules.specs.Lists.{sum}
 use Rattle.rules.specs.Units.{Unit, Write, units, touches, newly}
 use Rattle.rules.specs.StartData.{granularityOf, countOf, rangesOf, headerTests, placed}
 use Rattle.rules.specs.Report.{room, reportOn, marksLeft, reportBytes}
 use Rattle.rules.specs.ReportReader.{reportSize}
 use Rattle.rules.specs.Order.{Op, start, stop, write, Part, startListed}
-use Rattle.rules.specs.Device.{freshDevice, closedDevice}
-use Rattle.rules.specs.Machine.{refused, pendingIn, countsIn, slotOf, Call, step, lent, stored}
+use Rattle.rules.specs.Device.{noShare, sharesOf, freshDevice, closedDevice}
+use Rattle.rules.specs.Machine.{refused, pendingIn, countsIn, unitsIn, slotOf, Call, step, lent, stored}
 use Rattle.rules.specs.History.{Did, PendingBy, pendingBy, tracksBy, suspendedBy, slotBy}
 use Rattle.rules.specs.Demands.{sessionEnd, sessionHistory, lentBytes, UnitsListed, Runs, Reports, Room, ReadBack, Touches, Writes}
 use Rattle.rules.specs.declared.Range.{Range}
-use Rattle.rules.specs.declared.Tracking.{Tracking}
 use Rattle.rules.specs.declared.Tracking.the-variants.{Off, On}
 use Rattle.rules.specs.declared.Sequence.the-variants.{Nothing, Open}
 use Rattle.rules.specs.declared.Settings.{Settings}
 use Rattle.rules.specs.declared.Controller.{Controller}
 use Rattle.rules.specs.declared.Device.{Device}
 use Rattle.record.specs.Record.{controllerAt}
-use Rattle.calls.specs.Calls.{Receipt, freshChange, startChange, stopChange, suspendChange, resumeChange, writeNote, receiveReceipt, partChange}
+use Rattle.calls.specs.Calls.{sizesOf, Receipt, freshChange, startChange, stopChange, suspendChange, resumeChange, writeNote, receiveReceipt, partChange}
 use Rattle.demands.specs.View.{view}
-use Rattle.demands.specs.Sessions.{Left, Given, Sized, outcome, endOf, historyIn, bytesIn}
+use Rattle.demands.specs.Sessions.{Left, Given, Sized, outcome, next, endOf, historyIn, bytesIn}
+use Rattle.demands.specs.Soundness.{baseAt}
 use Rattle.demands.specs.Parts.{wholeBy, IsFinal, Arrives}
 
 -- ---- a session, beside the rules' session
@@ -52,7 +53,7 @@ pub record Shaped (l : Left) : Type 0 where
   pub controllers : length (l .device .controllers) ≡ 8
   pub identifiers : length (l .device .settings .identifiers) ≡ 8
   pub listed : (i g n : ℕ) → controllerAt (l .device) (some i) .tracking ≡ On g n → n ≤ length (controllerAt (l .device) (some i) .ranges)
-  pub words : length (l .marks) ≡ 512
+  pub words : length (l .marks) ≡ 256
   pub bytes : length (l .area) ≡ 4096
 
 -- a call is a step of the rules, on the device that is seen in record and marks
@@ -63,15 +64,19 @@ pub record Steps (l : Left) (k : Call) : Type 0 where
 
 -- ---- marks in words
 
--- the mark of unit m of the controller at a place: bit m of its share
+-- the mark of unit m of a controller whose share begins at a bit
 abbrev pub bitOf : List ℕ → ℕ → ℕ → Bool
-bitOf ws i m = getD (flat ws) (shareAt i + m) false
+bitOf ws base m = getD (flat ws) (base + m) false
 
--- words that differ at most in the first n bits of the share at a place: not in its bits past these, nor in any bit of another controller
-pub record Elsewhere (i n : ℕ) (ws ws′ : List ℕ) : Type 0 where
+-- how many bits the share of the controller at a place has (W7); it begins at `baseAt`
+abbrev pub sizeAt : Device → ℕ → ℕ
+sizeAt d i = getD (sharesOf d) i noShare .size
+
+-- words that differ at most in n bits from a base on: not in any bit of another share, nor in one that is in none
+pub record Elsewhere (base n : ℕ) (ws ws′ : List ℕ) : Type 0 where
   pub words : length ws′ ≡ length ws
-  pub below : (b : ℕ) → b < shareAt i → getD (flat ws′) b false ≡ getD (flat ws) b false
-  pub above : (b : ℕ) → shareAt i + n ≤ b → getD (flat ws′) b false ≡ getD (flat ws) b false
+  pub below : (b : ℕ) → b < base → getD (flat ws′) b false ≡ getD (flat ws) b false
+  pub above : (b : ℕ) → base + n ≤ b → getD (flat ws′) b false ≡ getD (flat ws) b false
 
 -- settings t as they were given, with zeros in the places of identifiers that are not in use
 pub record Kept (s t : Settings) : Type 0 where
@@ -97,7 +102,7 @@ replacedAt d i c = record { settings = d .settings; controllers = set (d .contro
 abbrev pub flaggedAt : Device → ℕ → Bool → Device
 flaggedAt d i b =
     let was = controllerAt d (some i) in
-    replacedAt d i (record { tracking = was .tracking; suspended = b; ranges = was .ranges })
+    replacedAt d i (record { tracking = was .tracking; base = was .base; suspended = b; ranges = was .ranges })
 
 -- a resume of controller a at place i makes its flag clear; W6: "its resume drops its unfinished sequence", and no other's
 pub record Resumed (d : Device) (a i : ℕ) (d′ : Device) : Type 0 where
@@ -105,24 +110,45 @@ pub record Resumed (d : Device) (a i : ℕ) (d′ : Device) : Type 0 where
   pub drops : (end : ℕ) → d .sequence ≡ Open a end → d′ .sequence ≡ Nothing
   pub keeps : ((end : ℕ) → d .sequence ≢ Open a end) → d′ .sequence ≡ d .sequence
 
--- a start or a stop of the controller at place i, on d and ws, leaves d′ and ws′: its record is replaced, its share is clear, and all else is as it was
-pub record Replaced (d : Device) (ws : List ℕ) (i : ℕ) (tracking : Tracking) (suspended : Bool) (ranges : List Range) (d′ : Device) (ws′ : List ℕ) : Type 0 where
-  -- zeros stand in the places that are not in use
-  pub record-is : d′ ≡ replacedAt d i (record { tracking = tracking; suspended = suspended; ranges = placed ranges })
-  pub clear : (m : ℕ) → m < shareSize → bitOf ws′ i m ≡ false
-  pub elsewhere : Elsewhere i shareSize ws ws′
+-- a start of the controller at place i, on d and ws, leaves d′ and ws′ (W7)
+pub record Started (d : Device) (ws : List ℕ) (i g n : ℕ) (ranges : List Range) (d′ : Device) (ws′ : List ℕ) : Type 0 where
+  -- its granularity, count and ranges are recorded, with zeros in the other places; of every other controller nothing changes but where its share begins
+  pub settings : d′ .settings ≡ d .settings
+  pub sequence : d′ .sequence ≡ d .sequence
+  pub controllers : length (d′ .controllers) ≡ length (d .controllers)
+  pub own : controllerAt d′ (some i) ≡ record { tracking = On g n; base = baseAt d′ i; suspended = false; ranges = placed ranges }
+  pub other : (j : ℕ) → j < 8 → j ≢ i
+      → let was = controllerAt d (some j) in
+      controllerAt d′ (some j) ≡ record { tracking = was .tracking; base = baseAt d′ j; suspended = was .suspended; ranges = was .ranges }
+  -- the shares are packed: from bit 0 on, in the order of the settings, each where those before it end; one that has no bits stays as it was
+  pub size : sizeAt d′ i ≡ length (units g ranges)
+  pub sizes : (j : ℕ) → j < 8 → j ≢ i → sizeAt d′ j ≡ sizeAt d j
+  pub begins : (j : ℕ) → j < 8 → 1 ≤ sizeAt d′ j → baseAt d′ j ≡ sum (take j (sizesOf d′))
+  pub none : (j : ℕ) → j < 8 → j ≢ i → sizeAt d′ j ≡ 0 → baseAt d′ j ≡ baseAt d j
+  -- every mark of the others went with its share, the new share is clear, and so is every bit behind the last one
+  pub moved : (j m : ℕ) → j < 8 → j ≢ i → m < sizeAt d j → bitOf ws′ (baseAt d′ j) m ≡ bitOf ws (baseAt d j) m
+  pub clear : (m : ℕ) → m < sizeAt d′ i → bitOf ws′ (baseAt d′ i) m ≡ false
+  pub behind : (b : ℕ) → sum (sizesOf d′) ≤ b → getD (flat ws′) b false ≡ false
+  pub words : length ws′ ≡ length ws
 
--- a write w by a controller at place i that is tracked with units us, of which a history h tells, on words ws: it answers a count and leaves ws′
-pub record Wrote (h : List Did) (i : ℕ) (us : List Unit) (w : Write) (ws : List ℕ) (count : ℕ) (ws′ : List ℕ) : Type 0 where
+-- a stop of it forgets the ranges, with zeros in all places; its share is clear, and no other moves
+pub record Stopped (d : Device) (ws : List ℕ) (i : ℕ) (d′ : Device) (ws′ : List ℕ) : Type 0 where
+  pub record-is : d′ ≡ replacedAt d i (record { tracking = Off; base = 0; suspended = false; ranges = placed [] })
+  pub clear : (m : ℕ) → m < sizeAt d i → bitOf ws′ (baseAt d i) m ≡ false
+  pub elsewhere : Elsewhere (baseAt d i) (sizeAt d i) ws ws′
+
+-- a write w by a controller whose share begins at a base and that is tracked with units us, of which a history h tells, on words ws: it answers a count and leaves ws′
+pub record Wrote (h : List Did) (base : ℕ) (us : List Unit) (w : Write) (ws : List ℕ) (count : ℕ) (ws′ : List ℕ) : Type 0 where
   -- a unit is pending afterwards exactly if it was, or the write touches it
-  pub marked : (m : ℕ) (u : Unit) → getElem? us m ≡ some u → bitOf ws′ i m ≡ (bitOf ws i m || touches w u)
-  pub elsewhere : Elsewhere i (length us) ws ws′
+  pub marked : (m : ℕ) (u : Unit) → getElem? us m ≡ some u → bitOf ws′ base m ≡ (bitOf ws base m || touches w u)
+  pub elsewhere : Elsewhere base (length us) ws ws′
   -- the count is that of the units that were not pending before and are afterwards
   pub counted : count ≡ newly w us (toldOf h us)
   pub writes : Writes w us (toldOf h us)
 
--- a receive into a buffer x on a controller a at place i that is tracked with granularity g and units us, of which a history h tells, on words ws
-pub record Received (h : List Did) (a i g : ℕ) (us : List Unit) (x : List ℕ) (ws : List ℕ) (r : Receipt) : Type 0 where
+-- a receive into a buffer x on a controller a whose share begins at a base and that is tracked with granularity g and units us, of which a history h tells, on words
+-- ws
+pub record Received (h : List Did) (a base g : ℕ) (us : List Unit) (x : List ℕ) (ws : List ℕ) (r : Receipt) : Type 0 where
   -- "A report lists the earliest pending runs that fit; More To Report is clear exactly when nothing stays pending"; it says suspended as the history does
   pub report : r .report ≡ reportOn (suspendedBy false h) g (room (length x)) us (toldOf h us)
   pub says : (r .report .suspended ≡ suspendedBy false h) × (r .report .granularity ≡ g)
@@ -137,8 +163,8 @@ pub record Received (h : List Did) (a i g : ℕ) (us : List Unit) (x : List ℕ)
   -- W1: the host's reader accepts it, and answers exactly its runs
   pub read-back : a < 2 ^ 16 → ReadBack a (r .report) (r .buffer)
   -- the units of the reported runs are made clear, later ones stay
-  pub left : (m : ℕ) (u : Unit) → getElem? us m ≡ some u → bitOf (r .marks) i m ≡ getD (marksLeft (room (length x)) us (toldOf h us)) m false
-  pub elsewhere : Elsewhere i (length us) ws (r .marks)
+  pub left : (m : ℕ) (u : Unit) → getElem? us m ≡ some u → bitOf (r .marks) base m ≡ getD (marksLeft (room (length x)) us (toldOf h us)) m false
+  pub elsewhere : Elsewhere base (length us) ws (r .marks)
 
 -- ---- a controller after a session, which left l; of it a history h tells
 
@@ -148,13 +174,15 @@ pub record Tracked (l : Left) (h : List Did) (a i g : ℕ) (rs : List Range) : T
   pub listed : UnitsListed g rs
   -- "a unit of a tracked range is pending exactly if an accepted write by its controller touched it after tracking last started and after it was last
   -- reported"
-  pub pending : (m : ℕ) (u : Unit) → getElem? (units g rs) m ≡ some u → (bitOf (l .marks) i m ≡ true) ↔ PendingBy h u
+  pub pending : (m : ℕ) (u : Unit) → getElem? (units g rs) m ≡ some u → (bitOf (l .marks) (baseAt (l .device) i) m ≡ true) ↔ PendingBy h u
   pub written : (w : Write)
       → let n = writeNote (l .device) (l .marks) a w in
-      n .answer .number ≡ 0 → Wrote h i (units g rs) w (l .marks) (n .answer .count) (n .marks)
+      n .answer .number ≡ 0 → Wrote h (baseAt (l .device) i) (units g rs) w (l .marks) (n .answer .count) (n .marks)
   pub received : (x : List ℕ)
       → let r = receiveReceipt (l .device) (l .marks) a x in
-      r .answer .number ≡ 0 → Received h a i g (units g rs) x (l .marks) r
+      r .answer .number ≡ 0 → Received h a (baseAt (l .device) i) g (units g rs) x (l .marks) r
+  -- its share has a bit for each unit
+  pub size : sizeAt (l .device) i ≡ length (units g rs)
   -- a stop and a receive are refused for nothing but what document 01 says
   pub may-stop : suspendedBy false h ≡ false → stopChange (l .device) (l .marks) a .answer .number ≡ 0
   pub may-receive : (x : List ℕ) → 32 ≤ length x → receiveReceipt (l .device) (l .marks) a x .answer .number ≡ 0
@@ -165,8 +193,8 @@ pub data Moves : Op → Type 0 where
   stops : Moves stop
   writes : (w : Write) → Moves (write w)
 
--- any controller a of a device that was made from settings s and now tracks so many counts
-pub record Stands (s : Settings) (l : Left) (h : List Did) (counts a : ℕ) : Type 0 where
+-- any controller a of a device that was made from settings s and now tracks so many counts and units
+pub record Stands (s : Settings) (l : Left) (h : List Did) (counts held a : ℕ) : Type 0 where
   -- what record and marks hold of it is what its calls and answers tell: granularity, ranges, the suspended flag, and each unit's mark
   pub told : slotOf (view (l .device) (l .marks) (l .area)) a ≡ slotBy h
   pub tracked : (i g : ℕ) (rs : List Range) → placeOf s a ≡ some i → tracksBy none h ≡ some (g, rs) → Tracked l h a i g rs
@@ -181,16 +209,16 @@ pub record Stands (s : Settings) (l : Left) (h : List Did) (counts a : ℕ) : Ty
   pub may-write : (i : ℕ) (w : Write) → placeOf s a ≡ some i → suspendedBy false h ≡ false → w .address + w .bytes ≤ 2 ^ 64
       → writeNote (l .device) (l .marks) a w .answer .number ≡ 0
   pub may-start : (i : ℕ) (x : List ℕ) → placeOf s a ≡ some i → suspendedBy false h ≡ false → tracksBy none h ≡ none
-      → passes (headerTests x ++ startListed s x) ≡ true → countOf x + counts ≤ s .limit
+      → passes (headerTests x ++ startListed s x) ≡ true → length (units (granularityOf x) (rangesOf x)) + held ≤ 16384 → countOf x + counts ≤ s .limit
       → startChange (l .device) (l .marks) a x .answer .number ≡ 0
-  -- "An accepted start clears the controller's 64 words and records granularity and ranges"
+  -- "An accepted start clears the controller's [share] and records granularity and ranges"; W7: wherever the others' shares go, their marks go along
   pub started : (i : ℕ) (x : List ℕ) → placeOf s a ≡ some i
       → let c = startChange (l .device) (l .marks) a x in
-      c .answer .number ≡ 0 → Replaced (l .device) (l .marks) i (On (granularityOf x) (countOf x)) false (rangesOf x) (c .answer .device) (c .marks)
+      c .answer .number ≡ 0 → Started (l .device) (l .marks) i (granularityOf x) (countOf x) (rangesOf x) (c .answer .device) (c .marks)
   -- "An accepted stop clears them again and forgets the ranges"
   pub stopped : (i : ℕ) → placeOf s a ≡ some i
       → let c = stopChange (l .device) (l .marks) a in
-      c .answer .number ≡ 0 → Replaced (l .device) (l .marks) i Off false [] (c .answer .device) (c .marks)
+      c .answer .number ≡ 0 → Stopped (l .device) (l .marks) i (c .answer .device) (c .marks)
   -- "Suspend type 1 suspends, also where already suspended. Type 0 is a notice and changes nothing"; it is refused for another type alone
   pub suspends : (i kind : ℕ) → placeOf s a ≡ some i
       → let c = suspendChange (l .device) (length (l .marks)) a kind in
@@ -202,20 +230,46 @@ pub record Stands (s : Settings) (l : Left) (h : List Did) (counts a : ℕ) : Ty
   -- W6: a state of its own that arrives in parts
   pub parts : (i : ℕ) → placeOf s a ≡ some i → Arrives l h a
 
+-- ---- a record that no session made
+
+-- what the calls of the controller a at place i leave of the pool, with the shares in any order and with any gaps, and anything in the bits that are in none (W7)
+pub record Keeps (l : Left) (a i : ℕ) : Type 0 where
+  pub started : (x : List ℕ)
+      → let c = startChange (l .device) (l .marks) a x in
+      c .answer .number ≡ 0 → Started (l .device) (l .marks) i (granularityOf x) (countOf x) (rangesOf x) (c .answer .device) (c .marks)
+  pub stopped : let c = stopChange (l .device) (l .marks) a in
+      c .answer .number ≡ 0 → Stopped (l .device) (l .marks) i (c .answer .device) (c .marks)
+  -- a write and a receive change no bit but those of its share
+  pub written : (w : Write) → Elsewhere (baseAt (l .device) i) (sizeAt (l .device) i) (l .marks) (writeNote (l .device) (l .marks) a w .marks)
+  pub received : (x : List ℕ) → Elsewhere (baseAt (l .device) i) (sizeAt (l .device) i) (l .marks) (receiveReceipt (l .device) (l .marks) a x .marks)
+
 -- ---- all of it
+
+-- a controller with zeros in every place
+abbrev pub zeroed : Controller
+zeroed = record { tracking = Off; base = 0; suspended = false; ranges = replicate 16 (record { start = 0; length = 0 }) }
 
 pub record Demand2 : Type 1 where
   -- the rules are those of document 01: any session comes for each controller to what they give for the same calls
   pub rules : (s : Settings) (a : ℕ) (m : Given) (ks : List Call) → Sized s m → Equals s a m ks ks
   -- and so does each call on a record that no session made
   pub steps : (l : Left) → Shaped l → (k : Call) → Steps l k
-  -- a fresh device: nobody is tracked or suspended, no state is under way, and all marks are 0
+  -- a fresh device, and all marks are 0
   pub fresh : (s : Settings) (ws : List ℕ)
       → let c = freshChange s ws in
-      c .answer .number ≡ 0 → (c .answer .device ≡ freshDevice s) × (c .marks ≡ replicate 512 0)
-  pub none-under-way : (s : Settings) → (freshDevice s .sequence ≡ Nothing) × (closedDevice .sequence ≡ Nothing)
-  -- "The controllers in the settings have 64 words each, in their order there, one bit a unit, lowest bit first"
-  pub bits : (ws : List ℕ) (i m : ℕ) → bitOf ws i m ≡ eqb (getD ws (64 * i + m / 64) 0 / 2 ^ (m % 64) % 2) 1
+      c .answer .number ≡ 0 → (c .answer .device ≡ freshDevice s) × (c .marks ≡ replicate 256 0)
+  -- "[Fresh fills] those they leave unused with zeros", so the bases too (W7), and no state is under way (W6); the closed device is "all zeros"
+  pub zeros : (s : Settings)
+      → (freshDevice s .controllers ≡ replicate 8 zeroed)
+      × (freshDevice s .sequence ≡ Nothing)
+      × (closedDevice
+      ≡ record {
+        settings = record { manager = 0; least = 0; greatest = 0; powers = false; limit = 0; count = 0; identifiers = replicate 8 0 };
+        controllers = replicate 8 zeroed;
+        sequence = Nothing;
+      })
+  -- "one bit a unit, lowest bit first"
+  pub bits : (ws : List ℕ) (base m : ℕ) → bitOf ws base m ≡ eqb (getD ws ((base + m) / 64) 0 / 2 ^ ((base + m) % 64) % 2) 1
   -- an identifier stands where the settings list it
   pub place : (s : Settings) (a i : ℕ) → length (s .identifiers) ≡ 8 → placeOf s a ≡ some i → (i < s .count) × (getD (s .identifiers) i 0 ≡ a)
   -- after any calls from it, each given what the last one left: the settings are those that it was made with, and each controller stands as its calls and
@@ -223,7 +277,13 @@ pub record Demand2 : Type 1 where
   pub settings : (s : Settings) (m : Given) (ks : List Call) → Sized s m → freshChange s (m .marks) .answer .number ≡ 0
       → Kept s (endOf s m ks .device .settings)
   pub stands : (s : Settings) (m : Given) (ks : List Call) → Sized s m → freshChange s (m .marks) .answer .number ≡ 0
-      → (a : ℕ) → Stands s (endOf s m ks) (historyIn s m ks a) (countsIn (sessionEnd s (length (m .marks)) ks)) a
+      → (a : ℕ) → Stands s (endOf s m ks) (historyIn s m ks a) (countsIn (sessionEnd s (length (m .marks)) ks)) (unitsIn (sessionEnd s (length (m .marks)) ks)) a
+  -- W7: "moving marks changes no pending unit": a call to one controller, a start or a stop too, changes no pending unit of another, wherever its marks went
+  pub undisturbed : (s : Settings) (m : Given) (ks : List Call) → Sized s m → (k : Call) (b : ℕ) → k .id ≢ b → pendingOf (next (endOf s m ks) k) b ≡ pendingOf (endOf s m ks) b
+  -- and so of a record that no session made, with its shares in any order and with any gaps
+  pub unmoved : (l : Left) → Shaped l → (k : Call) (b : ℕ) → k .id ≢ b → pendingOf (next l k) b ≡ pendingOf l b
+  -- there too every bit is accounted for
+  pub keeps : (l : Left) → Shaped l → (a i : ℕ) → placeOf (l .device .settings) a ≡ some i → Keeps l a i
   -- W6: "the same however divided": where the data that two finishing parts complete are the same, in any two sessions and of any two controllers, so is what they
   -- yield
   pub divided : (s s′ : Settings) (m m′ : Given) (ks ks′ : List Call) → Sized s m → Sized s′ m′

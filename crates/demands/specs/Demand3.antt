@@ -5,9 +5,11 @@ use Prim.Native.Nat.{ℕ}
 use mathlib.Core.Path.{_≡_}
 use mathlib.Core.Bool.{true}
 use mathlib.Core.List.{List}
-use lib.ListN.{length}
-use Rattle.rules.specs.Machine.{Call}
-use Rattle.rules.specs.History.{only}
+use mathlib.Core.Option.{some}
+use lib.ListN.{length, getElem?}
+use Rattle.rules.specs.Order.{Op, start, Part, part}
+use Rattle.rules.specs.Machine.{Call, numberOf}
+use Rattle.rules.specs.History.{Did, only}
 use Rattle.rules.specs.Demands.{unhindered}
 use Rattle.rules.specs.declared.Settings.{Settings}
 use Rattle.demands.specs.Sessions.{Given, Sized, endOf, historyIn, bytesIn}
@@ -19,8 +21,16 @@ pub record Agree (s : Settings) (a : ℕ) (m m′ : Given) (ks ks′ : List Call
   pub bytes : bytesIn s m ks a ≡ bytesIn s m′ ks′ a
   pub units : pendingOf (endOf s m ks) a ≡ pendingOf (endOf s m′ ks′) a
 
+-- a refusal for what controllers share: of a start the pool's shortage (W7) or the descriptor limit, of a part of a state that another's is under way (W6)
+pub data Shared : Op → ℕ → Type 0 where
+  pool : (x : List ℕ) → Shared (start x) 11
+  limit : (x : List ℕ) → Shared (start x) 12
+  sequence : (p : Part) → Shared (part p) 23
+
 -- the words of two sessions may differ, as fresh makes them 0; that there are as many is meant, as fresh refuses another number of them
 pub record Demand3 : Type 0 where
+  -- what is asked of A's answers: that none is such a refusal, and nothing else
+  pub premise : (h : List Did) → ((i : ℕ) (d : Did) → getElem? h i ≡ some d → Shared (d .op) (numberOf (d .answer)) → ⊥) → unhindered h ≡ true
   pub together : (s : Settings) (a : ℕ) (m m′ : Given) (ks ks′ : List Call) → Sized s m → Sized s m′ → length (m .marks) ≡ length (m′ .marks)
       → only a ks ≡ only a ks′ → unhindered (historyIn s m ks a) ≡ true → unhindered (historyIn s m′ ks′ a) ≡ true → Agree s a m m′ ks ks′
   pub alone : (s : Settings) (a : ℕ) (m : Given) (ks : List Call) → Sized s m

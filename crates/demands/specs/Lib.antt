@@ -2,6 +2,7 @@ pub mod View
 pub mod Sessions
 pub mod Contracts
 pub mod Demand1
+pub mod Soundness
 pub mod Parts
 pub mod Demand2
 pub mod Structures

@@ -1,13 +1,13 @@
 -- A record, its marks and the area for a state, seen as a device of the rules (rules' `State`); and the calls of `tracker`, seen as calls of the rules.
 use Prim.Native.Nat.{ℕ, suc}
-use mathlib.Core.Bool.{Bool, false, not, cond}
+use mathlib.Core.Bool.{Bool, false, _||_, not, cond}
 use mathlib.Core.List.{List, [], _∷_}
 use mathlib.Core.Option.{Option, none, some}
 use lib.Dec.{eqb}
 use lib.ListN.{length, take}
 use Rattle.rules.specs.Units.{units}
 use Rattle.rules.specs.Order.{Op, start, stop, write, receive, suspend, resume, part}
-use Rattle.rules.specs.Device.{controllersOf}
+use Rattle.rules.specs.Device.{controllersOf, sharesOf, sharesOk}
 use Rattle.rules.specs.Machine.{Marks, off, on, Slot, State, Answer, refused, done, wrote, reported, assembled, Call}
 use Rattle.rules.specs.declared.Range.{Range}
 use Rattle.rules.specs.declared.Tracking.{Tracking}
@@ -16,7 +16,7 @@ use Rattle.rules.specs.declared.Controller.{Controller}
 use Rattle.rules.specs.declared.Device.{Device}
 use Rattle.calls.specs.declared.Changed.{Changed}
 use Rattle.calls.specs.declared.Started.{Started}
-use Rattle.rules.specs.Settings.{shareAt, placeOf}
+use Rattle.rules.specs.Settings.{placeOf}
 use Rattle.rules.specs.Lists.{isSome}
 use Rattle.rules.specs.declared.Settings.{Settings}
 use Rattle.rules.specs.declared.Sequence.{Sequence}
@@ -32,8 +32,8 @@ marksOf ws base Off rs = off
 marksOf ws base (On g n) rs = on g (take n rs) (marksAt ws base (length (units g (take n rs))))
 
 -- a controller, with the bytes so far of a state of its own, if one is under way
-abbrev pub slotOf : List ℕ → ℕ → Controller → Option (List ℕ) → Slot
-slotOf ws base c f = record { suspended = c .suspended; marks = marksOf ws base (c .tracking) (c .ranges); front = f }
+abbrev pub slotOf : List ℕ → Controller → Option (List ℕ) → Slot
+slotOf ws c f = record { suspended = c .suspended; marks = marksOf ws (c .base) (c .tracking) (c .ranges); front = f }
 
 -- those of the controller at a place: it is the owner of the open sequence, or there are none
 abbrev pub isAt : Option ℕ → ℕ → Bool
@@ -46,15 +46,19 @@ frontAt s (Open owner end) area i = cond (isAt (placeOf s owner) i) (some (front
 
 abbrev pub slotsFrom : List ℕ → (ℕ → Option (List ℕ)) → ℕ → List Controller → List Slot
 slotsFrom ws f i [] = []
-slotsFrom ws f i (c ∷ cs) = slotOf ws (shareAt i) c (f i) ∷ slotsFrom ws f (suc i) cs
+slotsFrom ws f i (c ∷ cs) = slotOf ws c (f i) ∷ slotsFrom ws f (suc i) cs
 
 -- whether the owner of an open sequence is not in the settings
 abbrev pub strayIn : Settings → Sequence → Bool
 strayIn s Nothing = false
 strayIn s (Open owner end) = not (isSome (placeOf s owner))
 
+-- or the shares are not as they may be (W7)
+abbrev pub amissIn : Device → Bool
+amissIn d = strayIn (d .settings) (d .sequence) || not (sharesOk (sharesOf d))
+
 abbrev pub view : Device → List ℕ → List ℕ → State
-view d ws area = record { settings = d .settings; slots = slotsFrom ws (frontAt (d .settings) (d .sequence) area) 0 (controllersOf d); stray = strayIn (d .settings) (d .sequence) }
+view d ws area = record { settings = d .settings; slots = slotsFrom ws (frontAt (d .settings) (d .sequence) area) 0 (controllersOf d); amiss = amissIn d }
 
 -- ---- a call
 

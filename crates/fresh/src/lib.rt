@@ -37,6 +37,7 @@ fn untracked(s: Settings) -> Device
     let none = rules::no_ranges();
     let c = Controller {
         tracking: off,
+        base: 0,
         suspended: false,
         ranges: none,
     };

@@ -1,30 +1,32 @@
--- Laws of the range rules (18 to 21, 10 and 11) as the code asks them: one range, the rows, the whole table; and what ranges that
--- pass are known by (`HeldFacts`). All of it is the library's interface. Assumes nothing.
-use Prim.Native.Nat.{ℕ, suc, _+_, _-_, _%_, _^_, _<_, _≤_, min}
+-- Laws of the range rules (18 to 21, and 10) as the code asks them: one range, the rows, the whole table; how many units ranges have; and what ranges
+-- that pass are known by (`HeldFacts`). All of it is the library's interface. Assumes nothing.
+use Prim.Native.Nat.{ℕ, zero, suc, _+_, _-_, _*_, _%_, _^_, _<_, _≤_, min}
 use mathlib.Core.Path.{_≡_, refl, sym, ap, _∙_}
 use mathlib.Core.Logic.{_≢_}
-use mathlib.Core.Bool.{Bool, true, false, not, _&&_, _||_, and-true, and-false, and-assoc}
-use mathlib.Core.List.{List, [], _∷_, _++_, map}
+use mathlib.Core.Bool.{Bool, true, false, not, _&&_, _||_, and-true, and-false}
+use mathlib.Core.List.{List, [], _∷_, _++_}
 use native.Mathlib.Numerals.{add-one}
 use native.Mathlib.Omega.{arith}
-use lib.Dec.{leb, eqb}
+use native.Mathlib.Nat.{mul-le-mul-left}
+use lib.Dec.{eqb}
 use lib.ListN.{length, getD, take, drop}
 use borrow.Author.Tests.{leb-true, le-leb, lt-leb, eq-eqb, ne-eqb}
-use Rattle.rules.specs.Lists.{all, sum}
+use Rattle.rules.specs.Lists.{all, keep}
 use Rattle.rules.specs.Refusals.{Test, _else_, passes, refusal, refusalAt}
-use Rattle.rules.specs.Settings.{mostUnits, granularityOk, unitSize, bytesOf}
-use Rattle.rules.specs.Units.{endOf, units}
-use Rattle.rules.specs.Ranges.{rowTests, rowOk, rowsOk, rowsTests, rangeTests, isPower, powersOk, unitsOk, listTests}
+use Rattle.rules.specs.Settings.{granularityOk, unitSize, bytesOf}
+use Rattle.rules.specs.Units.{endOf, unitsOfRow, uncovered, unitsFrom, units}
+use Rattle.rules.specs.Ranges.{rowTests, rowOk, rowsOk, rowsTests, rangeTests, isPower, powersOk, listTests}
 use Rattle.rules.specs.StartData.{noRange}
 use Rattle.rules.specs.declared.Range.{Range}
 use Rattle.rules.specs.declared.Refusal.{Refusal}
 use Rattle.rules.specs.declared.Settings.{Settings}
-use Rattle.rules.proofs.ListLaws.{All, All-append, and-left, front-at, front-end}
+use Rattle.rules.proofs.ListLaws.{All, All-append, and-left, and-right, front-at, front-end}
 use Rattle.rules.proofs.RefusalLaws.{Passed, Passed-left, Passed-right, refusal-none, refusalAt-is, verdict-first, verdict-rest, passes-all, passes-append}
-use Rattle.rules.proofs.RowLaws.{row-answers, rowsTests-passes}
+use Rattle.rules.proofs.RowLaws.{rowOk-facts, row-answers, rowsTests-passes}
 use Rattle.rules.proofs.UnitLaws.{unitsFrom-length}
-use Rattle.measures.proofs.MeasureLaws.{bytesOf-pos}
+use Rattle.measures.proofs.MeasureLaws.{unitSize-least, bytesOf-pos}
 use Rattle.settings.proofs.SettingsLaws.{granularityOk-greatest}
+use Rattle.ranges.specs.Kept.{lengthsOf, keptBy, keptOf}
 
 -- ---- one range
 
@@ -96,21 +98,12 @@ rows-none g rs r e h =
     sym (rowsTests-passes g 0 rs) ∙ sym (refusal-none (rowsTests g 0 rs) (rowsTests-numbers g 0 rs))
     ∙ eq-eqb (refusal (rowsTests g 0 rs)) 0 (sym (ap (λ (q : Refusal). q .number) (e ∙ refusalAt-is (rowsTests g 0 rs))) ∙ h)
 
--- ---- 10, 11 and the whole table
-
--- 11 is passed where the lengths together are few enough, and else by the count of different units
-pub unitsOk-few : (g : ℕ) (rs : List Range) → sum (map (λ (r : Range). r .length) rs) ≤ mostUnits → true ≡ unitsOk g rs
-unfolding unitsOk
-unitsOk-few g rs h = sym (le-leb (length (units g rs)) mostUnits (omega (arith, h, unitsFrom-length (unitSize g) 0 [] rs)))
-
-pub unitsOk-count : (g : ℕ) (rs : List Range) (n : ℕ) → n ≡ length (units g rs) → leb n mostUnits ≡ unitsOk g rs
-unfolding unitsOk
-unitsOk-count g rs n e = rw e
+-- ---- the whole table
 
 module _ (s : Settings) (g n : ℕ) (rs : List Range) where
-  -- 10 and 11
+  -- what follows the rows: 10
   abbrev others : List Test
-  others = (powersOk s rs else 10) ∷ (unitsOk g rs else 11) ∷ []
+  others = (powersOk s rs else 10) ∷ []
 
   pub list-empty : n < 1 → refusalAt (listTests s g n rs) ≡ record { number = 18; row = 0 }
   unfolding rangeTests
@@ -121,7 +114,7 @@ module _ (s : Settings) (g n : ℕ) (rs : List Range) where
   list-many h = rw (le-leb 1 n (omega arith), lt-leb n 16 h)
 
   module _ (some : 1 ≤ n) (few : n ≤ 16) where
-    -- past the count the rows answer, and then the others
+    -- past the count the rows answer, and then 10
     past-count : refusalAt (listTests s g n rs) ≡ refusalAt (rowsTests g 0 rs ++ others)
     unfolding rangeTests
     past-count = rw (le-leb 1 n some, le-leb n 16 few)
@@ -137,19 +130,16 @@ module _ (s : Settings) (g n : ℕ) (rs : List Range) where
       pub list-ten : powersOk s rs ≡ false → refusalAt (listTests s g n rs) ≡ record { number = 10; row = 0 }
       list-ten e = past-rows ∙ rw e
 
-      pub list-eleven : powersOk s rs ≡ true → unitsOk g rs ≡ false → refusalAt (listTests s g n rs) ≡ record { number = 11; row = 0 }
-      list-eleven e f = past-rows ∙ rw (e, f)
-
-      pub list-done : powersOk s rs ≡ true → unitsOk g rs ≡ true → refusalAt (listTests s g n rs) ≡ record { number = 0; row = 0 }
-      list-done e f = past-rows ∙ rw (e, f)
+      pub list-done : powersOk s rs ≡ true → refusalAt (listTests s g n rs) ≡ record { number = 0; row = 0 }
+      list-done e = past-rows ∙ rw e
 
   -- no test has the number 0
   pub listTests-numbers : All (λ (t : Test). 1 ≤ t .number) (listTests s g n rs)
   unfolding rangeTests
   listTests-numbers =
-      All-append (λ (t : Test). 1 ≤ t .number) (rangeTests g n rs) others (omega arith, (omega arith, rowsTests-numbers g 0 rs)) (omega arith, (omega arith, tt))
+      All-append (λ (t : Test). 1 ≤ t .number) (rangeTests g n rs) others (omega arith, (omega arith, rowsTests-numbers g 0 rs)) (omega arith, tt)
 
--- ---- 18 to 21, 10 and 11 in one pass
+-- ---- 18 to 21 and 10 in one pass
 
 -- what is asked of each range by itself: the rules of a row, and 10
 abbrev pub eachOk : Settings → ℕ → Range → Bool
@@ -183,36 +173,55 @@ each-all s g rs = go (s .powers) rs
     go true (r ∷ rs) = rw (go true rs) (step (rowOk g r) (isPower (r .length)) (rowsOk g rs) (all (λ (q : Range). isPower (q .length)) rs))
     go false (r ∷ rs) = rw (go false rs) (step (rowOk g r) true (rowsOk g rs) true)
 
--- where all pass, each breaks no rule of a row
-pub each-rows : (s : Settings) (g : ℕ) (rs : List Range) → all (eachOk s g) rs ≡ true → rowsOk g rs ≡ true
-each-rows s g rs e = and-left (rowsOk g rs) (powersOk s rs) (sym (each-all s g rs) ∙ e)
-
 module _ (s : Settings) (g n : ℕ) (rs : List Range) where
-  pub passes-empty : n < 1 → passes (listTests s g n rs) ≡ false
+  pub kept-empty : n < 1 → keptOf s g n rs ≡ keptBy false 0
   unfolding rangeTests
-  passes-empty h = rw (lt-leb 1 n h)
+  kept-empty h = rw (lt-leb 1 n h)
 
-  pub passes-many : 16 < n → passes (listTests s g n rs) ≡ false
+  pub kept-many : 16 < n → keptOf s g n rs ≡ keptBy false 0
   unfolding rangeTests
-  passes-many h = rw (le-leb 1 n (omega arith), lt-leb n 16 h)
+  kept-many h = rw (le-leb 1 n (omega arith), lt-leb n 16 h)
 
-  -- of 1 to 16 ranges each is asked by itself, and 11 of all
+  -- of 1 to 16 ranges each is asked by itself
   module _ (some : 1 ≤ n) (few : n ≤ 16) where
-    passes-each : passes (listTests s g n rs) ≡ (all (eachOk s g) rs && unitsOk g rs)
+    passes-each : passes (listTests s g n rs) ≡ all (eachOk s g) rs
     unfolding rangeTests
     passes-each =
-        rw (le-leb 1 n some, le-leb n 16 few, passes-append (rowsTests g 0 rs) (others s g n rs), rowsTests-passes g 0 rs, each-all s g rs, and-true (unitsOk g rs))
-        (sym (and-assoc (rowsOk g rs) (powersOk s rs) (unitsOk g rs)))
+        rw (le-leb 1 n some, le-leb n 16 few, passes-append (rowsTests g 0 rs) (others s g n rs), rowsTests-passes g 0 rs, each-all s g rs, and-true (powersOk s rs))
 
-    pub passes-not : all (eachOk s g) rs ≡ false → passes (listTests s g n rs) ≡ false
-    passes-not e = passes-each ∙ rw e
+    pub kept-not : all (eachOk s g) rs ≡ false → keptOf s g n rs ≡ keptBy false 0
+    kept-not e = rw (passes-each, e)
 
-    pub passes-rest : all (eachOk s g) rs ≡ true → passes (listTests s g n rs) ≡ unitsOk g rs
-    passes-rest e = passes-each ∙ rw e
+    pub kept-all : all (eachOk s g) rs ≡ true → keptOf s g n rs ≡ keptBy true (lengthsOf rs)
+    kept-all e = rw (passes-each, e)
+
+-- ---- how many units ranges have
+
+-- there are no more different ones than the lengths say
+pub units-lengths : (g : ℕ) (rs : List Range) → length (units g rs) ≤ lengthsOf rs
+units-lengths g rs = unitsFrom-length (unitSize g) 0 [] rs
+
+-- a unit has 4 KiB at least, so of a range that ends at most at 2^64 there are at most 2^52
+row-small : (g : ℕ) (r : Range) → rowOk g r ≡ true → r .length ≤ 2 ^ 52
+row-small g r e = omega (arith, rowOk-facts g r e .within, mul-le-mul-left {m = 4096} {n = unitSize g} (r .length) (unitSize-least g))
+
+pub lengths-small : (g : ℕ) (rs : List Range) → rowsOk g rs ≡ true → lengthsOf rs ≤ 2 ^ 52 * length rs
+lengths-small g [] e = omega arith
+lengths-small g (r ∷ rs) e =
+    omega (arith, row-small g r (and-left (rowOk g r) (rowsOk g rs) e), lengths-small g rs (and-right (rowOk g r) (rowsOk g rs) e))
+
+-- and ranges that break no rule of a row have some
+pub units-some : (g : ℕ) (rs : List Range) → rowsOk g rs ≡ true → 1 ≤ length rs → 1 ≤ length (units g rs)
+units-some g [] e h = absurd (omega arith)
+units-some g (r ∷ rs) e h = go (r .length) (rowOk-facts g r (and-left (rowOk g r) (rowsOk g rs) e) .some)
+  where
+    go : (n : ℕ) → 1 ≤ n → 1 ≤ length (keep (uncovered (unitSize g) []) (unitsOfRow 0 (unitSize g) (r .start) n) ++ unitsFrom (unitSize g) 1 (r ∷ []) rs)
+    go zero l = absurd (omega arith)
+    go (suc n) l = omega arith
 
 -- ---- what ranges that pass all of it at a granularity that passes 7 are known by
 
--- the granularity passes 7 and is small; there are some ranges, and few; each breaks no rule of a row; 10; 11
+-- the granularity passes 7 and is small; there are some ranges, and few; each breaks no rule of a row; 10
 pub record HeldFacts (s : Settings) (g n : ℕ) (rs : List Range) : Type 0 where
   pub granularity : granularityOk s g ≡ true
   pub small : g ≤ 20
@@ -220,14 +229,13 @@ pub record HeldFacts (s : Settings) (g n : ℕ) (rs : List Range) : Type 0 where
   pub few : n ≤ 16
   pub rows : rowsOk g rs ≡ true
   pub powers : powersOk s rs ≡ true
-  pub total : length (units g rs) ≤ mostUnits
 
 module _ (s : Settings) (g n : ℕ) (rs : List Range) where
   pub listTests-facts : s .greatest ≤ 20 → granularityOk s g ≡ true → Passed (listTests s g n rs) → HeldFacts s g n rs
-  unfolding rangeTests unitsOk
+  unfolding rangeTests
   listTests-facts h e p =
-      let rules = Passed-left (rangeTests g n rs) ((powersOk s rs else 10) ∷ (unitsOk g rs else 11) ∷ []) p in
-      let rest = Passed-right (rangeTests g n rs) ((powersOk s rs else 10) ∷ (unitsOk g rs else 11) ∷ []) p in
+      let rules = Passed-left (rangeTests g n rs) (others s g n rs) p in
+      let rest = Passed-right (rangeTests g n rs) (others s g n rs) p in
       record {
         granularity = e;
         small = omega (arith, granularityOk-greatest s g e);
@@ -235,5 +243,4 @@ module _ (s : Settings) (g n : ℕ) (rs : List Range) where
         few = leb-true n 16 (rules .1 .0);
         rows = sym (rowsTests-passes g 0 rs) ∙ passes-all (rowsTests g 0 rs) (rules .1 .1);
         powers = rest .0;
-        total = leb-true (length (units g rs)) mostUnits (rest .1 .0);
       }

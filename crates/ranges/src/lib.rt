@@ -1,20 +1,25 @@
-// Checks of listed ranges: refusals 18 to 21, which name a row, 10 and 11.
+// Checks of listed ranges: refusals 18 to 21, which name a row, and 10; and how many units they have.
 
 use pieces::NextPiece;
-use rules::MOST_UNITS;
 use rules::Range;
 use rules::Refusal;
 use rules::Settings;
 use rules::Units;
 ghost use mathlib.Core.Path.{_≡_};
-ghost use mathlib.Core.Bool.{true, _&&_};
-ghost use Prim.Native.Nat.{_^_, _<_, _≤_};
+ghost use mathlib.Core.Bool.{true, false, _&&_};
+ghost use Prim.Native.Nat.{_*_, _^_, _≤_};
 ghost use lib.ListN.{length, take};
-ghost use mathlib.Core.List.{[], _∷_, map};
-ghost use Rattle.rules.specs.Lists.{sum};
-ghost use Rattle.rules.specs.Refusals.{refusal, refusalAt, passes};
+ghost use mathlib.Core.List.{[], _∷_};
+ghost use Rattle.rules.specs.Refusals.{refusal, refusalAt};
 ghost use Rattle.rules.specs.Units.{units};
-ghost use Rattle.rules.specs.Ranges.{rowTests, rowOk, rowsOk, rowsTests, isPower, powersOk, unitsOk, listTests};
+ghost use Rattle.rules.specs.Ranges.{rowTests, rowOk, rowsOk, rowsTests, isPower, powersOk, listTests};
+ghost use Rattle.ranges.specs.Kept.{keptBy, keptOf};
+
+// What one pass over listed ranges answers: whether they break no rule, and then their lengths together, else 0.
+pub struct Kept {
+    pub ok: bool,
+    pub lengths: Units,
+}
 
 // The first rule of a row that a range breaks: 19 it has no units, 20 its start is no multiple of the unit, 21 it ends past 2^64; else 0. Its last byte is
 // held to the last address, so that no sum can wrap.
@@ -87,23 +92,10 @@ fn powers_ok(s: Settings, n: usize, ranges: [Range; 16]) -> bool
     true
 }
 
-// The lengths of the first n ranges, together.
-fn lengths(n: usize, ranges: [Range; 16]) -> Units
-    requires { ⌜ n ≤ 16 ⌝ }
-    ensures { λ x. ⌜ (x .0 ≡ sum (map (λ r. r .length) (take n ranges))) × (x .0 < 2 ^ 64) ⌝ }
-{
-    let mut total: u64 = 0;
-    for i in 0..n {
-        let u = measures::length_of(ranges[i]);
-        total += u.0;
-    }
-    Units(total)
-}
-
 // How many different units the first n ranges have, piece by piece.
-fn units_in(g: u8, n: usize, ranges: [Range; 16]) -> Units
-    requires { ⌜ (g ≤ 20) × (n ≤ 16) × (rowsOk g (take n ranges) ≡ true) × (sum (map (λ r. r .length) (take n ranges)) < 2 ^ 64) ⌝ }
-    ensures { λ x. ⌜ x .0 ≡ length (units g (take n ranges)) ⌝ }
+pub fn units_in(g: u8, n: usize, ranges: [Range; 16]) -> Units
+    requires { ⌜ (g ≤ 20) × (n ≤ 16) × (rowsOk g (take n ranges) ≡ true) ⌝ }
+    ensures { λ x. ⌜ (x .0 ≡ length (units g (take n ranges))) × (x .0 ≤ 2 ^ 56) ⌝ }
 {
     let mut total: u64 = 0;
     let mut row: usize = 0;
@@ -119,20 +111,7 @@ fn units_in(g: u8, n: usize, ranges: [Range; 16]) -> Units
     }
 }
 
-// Whether the first n ranges pass 11. There are no more different units than the lengths say, so these are mostly enough.
-fn units_ok(g: u8, n: usize, ranges: [Range; 16]) -> bool
-    requires { ⌜ (g ≤ 20) × (n ≤ 16) × (rowsOk g (take n ranges) ≡ true) ⌝ }
-    ensures { λ x. ⌜ x ≡ unitsOk g (take n ranges) ⌝ }
-{
-    let most = lengths(n, ranges);
-    if most.0 <= MOST_UNITS {
-        return true;
-    }
-    let total = units_in(g, n, ranges);
-    total.0 <= MOST_UNITS
-}
-
-// The refusal of n listed ranges, with its row: the first of 18 to 21, 10 and 11 that they break. Ranges past the first n are not looked at.
+// The refusal of n listed ranges, with its row: the first of 18 to 21 and 10 that they break. Ranges past the first n are not looked at.
 pub fn list_refusal(s: Settings, g: u8, n: u8, ranges: [Range; 16]) -> Refusal
     requires { ⌜ g ≤ 20 ⌝ }
     ensures { λ r. ⌜ r ≡ refusalAt (listTests s g n (take n ranges)) ⌝ }
@@ -151,9 +130,6 @@ pub fn list_refusal(s: Settings, g: u8, n: u8, ranges: [Range; 16]) -> Refusal
     if !powers_ok(s, m, ranges) {
         return Refusal { number: 10, row: 0 };
     }
-    if !units_ok(g, m, ranges) {
-        return Refusal { number: 11, row: 0 };
-    }
     Refusal { number: 0, row: 0 }
 }
 
@@ -171,31 +147,35 @@ fn row_ok(s: Settings, g: u8, r: Range) -> bool
     true
 }
 
-// Whether n listed ranges break no rule, 18 to 21, 10 and 11, in one pass: every call asks it of every controller. There are no more different units than the
-// lengths say, so these are mostly enough.
-pub fn list_ok(s: Settings, g: u8, n: u8, ranges: [Range; 16]) -> bool
+// What does not keep a rule.
+fn broken() -> Kept
+    ensures { λ r. ⌜ r ≡ keptBy false 0 ⌝ }
+{
+    let lengths = Units(0);
+    Kept { ok: false, lengths }
+}
+
+// Whether n listed ranges break no rule, 18 to 21 and 10, and then their lengths together, in one pass: every call asks it of every controller.
+pub fn list_kept(s: Settings, g: u8, n: u8, ranges: [Range; 16]) -> Kept
     requires { ⌜ g ≤ 20 ⌝ }
-    ensures { λ r. ⌜ r ≡ passes (listTests s g n (take n ranges)) ⌝ }
+    ensures { λ r. ⌜ (r ≡ keptOf s g n (take n ranges)) × (r .lengths .0 ≤ 16 * 4294967295) ⌝ }
 {
     let m = n as usize;
     if m < 1 {
-        return false;
+        return broken();
     }
     if m > 16 {
-        return false;
+        return broken();
     }
     let mut total: u64 = 0;
     for i in 0..m {
         let r = ranges[i];
         if !row_ok(s, g, r) {
-            return false;
+            return broken();
         }
         let u = measures::length_of(r);
         total += u.0;
     }
-    if total <= MOST_UNITS {
-        return true;
-    }
-    let different = units_in(g, m, ranges);
-    different.0 <= MOST_UNITS
+    let lengths = Units(total);
+    Kept { ok: true, lengths }
 }

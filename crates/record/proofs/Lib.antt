@@ -1,1 +1,3 @@
+pub mod ShareLaws
+pub mod WalkLaws
 pub mod RecordLaws

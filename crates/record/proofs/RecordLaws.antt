@@ -1,65 +1,87 @@
 -- Laws of the device record: its weights, what a sound one is known by, and what a call's place says of its table. All of it is the library's
 -- interface. Assumes nothing.
-use Prim.Native.Nat.{ℕ, zero, suc, _+_, _%_, _<_, _≤_}
+use Prim.Native.Nat.{ℕ, zero, suc, _+_, _-_, _%_, _<_, _≤_}
 use mathlib.Core.Path.{_≡_, refl, ap, sym, _∙_}
+use mathlib.Core.Logic.{_≢_, _⊎_}
 use mathlib.Core.Bool.{Bool, true, false, _&&_, cond, and-true, and-false, true≢false}
 use mathlib.Core.List.{List, [], _∷_, _++_, map}
 use mathlib.Core.Option.{Option, none, some}
+use native.Mathlib.Numerals.{add-one}
 use native.Mathlib.Omega.{arith}
-use lib.ListN.{length, getD, take, replicate, length-take, length-append, length-replicate}
+use lib.ListN.{length, getD, take, set, replicate, length-map, length-take, length-append, length-replicate}
 use lib.Seq.{getD-take}
 use lib.Dec.{leb, eqb}
 use borrow.Author.Tests.{eqb-true, eq-eqb, ne-eqb, lt-leb, le-leb, leb-true}
 use Rattle.rules.specs.Lists.{all, sum, isSome}
-use Rattle.rules.specs.Refusals.{Test, _else_, verdict, passes}
-use Rattle.rules.specs.Settings.{markWords, identifiersOf, settingsOk, placeOf, granularityOk}
+use Rattle.rules.specs.Refusals.{Test, _else_, verdict}
+use Rattle.rules.specs.Settings.{markWords, mostUnits, identifiersOf, settingsOk, placeOf, granularityOk}
+use Rattle.rules.specs.Units.{units}
 use Rattle.rules.specs.Ranges.{listTests}
-use Rattle.rules.specs.Device.{heldCount, heldIn, heldOf, heldOk, freshController, controllersOf, suspendedAt, frontOk, sequenceOk, soundRules, sound, soundDevice}
+use Rattle.rules.specs.Device.{Held, heldCount, heldUnits, heldIn, heldOf, heldOk, noShare, sharesOk, shareIn, shareOf, sharesOf, freshController, controllersOf, suspendedAt, frontOk, sequenceOk, soundRules, sound, soundDevice}
 use Rattle.rules.specs.declared.Range.{Range}
 use Rattle.rules.specs.declared.Tracking.{Tracking}
 use Rattle.rules.specs.declared.Tracking.the-variants.{Off, On}
+use Rattle.rules.specs.declared.Share.{Share}
 use Rattle.rules.specs.declared.Sequence.{Sequence}
 use Rattle.rules.specs.declared.Sequence.the-variants as sequence
 use Rattle.rules.specs.declared.Sequence.the-variants.{Open}
 use Rattle.rules.specs.declared.Controller.{Controller}
 use Rattle.rules.specs.declared.Settings.{Settings}
 use Rattle.rules.specs.declared.Device.{Device}
-use Rattle.rules.proofs.ListLaws.{every-not, getD-any, all-map, and-left, and-right, placeFrom-is}
+use Rattle.rules.proofs.ListLaws.{every-not, getD-any, all-map, and-left, and-right, and-intro, placeFrom-is}
 use Rattle.rules.proofs.RefusalLaws.{passes-Passed}
-use Rattle.rules.proofs.SoundLaws.{sound-settings, sound-held, sound-limit, sound-sequence}
-use Rattle.record.specs.Record.{noController, countsOf, weightOf, weightsOf, soundWith, placeAt, whereIs, seenIn, frontOf}
+use Rattle.rules.proofs.SoundLaws.{sound-settings, sound-held, sound-limit, sound-units, sound-rest}
+use Rattle.rules.proofs.HeldLaws.{lie}
+use Rattle.record.specs.Record.{noController, countsOf, unitsOf, weightOf, weightsOf, soundWith, placeAt, whereIs, seenIn, frontOf}
+use Rattle.record.specs.Inner.{keptIn, nothingWalked, walkOf, Countable}
 use Rattle.settings.specs.Found.{foundAt}
 use Rattle.settings.specs.declared.Found.the-variants as found
 use Rattle.settings.specs.declared.Found.the-variants.{Nothing}
 use Rattle.record.specs.declared.Place.the-variants.{At, Refused}
 use Rattle.rules.proofs.LoopLaws.{all-front}
 use Rattle.settings.proofs.SettingsLaws.{settingsOk-count, settingsOk-greatest, settingsOk-limit}
-use Rattle.ranges.proofs.RangeLaws.{HeldFacts, listTests-facts}
+use Rattle.ranges.specs.Kept.{keptBy, keptOf}
+use Rattle.ranges.proofs.RangeLaws.{units-some, HeldFacts, listTests-facts}
+use Rattle.record.proofs.ShareLaws.{Lined-nowhere}
+use Rattle.record.proofs.WalkLaws.{walkFrom-lined}
 
 -- ---- what one controller holds, by its tracking and its ranges
 
 module _ (s : Settings) (t : Tracking) (rs : List Range) where
-  pub heldOk-off : t ≡ Off → heldOk s (heldIn t rs) ≡ true
+  pub keptIn-off : t ≡ Off → keptIn s (heldIn t rs) ≡ keptBy true 0
   unfolding heldOk
-  heldOk-off e = rw e
+  keptIn-off e = rw e
 
   -- one that is on with a granularity that breaks 7, and one whose granularity passes
-  pub heldOk-seven : (g n : ℕ) → t ≡ On g n → granularityOk s g ≡ false → heldOk s (heldIn t rs) ≡ false
+  pub keptIn-seven : (g n : ℕ) → t ≡ On g n → granularityOk s g ≡ false → keptIn s (heldIn t rs) ≡ keptBy false 0
   unfolding heldOk
-  heldOk-seven g n e f = rw (e, f)
+  keptIn-seven g n e f = rw (e, f)
 
-  pub heldOk-on : (g n : ℕ) → t ≡ On g n → granularityOk s g ≡ true → heldOk s (heldIn t rs) ≡ passes (listTests s g n (take n rs))
+  pub keptIn-on : (g n : ℕ) → t ≡ On g n → granularityOk s g ≡ true → keptIn s (heldIn t rs) ≡ keptOf s g n (take n rs)
   unfolding heldOk
-  heldOk-on g n e f = rw (e, f)
+  keptIn-on g n e f = rw (e, f)
+
+  -- what one is known by that is on and may hold what it does
+  pub heldOk-facts : (g n : ℕ) → s .greatest ≤ 20 → t ≡ On g n → heldOk s (heldIn t rs) ≡ true → HeldFacts s g n (take n rs)
+  unfolding heldOk
+  heldOk-facts g n h e f =
+      let p = passes-Passed ((granularityOk s g else 7) ∷ listTests s g n (take n rs)) (rw e at f) in
+      listTests-facts s g n (take n rs) h (p .0) (p .1)
+
+-- its units can be counted
+pub heldOk-countable : (s : Settings) (t : Tracking) (rs : List Range) → s .greatest ≤ 20 → heldOk s (heldIn t rs) ≡ true → Countable (heldIn t rs)
+heldOk-countable s Off rs h e = tt
+heldOk-countable s (On g n) rs h e = let f = heldOk-facts s (On g n) rs g n h refl e in (f .small, f .few, f .rows)
+
+-- its share, where it is off and where it is on
+module _ (base : ℕ) (t : Tracking) (rs : List Range) where
+  pub shareIn-off : t ≡ Off → shareIn base (heldIn t rs) ≡ noShare
+  shareIn-off e = rw e
+
+  pub shareIn-on : (g n size : ℕ) → t ≡ On g n → size ≡ length (units g (take n rs)) → shareIn base (heldIn t rs) ≡ record { base = base; size = size }
+  shareIn-on g n size e f = rw (e, f)
 
 -- ---- the weights
-
--- that of a controller that may not hold what it does, and that of one that may
-pub weightOf-not : (s : Settings) (c : Controller) → heldOk s (heldOf c) ≡ false → weightOf s c ≡ 65536
-weightOf-not s c e = rw e
-
-pub weightOf-count : (s : Settings) (c : Controller) → heldOk s (heldOf c) ≡ true → weightOf s c ≡ heldCount (heldOf c)
-weightOf-count s c e = rw e
 
 -- where each controller holds what it may they are the counts, and else more than every limit
 pub weights-counts : (s : Settings) (cs : List Controller) → all (λ c. heldOk s (heldOf c)) cs ≡ true → sum (map (weightOf s) cs) ≡ sum (map heldCount (map heldOf cs))
@@ -76,21 +98,63 @@ weights-heavy s (c ∷ cs) e = go (heldOk s (heldOf c)) (weights-heavy s cs) e
     go true ih f = omega (arith, ih f)
     go false ih f = omega arith
 
--- the weights of the first k controllers: those of the first k and that of the next one
-abbrev pub weightsTo : Device → ℕ → ℕ
-weightsTo d k = sum (map (weightOf (d .settings)) (take k (d .controllers)))
+-- so where they are within a limit each holds what it may
+pub weights-held : (s : Settings) (cs : List Controller) → sum (map (weightOf s) cs) ≤ 128 → all (λ c. heldOk s (heldOf c)) cs ≡ true
+weights-held s cs h = go (all (λ c. heldOk s (heldOf c)) cs) refl
+  where
+    go : (b : Bool) → all (λ c. heldOk s (heldOf c)) cs ≡ b → b ≡ true
+    go true e = refl
+    go false e = absurd (omega (arith, weights-heavy s cs e))
 
-sum-more : {A : Type 0} (f : A → ℕ) (xs : List A) (k : ℕ) (d : A) → k < length xs → sum (map f (take (suc k) xs)) ≡ sum (map f (take k xs)) + f (getD xs k d)
-sum-more f [] k d h = absurd (omega arith)
-sum-more f (x ∷ xs) zero d h = omega arith
-sum-more f (x ∷ xs) (suc k) d h = omega (arith, sum-more f xs k d (omega arith))
+-- ---- W7: the shares of a record
 
-pub weightsTo-next : (d : Device) (k total w : ℕ) → k < length (d .controllers) → total ≡ weightsTo d k → w ≡ weightOf (d .settings) (getD (d .controllers) k noController)
-    → total + w ≡ weightsTo d (suc k)
-weightsTo-next d k total w h e f = omega (arith, sum-more (weightOf (d .settings)) (d .controllers) k noController h)
+-- the shares of the first i controllers, and noShare in the places behind them
+abbrev pub sharesTo : Device → ℕ → List Share
+sharesTo d i = map shareOf (take i (d .controllers)) ++ replicate (8 - i) noShare
 
-pub weightsTo-all : (d : Device) (k total : ℕ) → d .settings .count ≡ k → total ≡ weightsTo d k → total ≡ weightsOf d
-weightsTo-all d k total e f = f ∙ ap (weightsTo d) (sym e)
+filled-next : {A B : Type 0} (f : A → B) (z : B) (xs : List A) (i m : ℕ) (x : A) → i < length xs
+    → set (map f (take i xs) ++ replicate (suc m) z) i (f (getD xs i x)) ≡ map f (take (suc i) xs) ++ replicate m z
+filled-next f z [] i m x h = absurd (omega arith)
+filled-next f z (y ∷ xs) zero m x h = refl
+filled-next f z (y ∷ xs) (suc i) m x h = ap (λ l. f y ∷ l) (filled-next f z xs i m x (omega arith))
+
+pub sharesTo-next : (d : Device) (i : ℕ) (xs : List Share) (a : Share) → i < 8 → i < length (d .controllers) → xs ≡ sharesTo d i → a ≡ shareOf (getD (d .controllers) i noController)
+    → set xs i a ≡ sharesTo d (i + 1)
+sharesTo-next d i xs a h k e f =
+    let m : 8 - i ≡ suc (8 - suc i) = omega arith in
+    rw (add-one, e, f, m) (filled-next shareOf noShare (d .controllers) i (8 - suc i) noController k)
+
+-- the share of a place in use
+filled-at : {A B : Type 0} (f : A → B) (z : B) (xs : List A) (rest : List B) (n i : ℕ) (x : A) → i < n → i < length xs → getD (map f (take n xs) ++ rest) i z ≡ f (getD xs i x)
+filled-at f z [] rest n i x h k = absurd (omega arith)
+filled-at f z (y ∷ xs) rest zero i x h k = absurd (omega arith)
+filled-at f z (y ∷ xs) rest (suc n) zero x h k = refl
+filled-at f z (y ∷ xs) rest (suc n) (suc i) x h k = filled-at f z xs rest n i x (omega arith) (omega arith)
+
+pub sharesOf-at : (d : Device) (i : ℕ) → i < d .settings .count → i < length (d .controllers) → getD (sharesOf d) i noShare ≡ shareOf (getD (d .controllers) i noController)
+sharesOf-at d i h k = filled-at shareOf noShare (d .controllers) (replicate (8 - d .settings .count) noShare) (d .settings .count) i noController h k
+
+pub sharesOf-used : (d : Device) (i : ℕ) → i < d .settings .count → i < length (d .controllers) → i < length (sharesOf d)
+sharesOf-used d i h k =
+    omega (arith, length-append (map shareOf (controllersOf d)) (replicate (8 - d .settings .count) noShare), length-map (controllersOf d) shareOf, length-take (d .settings .count) (d .controllers))
+
+-- which, where it has bits, has as many as its controller has units, from its base on
+shareIn-size : (base : ℕ) (h : Option Held) → shareIn base h .size ≡ heldUnits h
+shareIn-size base none = refl
+shareIn-size base (some h) = refl
+
+shareIn-some : (base : ℕ) (h : Option Held) → 1 ≤ heldUnits h → shareIn base h ≡ record { base = base; size = heldUnits h }
+shareIn-some base none l = absurd (omega arith)
+shareIn-some base (some h) l = refl
+
+-- their sizes together are the units
+shares-sizes : (n : ℕ) (cs : List Controller) → sum (map (λ (a : Share). a .size) (map shareOf cs ++ replicate n noShare)) ≡ sum (map heldUnits (map heldOf cs))
+shares-sizes zero [] = refl
+shares-sizes (suc n) [] = omega (arith, shares-sizes n [])
+shares-sizes n (c ∷ cs) = omega (arith, shareIn-size (c .base) (heldOf c), shares-sizes n cs)
+
+pub sharesOf-sizes : (d : Device) → sum (map (λ (a : Share). a .size) (sharesOf d)) ≡ unitsOf d
+sharesOf-sizes d = shares-sizes (8 - d .settings .count) (controllersOf d)
 
 -- ---- W6: a state that arrives in parts
 
@@ -158,25 +222,47 @@ module _ (d : Device) where
 -- ---- soundness, rule by rule
 
 module _ (d : Device) where
+  abbrev rulesOf : List Bool
+  rulesOf =
+      soundRules (d .settings) (map heldOf (controllersOf d)) (sequenceOk (d .settings) (controllersOf d) (d .sequence) && sharesOk (sharesOf d))
+
   pub soundDevice-settings-not : settingsOk (d .settings) ≡ false → soundDevice d ≡ false
   unfolding sound
-  soundDevice-settings-not e = every-not (soundRules (d .settings) (map heldOf (controllersOf d)) (sequenceOk (d .settings) (controllersOf d) (d .sequence))) 0 e
+  soundDevice-settings-not e = every-not rulesOf 0 e
 
   pub soundDevice-sequence-not : sequenceOk (d .settings) (controllersOf d) (d .sequence) ≡ false → soundDevice d ≡ false
   unfolding sound
-  soundDevice-sequence-not e = every-not (soundRules (d .settings) (map heldOf (controllersOf d)) (sequenceOk (d .settings) (controllersOf d) (d .sequence))) 3 e
+  soundDevice-sequence-not e = every-not rulesOf 4 (rw e)
 
-  -- where they pass, it is left that the weights are within the limit: a controller that may not hold what it does weighs more than every limit
-  pub soundDevice-weights : settingsOk (d .settings) ≡ true → sequenceOk (d .settings) (controllersOf d) (d .sequence) ≡ true → leb (weightsOf d) (d .settings .limit) ≡ soundDevice d
-  unfolding sound
-  soundDevice-weights e q =
-      rw (e, q, all-map (heldOk (d .settings)) heldOf (controllersOf d)) (go (all (λ c. heldOk (d .settings) (heldOf c)) (controllersOf d)) refl)
-    where
-      go : (b : Bool) → all (λ c. heldOk (d .settings) (heldOf c)) (controllersOf d) ≡ b
-          → leb (weightsOf d) (d .settings .limit) ≡ (b && (leb (countsOf d) (d .settings .limit) && true))
-      go true f = rw (weights-counts (d .settings) (controllersOf d) f) (sym (and-true (leb (countsOf d) (d .settings .limit))))
-      go false f =
-          lt-leb (weightsOf d) (d .settings .limit) (omega (arith, weights-heavy (d .settings) (controllersOf d) f, settingsOk-limit (d .settings) e))
+  module _ (e : settingsOk (d .settings) ≡ true) where
+    -- a controller that may not hold what it does weighs more than every limit
+    pub soundDevice-heavy : d .settings .limit < weightsOf d → soundDevice d ≡ false
+    unfolding sound
+    soundDevice-heavy h = go (all (λ c. heldOk (d .settings) (heldOf c)) (controllersOf d)) refl
+      where
+        go : (b : Bool) → all (λ c. heldOk (d .settings) (heldOf c)) (controllersOf d) ≡ b → soundDevice d ≡ false
+        go true f = every-not rulesOf 2 (lt-leb (countsOf d) (d .settings .limit) (omega (arith, weights-counts (d .settings) (controllersOf d) f)))
+        go false f = every-not rulesOf 1 (all-map (heldOk (d .settings)) heldOf (controllersOf d) ∙ f)
+
+    module _ (l : weightsOf d ≤ d .settings .limit) where
+      pub soundDevice-all-held : all (λ c. heldOk (d .settings) (heldOf c)) (controllersOf d) ≡ true
+      soundDevice-all-held = weights-held (d .settings) (controllersOf d) (omega (arith, settingsOk-limit (d .settings) e))
+
+      -- where the weights are within the limit and the sequence passes, the pool is left
+      pub soundDevice-pool : sequenceOk (d .settings) (controllersOf d) (d .sequence) ≡ true → soundDevice d ≡ (leb (unitsOf d) mostUnits && sharesOk (sharesOf d))
+      unfolding sound
+      soundDevice-pool q =
+          let held = soundDevice-all-held in
+          let few = le-leb (countsOf d) (d .settings .limit) (omega (arith, weights-counts (d .settings) (controllersOf d) held)) in
+          rw (e, all-map (heldOk (d .settings)) heldOf (controllersOf d), held, few, q, and-true (sharesOk (sharesOf d)))
+
+      -- which is as it may be where the shares lie one behind the other by the lengths of their ranges
+      pub soundDevice-lined : sequenceOk (d .settings) (controllersOf d) (d .sequence) ≡ true → walkOf d .end ≤ mostUnits → soundDevice d ≡ true
+      soundDevice-lined q h =
+          let nowhere = Lined-nowhere (8 - d .settings .count) (walkOf d .end) in
+          let lined = walkFrom-lined (d .settings) nothingWalked (controllersOf d) (replicate (8 - d .settings .count) noShare) (walkOf d .end) soundDevice-all-held h nowhere in
+          soundDevice-pool q
+          ∙ and-intro (leb (unitsOf d) mostUnits) (sharesOk (sharesOf d)) (le-leb (unitsOf d) mostUnits (omega (arith, lined .sizes, sharesOf-sizes d))) (lined .lie)
 
 -- ---- what a sound record is known by
 
@@ -186,6 +272,7 @@ pub record SoundFacts (d : Device) : Type 0 where
   pub greatest : d .settings .greatest ≤ 20
   pub limit : d .settings .limit ≤ 128
   pub counts : countsOf d ≤ d .settings .limit
+  pub units : unitsOf d ≤ mostUnits
 
 pub soundDevice-facts : (d : Device) → soundDevice d ≡ true → SoundFacts d
 soundDevice-facts d e =
@@ -196,29 +283,29 @@ soundDevice-facts d e =
       greatest = settingsOk-greatest (d .settings) s;
       limit = settingsOk-limit (d .settings) s;
       counts = sound-limit (d .settings) (map heldOf (controllersOf d)) _ e;
+      units = sound-units (d .settings) (map heldOf (controllersOf d)) _ e;
     }
 
--- W6: an open sequence ends within a state's bytes
+-- W6: its sequence is as it may be
+pub soundDevice-sequence : (d : Device) → soundDevice d ≡ true → sequenceOk (d .settings) (controllersOf d) (d .sequence) ≡ true
+soundDevice-sequence d e = and-left (sequenceOk (d .settings) (controllersOf d) (d .sequence)) _ (sound-rest (d .settings) (map heldOf (controllersOf d)) _ e)
+
+-- and an open one ends within a state's bytes
 pub sequence-within : (d : Device) → soundDevice d ≡ true → (owner end : ℕ) → d .sequence ≡ Open owner end → end ≤ 4096
 sequence-within d e owner end q =
-    let k : sequenceOk (d .settings) (controllersOf d) (Open owner end) ≡ true =
-    sym (ap (sequenceOk (d .settings) (controllersOf d)) q) ∙ sound-sequence (d .settings) (map heldOf (controllersOf d)) _ e in
+    let k : sequenceOk (d .settings) (controllersOf d) (Open owner end) ≡ true = sym (ap (sequenceOk (d .settings) (controllersOf d)) q) ∙ soundDevice-sequence d e in
     let f = and-right (suspendedAt (controllersOf d) (placeOf (d .settings) owner)) (frontOk end) k in
     leb-true end 4096 (and-left (leb end 4096) _ (and-right (leb 4 end) _ f))
 
--- its weights are its counts
+-- each controller of it holds what it may
+pub soundDevice-all : (d : Device) → soundDevice d ≡ true → all (λ c. heldOk (d .settings) (heldOf c)) (controllersOf d) ≡ true
+soundDevice-all d e = sym (all-map (heldOk (d .settings)) heldOf (controllersOf d)) ∙ sound-held (d .settings) (map heldOf (controllersOf d)) _ e
+
+-- so its weights are its counts
 pub soundDevice-counts : (d : Device) → soundDevice d ≡ true → weightsOf d ≡ countsOf d
-soundDevice-counts d e =
-    weights-counts (d .settings) (controllersOf d)
-    (sym (all-map (heldOk (d .settings)) heldOf (controllersOf d)) ∙ sound-held (d .settings) (map heldOf (controllersOf d)) _ e)
+soundDevice-counts d e = weights-counts (d .settings) (controllersOf d) (soundDevice-all d e)
 
--- and a controller of it that is on
-heldOk-facts : (s : Settings) (t : Tracking) (rs : List Range) (g n : ℕ) → s .greatest ≤ 20 → t ≡ On g n → heldOk s (heldIn t rs) ≡ true → HeldFacts s g n (take n rs)
-unfolding heldOk
-heldOk-facts s t rs g n h e f =
-    let p = passes-Passed ((granularityOk s g else 7) ∷ listTests s g n (take n rs)) (rw e at f) in
-    listTests-facts s g n (take n rs) h (p .0) (p .1)
-
+-- and a controller of it that is on is known by this
 pub soundDevice-held : (d : Device) (i g n : ℕ) → soundDevice d ≡ true → i < d .settings .count → i < length (d .controllers)
     → (getD (d .controllers) i noController) .tracking ≡ On g n
     → HeldFacts (d .settings) g n (take n ((getD (d .controllers) i noController) .ranges))
@@ -226,8 +313,50 @@ soundDevice-held d i g n e h k t =
     let s = d .settings in
     let c = getD (d .controllers) i noController in
     heldOk-facts s (c .tracking) (c .ranges) g n (soundDevice-facts d e .greatest) t
-    (all-front (λ c. heldOk s (heldOf c)) (d .controllers) (s .count) i noController h k
-    (sym (all-map (heldOk s) heldOf (controllersOf d)) ∙ sound-held s (map heldOf (controllersOf d)) _ e))
+    (all-front (λ c. heldOk s (heldOf c)) (d .controllers) (s .count) i noController h k (soundDevice-all d e))
+
+-- ---- W7: its shares
+
+pub soundDevice-shares : (d : Device) → soundDevice d ≡ true → sharesOk (sharesOf d) ≡ true
+soundDevice-shares d e = and-right (sequenceOk (d .settings) (controllersOf d) (d .sequence)) _ (sound-rest (d .settings) (map heldOf (controllersOf d)) _ e)
+
+-- those of the places in use that have bits: within the pool, and no two overlap
+module _ (d : Device) (e : soundDevice d ≡ true) (i : ℕ) (h : i < d .settings .count) (k : i < length (d .controllers)) (some : 1 ≤ heldUnits (heldOf (getD (d .controllers) i noController))) where
+  pub shares-inside : getD (d .controllers) i noController .base + heldUnits (heldOf (getD (d .controllers) i noController)) ≤ 16384
+  shares-inside = (rw (sharesOf-at d i h k, shareIn-some (getD (d .controllers) i noController .base) (heldOf (getD (d .controllers) i noController)) some) at (lie (sharesOf d) .0 (soundDevice-shares d e) .inside i (sharesOf-used d i h k))) some
+
+  pub shares-apart : (j : ℕ) → j < d .settings .count → j < length (d .controllers) → i ≢ j → 1 ≤ heldUnits (heldOf (getD (d .controllers) j noController))
+      → (getD (d .controllers) i noController .base + heldUnits (heldOf (getD (d .controllers) i noController)) ≤ getD (d .controllers) j noController .base)
+      ⊎ (getD (d .controllers) j noController .base + heldUnits (heldOf (getD (d .controllers) j noController)) ≤ getD (d .controllers) i noController .base)
+  shares-apart j l m z other =
+      (rw (sharesOf-at d i h k, sharesOf-at d j l m, shareIn-some (getD (d .controllers) i noController .base) (heldOf (getD (d .controllers) i noController)) some, shareIn-some (getD (d .controllers) j noController .base) (heldOf (getD (d .controllers) j noController)) other) at (lie (sharesOf d) .0 (soundDevice-shares d e) .apart i j (sharesOf-used d i h k) (sharesOf-used d j l m) z)) some other
+
+-- so those of controllers that are on, which have units
+held-units : (t : Tracking) (rs : List Range) (g n : ℕ) → t ≡ On g n → heldUnits (heldIn t rs) ≡ length (units g (take n rs))
+held-units t rs g n e = rw e
+
+module _ (d : Device) (i g n : ℕ) (e : soundDevice d ≡ true) (h : i < d .settings .count) (k : i < length (d .controllers)) (t : getD (d .controllers) i noController .tracking ≡ On g n) (there : 1 ≤ length (getD (d .controllers) i noController .ranges)) where
+  same : heldUnits (heldOf (getD (d .controllers) i noController)) ≡ length (units g (take n (getD (d .controllers) i noController .ranges)))
+  same = held-units (getD (d .controllers) i noController .tracking) (getD (d .controllers) i noController .ranges) g n t
+
+  pub soundDevice-some : 1 ≤ heldUnits (heldOf (getD (d .controllers) i noController))
+  soundDevice-some =
+      let f = soundDevice-held d i g n e h k t in
+      let rs = getD (d .controllers) i noController .ranges in
+      omega (arith, same, units-some g (take n rs) (f .rows) (omega (arith, f .some, length-take n rs)))
+
+  -- they lie within the pool, and away from those of another
+  pub soundDevice-inside : getD (d .controllers) i noController .base + length (units g (take n (getD (d .controllers) i noController .ranges))) ≤ 16384
+  soundDevice-inside = omega (arith, same, shares-inside d e i h k soundDevice-some)
+
+pub soundDevice-apart : (d : Device) (i g n j f m : ℕ) → soundDevice d ≡ true → i ≢ j → i < d .settings .count → j < d .settings .count → i < length (d .controllers) → j < length (d .controllers)
+    → getD (d .controllers) i noController .tracking ≡ On g n → getD (d .controllers) j noController .tracking ≡ On f m
+    → 1 ≤ length (getD (d .controllers) i noController .ranges) → 1 ≤ length (getD (d .controllers) j noController .ranges)
+    → (getD (d .controllers) i noController .base + length (units g (take n (getD (d .controllers) i noController .ranges))) ≤ getD (d .controllers) j noController .base)
+    ⊎ (getD (d .controllers) j noController .base + length (units f (take m (getD (d .controllers) j noController .ranges))) ≤ getD (d .controllers) i noController .base)
+soundDevice-apart d i g n j f m e z h l k p t u x y =
+    rw (held-units (getD (d .controllers) i noController .tracking) (getD (d .controllers) i noController .ranges) g n t, held-units (getD (d .controllers) j noController .tracking) (getD (d .controllers) j noController .ranges) f m u) at
+    (shares-apart d e i h k (soundDevice-some d i g n e h k t x) j l p z (soundDevice-some d j f m e l p u y))
 
 -- ---- where a call finds its controller
 

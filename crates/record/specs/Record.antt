@@ -10,7 +10,7 @@ use Rattle.rules.specs.Lists.{sum, isSome}
 use Rattle.rules.specs.Settings.{markWords, placeOf}
 use Rattle.rules.specs.ControllerState.{stateMost}
 use Rattle.rules.specs.Order.{Seen, Arriving}
-use Rattle.rules.specs.Device.{heldCount, heldOf, heldOk, controllersOf, soundDevice}
+use Rattle.rules.specs.Device.{heldCount, heldUnits, heldOf, heldOk, controllersOf, soundDevice}
 use Rattle.rules.specs.declared.Tracking.{Tracking}
 use Rattle.rules.specs.declared.Tracking.the-variants.{Off, On}
 use Rattle.rules.specs.declared.Sequence.{Sequence}
@@ -35,7 +35,7 @@ whereIs d words id = cond (soundWith d words) (placeAt (placeOf (d .settings) id
 
 -- what stands past the end of the controllers, which no rule looks at
 abbrev pub noController : Controller
-noController = record { tracking = Off; suspended = false; ranges = [] }
+noController = record { tracking = Off; base = 0; suspended = false; ranges = [] }
 
 -- the controller at a place
 abbrev pub controllerAt : Device → Option ℕ → Controller
@@ -58,6 +58,10 @@ isOn (On g n) = true
 abbrev pub countsOf : Device → ℕ
 countsOf d = sum (map heldCount (map heldOf (controllersOf d)))
 
+-- and their different units (W7)
+abbrev pub unitsOf : Device → ℕ
+unitsOf d = sum (map heldUnits (map heldOf (controllersOf d)))
+
 -- what a controller weighs: its count, or 65,536, above every limit, where it may not hold what it does
 abbrev pub weightOf : Settings → Controller → ℕ
 weightOf s c = cond (heldOk s (heldOf c)) (heldCount (heldOf c)) 65536
@@ -75,6 +79,7 @@ seenIn d words p =
       suspended = controllerAt d p .suspended;
       tracked = isOn (controllerAt d p .tracking);
       counts = countsOf d;
+      units = unitsOf d;
     }
 
 -- ---- W6: a state that arrives in parts

@@ -1,25 +1,40 @@
 // Checks of the device record: its soundness, and where a call finds its controller. What is public is the library's interface. sound and locate take
 // any values whatever; the others say what they require. No sum here can wrap.
 
+use ranges::Kept;
 use rules::Controller;
 use rules::Device;
 use rules::MARK_WORDS;
+use rules::MOST_UNITS;
 use rules::Sequence;
 use rules::Settings;
+use rules::Share;
 use rules::Tracking;
+use rules::Units;
 use settings::Found;
 ghost use mathlib.Core.Path.{_≡_};
-ghost use mathlib.Core.Bool.{true};
-ghost use Prim.Native.Nat.{_<_, _≤_};
-ghost use lib.ListN.{getD};
-ghost use Rattle.rules.specs.Settings.{settingsOk};
-ghost use Rattle.rules.specs.Device.{heldOf, heldOk, heldCount, frontOk, controllersOf, sequenceOk, soundDevice};
-ghost use Rattle.record.specs.Record.{noController, weightOf, weightsOf, whereIs};
+ghost use mathlib.Core.Bool.{true, _&&_, cond};
+ghost use mathlib.Core.List.{map};
+ghost use Prim.Native.Nat.{_+_, _*_, _<_, _≤_};
+ghost use lib.Dec.{leb};
+ghost use lib.ListN.{getD, drop};
+ghost use Rattle.rules.specs.Lists.{all, sum};
+ghost use Rattle.rules.specs.Settings.{mostUnits, settingsOk};
+ghost use Rattle.rules.specs.Device.{heldOf, heldOk, heldCount, shareOf, sharesOf, isInside, areApart, sharesOk, frontOk, controllersOf, sequenceOk, soundDevice};
+ghost use Rattle.record.specs.Record.{noController, unitsOf, weightsOf, whereIs};
+ghost use Rattle.record.specs.Inner.{keptIn, endAfter, walkedBy, walkOf, Countable};
 
 // Where a call finds its controller, or the refusal's number, 1 or 2.
 pub enum Place {
     At(usize),
     Refused(u8),
+}
+
+// How far a walk over the controllers has come: the weights together, and where the shares so far end, as long as each begins at or behind the end of those
+// before it.
+pub struct Walked {
+    pub weight: usize,
+    pub end: u64,
 }
 
 // How many ranges a controller holds: none where it is off, whatever stands in its places for them.
@@ -33,70 +48,239 @@ fn count_of(c: Controller) -> usize
     }
 }
 
-// Whether a controller is off, or its granularity and ranges pass 7, 18 to 21, 10 and 11.
-fn controller_ok(s: Settings, c: Controller) -> bool
+// Whether a controller is off, or its granularity and ranges pass 7, 18 to 21 and 10; and then the lengths of its ranges together.
+fn controller_kept(s: Settings, c: Controller) -> Kept
     requires { ⌜ s .greatest ≤ 20 ⌝ }
-    ensures { λ r. ⌜ r ≡ heldOk s (heldOf c) ⌝ }
+    ensures { λ r. ⌜ (r ≡ keptIn s (heldOf c)) × (r .lengths .0 ≤ 16 * 4294967295) ⌝ }
 {
     let t = c.tracking;
+    let none = Units(0);
     let Tracking::On(g, n) = t else {
-        return true;
+        return Kept {
+            ok: true,
+            lengths: none,
+        };
     };
     if !settings::granularity_ok(s, g) {
-        return false;
+        return Kept {
+            ok: false,
+            lengths: none,
+        };
     }
     let ranges = c.ranges;
-    ranges::list_ok(s, g, n, ranges)
+    ranges::list_kept(s, g, n, ranges)
 }
 
-// How many ranges a controller holds, or 65,536 where it may not hold what it does, which is above every limit.
-fn weight(s: Settings, c: Controller) -> usize
-    requires { ⌜ s .greatest ≤ 20 ⌝ }
-    ensures { λ r. ⌜ (r ≡ weightOf s c) × (r ≤ 65536) ⌝ }
+// What a controller weighs: how many ranges it holds, or 65,536 where it may not hold what it does, which is above every limit.
+fn weight(ok: bool, c: Controller) -> usize
+    ensures { λ r. ⌜ (r ≡ cond ok (heldCount (heldOf c)) 65536) × (r ≤ 65536) ⌝ }
 {
-    if !controller_ok(s, c) {
+    if !ok {
         return 65536;
     }
     count_of(c)
 }
 
-// The weights of all controllers in use, together. A controller is taken by a number that does not vary, as one that does would copy the record.
+// Where shares end that lie one behind the other, with one more from its base on. One of no bits is nowhere; one that begins before the end of those so far
+// makes it 131,072, which is above every base.
+fn end_after(end: u64, base: u16, size: Units) -> u64
+    requires { ⌜ size .0 ≤ 16 * 4294967295 ⌝ }
+    ensures { λ r. ⌜ r ≡ endAfter end base (size .0) ⌝ }
+{
+    if size.0 == 0 {
+        return end;
+    }
+    let b = base as u64;
+    if b < end {
+        return 131072;
+    }
+    b + size.0
+}
+
+// The walk over the controllers, one more. Its share is taken to be as long as its ranges are: it has no more units.
+fn walk_on(s: Settings, w: Walked, c: Controller) -> Walked
+    requires { ⌜ (s .greatest ≤ 20) × (w .weight ≤ 458752) ⌝ }
+    ensures { λ r. ⌜ (r ≡ walkedBy s w c) × (r .weight ≤ w .weight + 65536) ⌝ }
+{
+    let kept = controller_kept(s, c);
+    let own = weight(kept.ok, c);
+    let end = end_after(w.end, c.base, kept.lengths);
+    Walked {
+        weight: w.weight + own,
+        end,
+    }
+}
+
+// The walk over all controllers in use. A controller is taken by a number that does not vary, as one that does would copy the record.
+fn walk(d: Device) -> Walked
+    requires { ⌜ settingsOk (d .settings) ≡ true ⌝ }
+    ensures { λ r. ⌜ r ≡ walkOf d ⌝ }
+{
+    let s = d.settings;
+    let n = s.count;
+    let mut w = walk_on(s, Walked { weight: 0, end: 0 }, d.controllers[0]);
+    if n <= 1 {
+        return w;
+    }
+    w = walk_on(s, w, d.controllers[1]);
+    if n <= 2 {
+        return w;
+    }
+    w = walk_on(s, w, d.controllers[2]);
+    if n <= 3 {
+        return w;
+    }
+    w = walk_on(s, w, d.controllers[3]);
+    if n <= 4 {
+        return w;
+    }
+    w = walk_on(s, w, d.controllers[4]);
+    if n <= 5 {
+        return w;
+    }
+    w = walk_on(s, w, d.controllers[5]);
+    if n <= 6 {
+        return w;
+    }
+    w = walk_on(s, w, d.controllers[6]);
+    if n <= 7 {
+        return w;
+    }
+    w = walk_on(s, w, d.controllers[7]);
+    w
+}
+
+// The weights of all controllers in use, together.
 pub fn weights(d: Device) -> usize
     requires { ⌜ settingsOk (d .settings) ≡ true ⌝ }
     ensures { λ r. ⌜ r ≡ weightsOf d ⌝ }
 {
-    let s = d.settings;
-    let n = s.count;
-    let mut total = weight(s, d.controllers[0]);
-    if n == 1 {
-        return total;
+    let w = walk(d);
+    w.weight
+}
+
+// Where the marks of a controller lie: as many bits as it has different units, from its base on; nowhere where it is off.
+fn share_of(c: Controller) -> Share
+    requires { ⌜ Countable (heldOf c) ⌝ }
+    ensures { λ r. ⌜ r ≡ shareOf c ⌝ }
+{
+    let t = c.tracking;
+    let Tracking::On(g, n) = t else {
+        return Share { base: 0, size: 0 };
+    };
+    let ranges = c.ranges;
+    let u = ranges::units_in(g, n as usize, ranges);
+    let base = c.base as usize;
+    let size = u.0 as usize;
+    Share { base, size }
+}
+
+// The shares of the eight places, by the different units that the controllers have; one that is not in use has none.
+pub fn shares(d: Device) -> [Share; 8]
+    requires { ⌜ (settingsOk (d .settings) ≡ true) × (all (λ c. heldOk (d .settings) (heldOf c)) (controllersOf d) ≡ true) ⌝ }
+    ensures { λ r. ⌜ r ≡ sharesOf d ⌝ }
+{
+    let n = d.settings.count;
+    let mut shares = [Share { base: 0, size: 0 }; 8];
+    for i in 0..n {
+        shares[i] = share_of(d.controllers[i]);
     }
-    total += weight(s, d.controllers[1]);
-    if n == 2 {
-        return total;
+    shares
+}
+
+// Whether a share does not leave the pool. No sum is made, so that none can wrap.
+fn is_inside(a: Share) -> bool
+    ensures { λ r. ⌜ r ≡ isInside a ⌝ }
+{
+    let most = MOST_UNITS as usize;
+    if a.size == 0 {
+        return true;
     }
-    total += weight(s, d.controllers[2]);
-    if n == 3 {
-        return total;
+    if a.size > most {
+        return false;
     }
-    total += weight(s, d.controllers[3]);
-    if n == 4 {
-        return total;
+    a.base <= most - a.size
+}
+
+// Whether a share ends where another begins, or before.
+fn ends_before(a: Share, b: Share) -> bool
+    ensures { λ r. ⌜ r ≡ leb (a .base + a .size) (b .base) ⌝ }
+{
+    if a.base > b.base {
+        return false;
     }
-    total += weight(s, d.controllers[4]);
-    if n == 5 {
-        return total;
+    a.size <= b.base - a.base
+}
+
+// Whether two shares do not overlap.
+fn are_apart(a: Share, b: Share) -> bool
+    ensures { λ r. ⌜ r ≡ areApart a b ⌝ }
+{
+    if a.size == 0 {
+        return true;
     }
-    total += weight(s, d.controllers[5]);
-    if n == 6 {
-        return total;
+    if b.size == 0 {
+        return true;
     }
-    total += weight(s, d.controllers[6]);
-    if n == 7 {
-        return total;
+    if ends_before(a, b) {
+        return true;
     }
-    total += weight(s, d.controllers[7]);
-    total
+    ends_before(b, a)
+}
+
+// Whether a share overlaps none of those from a place on.
+fn apart_from(a: Share, shares: [Share; 8], from: usize) -> bool
+    ensures { λ r. ⌜ r ≡ all (areApart a) (drop from shares) ⌝ }
+{
+    for i in from..8 {
+        if !are_apart(a, shares[i]) {
+            return false;
+        }
+    }
+    true
+}
+
+// Whether no share leaves the pool, and no two overlap.
+fn shares_ok(shares: [Share; 8]) -> bool
+    ensures { λ r. ⌜ r ≡ sharesOk shares ⌝ }
+{
+    for i in 0..8 {
+        let a = shares[i];
+        if !is_inside(a) {
+            return false;
+        }
+        if !apart_from(a, shares, i + 1) {
+            return false;
+        }
+    }
+    true
+}
+
+// Whether shares together have no more bits than the pool.
+fn sizes_ok(shares: [Share; 8]) -> bool
+    ensures { λ r. ⌜ r ≡ leb (sum (map (λ a. a .size) shares)) mostUnits ⌝ }
+{
+    let mut left = MOST_UNITS as usize;
+    for i in 0..8 {
+        let a = shares[i];
+        if a.size > left {
+            return false;
+        }
+        left -= a.size;
+    }
+    true
+}
+
+// Whether the shares are as they may be, by the units that the controllers have.
+fn pool_ok(d: Device) -> bool
+    requires { ⌜ (settingsOk (d .settings) ≡ true) × (all (λ c. heldOk (d .settings) (heldOf c)) (controllersOf d) ≡ true) ⌝ }
+    ensures { λ r. ⌜ r ≡ (leb (unitsOf d) mostUnits && sharesOk (sharesOf d)) ⌝ }
+{
+    let all = shares(d);
+    if !sizes_ok(all) {
+        return false;
+    }
+    shares_ok(all)
 }
 
 // Whether so many bytes can be there of a state that is not whole yet: whole dwords, 4 to 4,096 bytes.
@@ -139,8 +323,9 @@ fn sequence_ok(d: Device) -> bool
     front_ok(end)
 }
 
-// Whether a record is sound: its settings pass 16, each controller in use is off or holds what it may, their counts are within the limit, and a state that
-// arrives in parts is as it may be. Unused places are not looked at.
+// Whether a record is sound: its settings pass 16, each controller in use is off or holds what it may, their counts are within the limit, their shares lie
+// apart within the pool, and a state that arrives in parts is as it may be. Unused places are not looked at. Units are counted only where the shares do not
+// already lie one behind the other by their ranges' lengths.
 pub fn sound(d: Device) -> bool
     ensures { λ r. ⌜ r ≡ soundDevice d ⌝ }
 {
@@ -151,7 +336,14 @@ pub fn sound(d: Device) -> bool
     if !sequence_ok(d) {
         return false;
     }
-    weights(d) <= s.limit as usize
+    let w = walk(d);
+    if w.weight > s.limit as usize {
+        return false;
+    }
+    if w.end <= MOST_UNITS {
+        return true;
+    }
+    pool_ok(d)
 }
 
 // Where a call that lends so many words of marks finds its controller. Refused, in this order: 1 where there are not as many as marks have or the record is

@@ -1,12 +1,12 @@
 // The records program: reads cases from standard input to its end, and answers each on standard output. A case is a device record of any kind, sound
 // or not, with lent marks, lent bytes and one call. The calls are `tracker`'s; here stand only the bytes of a case and of its answer, little-endian.
 //
-// A case has 2944 bytes: the record (1604 bytes: settings, from 31 on 8 controllers of 196 bytes, from 1599 on the sequence), how many mark words are lent (2)
-// and the value of each (8), the call (1, at 1614), its identifier (2), address (8), length in bytes (8) and type (1), how many bytes are lent (2), these
-// (1024; those past them are zeros), how many records a batch has (2), a part's indicator (1), low and high (4 each) and count (4), how many bytes of state area
-// are lent (2), the value of those past the first 64 (1), these 64, zeros. An answer has 11666: the number (1), a start's row (1), the count of a write or a
+// A case has 2944 bytes: the record (1620 bytes: settings, from 31 on 8 controllers of 198 bytes, from 1615 on the sequence), how many mark words are lent (2)
+// and their mark (8), the call (1, at 1630), its identifier (2), address (8), length in bytes (8) and type (1), how many bytes are lent (2),
+// these (1024; those past them are zeros), how many records a batch has (2), a part's indicator (1), low and high (4 each) and count (4), how many bytes of state
+// area are lent (2), the value of those past the first 64 (1), these 64, zeros. An answer has 10978: the number (1), a start's row (1), the count of a write or a
 // batch (8), a receive's suspended, more and granularity (1 each) and runs (8), how many notes a batch did (8) and what cut it (1), how many bytes a part yields
-// (8), then the record (1604), 600 mark words, 1024 lent bytes and 4200 bytes of state area as they are after the call, with zeros past the lent ones.
+// (8), then the record (1620), 512 mark words, 1024 lent bytes and 4200 bytes of state area as they are after the call, with zeros past the lent ones.
 
 use libc::STDIN_FILENO;
 use output::Buffer;
@@ -129,9 +129,11 @@ fn read_controller(case: &[u8], at: usize) -> Controller
 {
     let tracking = read_tracking(case, at);
     let suspended = flag_at(case, at + 3);
-    let ranges = read_ranges(case, at + 4);
+    let base = short_at(case, at + 4);
+    let ranges = read_ranges(case, at + 6);
     Controller {
         tracking,
+        base,
         suspended,
         ranges,
     }
@@ -143,7 +145,7 @@ fn read_controllers(case: &[u8]) -> [Controller; 8] {
     let mut controllers = [first; 8];
     let mut i: usize = 1;
     while i < 8 {
-        controllers[i] = read_controller(case, 31 + 196 * i);
+        controllers[i] = read_controller(case, 31 + 198 * i);
         i = i + 1;
     }
     controllers
@@ -182,11 +184,11 @@ fn read_settings(case: &[u8]) -> Settings {
 
 // The sequence.
 fn read_sequence(case: &[u8]) -> Sequence {
-    if byte_at(case, 1599) == 0 {
+    if byte_at(case, 1615) == 0 {
         return Sequence::Nothing;
     }
-    let owner = short_at(case, 1600);
-    let end = short_at(case, 1602);
+    let owner = short_at(case, 1616);
+    let end = short_at(case, 1618);
     Sequence::Open(owner, end)
 }
 
@@ -260,7 +262,8 @@ fn put_controller(out: &mut Buffer, waiting: Waiting, c: Controller) -> Waiting 
     let ranges = c.ranges;
     let a = put_tracking(out, waiting, t);
     let b = put_flag(out, a, c.suspended);
-    put_ranges(out, b, ranges)
+    let e = put_number(out, b, 2, c.base as u64);
+    put_ranges(out, e, ranges)
 }
 
 // Puts the controllers.
@@ -397,7 +400,7 @@ fn fresh(case: &[u8], marks: &mut [u64]) -> Answer {
 // Plays a start.
 fn start(case: &[u8], marks: &mut [u64], lent: &[u8]) -> Answer {
     let d = read_device(case);
-    let id = short_at(case, 1615);
+    let id = short_at(case, 1631);
     let started = tracker::start(d, marks, id, lent);
     let received = not_received(started.number);
     let device = started.device;
@@ -415,16 +418,16 @@ fn start(case: &[u8], marks: &mut [u64], lent: &[u8]) -> Answer {
 // Plays a stop.
 fn stop(case: &[u8], marks: &mut [u64]) -> Answer {
     let d = read_device(case);
-    let id = short_at(case, 1615);
+    let id = short_at(case, 1631);
     changed(tracker::stop(d, marks, id))
 }
 
 // Plays a write: the record stays as given.
 fn write(case: &[u8], marks: &mut [u64]) -> Answer {
     let device = read_device(case);
-    let id = short_at(case, 1615);
-    let at = long_at(case, 1617);
-    let bytes = long_at(case, 1625);
+    let id = short_at(case, 1631);
+    let at = long_at(case, 1633);
+    let bytes = long_at(case, 1641);
     let written = tracker::write(device, marks, id, at, Bytes(bytes));
     let received = not_received(written.number);
     Answer {
@@ -441,7 +444,7 @@ fn write(case: &[u8], marks: &mut [u64]) -> Answer {
 // Plays a receive: the record stays as given.
 fn receive(case: &[u8], marks: &mut [u64], lent: &mut [u8]) -> Answer {
     let device = read_device(case);
-    let id = short_at(case, 1615);
+    let id = short_at(case, 1631);
     let received = tracker::receive(device, marks, id, lent);
     Answer {
         received,
@@ -457,15 +460,15 @@ fn receive(case: &[u8], marks: &mut [u64], lent: &mut [u8]) -> Answer {
 // Plays a suspend.
 fn suspend(case: &[u8], marks: &[u64]) -> Answer {
     let d = read_device(case);
-    let id = short_at(case, 1615);
-    let kind = byte_at(case, 1633);
+    let id = short_at(case, 1631);
+    let kind = byte_at(case, 1649);
     changed(tracker::suspend(d, marks, id, kind))
 }
 
 // Plays a resume.
 fn resume(case: &[u8], marks: &[u64]) -> Answer {
     let d = read_device(case);
-    let id = short_at(case, 1615);
+    let id = short_at(case, 1631);
     changed(tracker::resume(d, marks, id))
 }
 
@@ -512,7 +515,7 @@ fn read_records(rows: &[u8]) -> [WriteRecord; 1025] {
 // Plays a batch: the record stays as given.
 fn batch(case: &[u8], marks: &mut [u64], lent: &[u8]) -> Answer {
     let device = read_device(case);
-    let n = lent_at(case, 2660, 1025);
+    let n = lent_at(case, 2676, 1025);
     let records = read_records(lent);
     let batched = tracker::batch_of(device, marks, records, n);
     let received = not_received(batched.number);
@@ -530,11 +533,11 @@ fn batch(case: &[u8], marks: &mut [u64], lent: &[u8]) -> Answer {
 // Plays a part.
 fn part(case: &[u8], marks: &[u64], lent: &[u8], area: &mut [u8]) -> Answer {
     let d = read_device(case);
-    let id = short_at(case, 1615);
-    let indicator = byte_at(case, 2662);
-    let low = word_at(case, 2663);
-    let high = word_at(case, 2667);
-    let count = word_at(case, 2671);
+    let id = short_at(case, 1631);
+    let indicator = byte_at(case, 2678);
+    let low = word_at(case, 2679);
+    let high = word_at(case, 2683);
+    let count = word_at(case, 2687);
     let set = tracker::set_state(d, marks, area, id, indicator, low, high, count, lent);
     let received = not_received(set.number);
     let device = set.device;
@@ -551,7 +554,7 @@ fn part(case: &[u8], marks: &[u64], lent: &[u8], area: &mut [u8]) -> Answer {
 
 // Plays a case's call on what is lent to it. A call past the form is taken for the last one.
 fn call(case: &[u8], marks: &mut [u64], lent: &mut [u8], area: &mut [u8]) -> Answer {
-    match byte_at(case, 1614) {
+    match byte_at(case, 1630) {
         0 => fresh(case, marks),
         1 => start(case, marks, lent),
         2 => stop(case, marks),
@@ -566,11 +569,17 @@ fn call(case: &[u8], marks: &mut [u64], lent: &mut [u8], area: &mut [u8]) -> Ans
 
 // ---- what is lent
 
-// Makes all words the same.
-fn fill(words: &mut [u64], value: u64) {
+// The lent mark word `i`: the mark rotated left by `i` modulo 64 bits, so that a share that moves by whole words is seen too.
+fn mark_word(mark: u64, i: usize) -> u64 {
+    let s = i % 64;
+    (mark << s) | (mark >> 1 >> (63 - s))
+}
+
+// Makes the lent mark words.
+fn fill_marks(marks: &mut [u64], mark: u64) {
     let mut i: usize = 0;
-    while i < words.len() {
-        words[i] = value;
+    while i < marks.len() {
+        marks[i] = mark_word(mark, i);
         i = i + 1;
     }
 }
@@ -578,7 +587,7 @@ fn fill(words: &mut [u64], value: u64) {
 // A lent byte: those past the ones that a case has room for are zeros.
 fn lent_byte(case: &[u8], i: usize) -> u8 {
     if i < 1024 {
-        return byte_at(case, 1636 + i);
+        return byte_at(case, 1652 + i);
     }
     0
 }
@@ -595,9 +604,9 @@ fn fill_lent(case: &[u8], lent: &mut [u8]) {
 // A byte of the state area: the first ones are told one by one, those past them are all the same.
 fn area_byte(case: &[u8], i: usize) -> u8 {
     if i < 64 {
-        return byte_at(case, 2678 + i);
+        return byte_at(case, 2694 + i);
     }
-    byte_at(case, 2677)
+    byte_at(case, 2693)
 }
 
 // Makes the state area.
@@ -611,8 +620,8 @@ fn fill_area(case: &[u8], area: &mut [u8]) {
 
 // Fills what a case lends, and plays its call on that.
 fn lend(case: &[u8], marks: &mut [u64], lent: &mut [u8], area: &mut [u8]) -> Answer {
-    let value = long_at(case, 1606);
-    fill(marks, value);
+    let mark = long_at(case, 1622);
+    fill_marks(marks, mark);
     fill_lent(case, lent);
     fill_area(case, area);
     call(case, marks, lent, area)
@@ -620,9 +629,9 @@ fn lend(case: &[u8], marks: &mut [u64], lent: &mut [u8], area: &mut [u8]) -> Ans
 
 // Plays a case in this room, all zeros, for what it lends: what is past that stays zero.
 fn play_in(case: &[u8], marks: &mut [u64], lent: &mut [u8], area: &mut [u8]) -> Answer {
-    let words = lent_at(case, 1604, marks.len());
-    let size = lent_at(case, 1634, lent.len());
-    let bytes = lent_at(case, 2675, area.len());
+    let words = lent_at(case, 1620, marks.len());
+    let size = lent_at(case, 1650, lent.len());
+    let bytes = lent_at(case, 2691, area.len());
     lend(
         case,
         &mut marks[..words],
@@ -644,7 +653,7 @@ fn put_told(out: &mut Buffer, waiting: Waiting, lent: &[u8; 4100]) -> Waiting {
 
 // Plays a case, and puts its answer. There is room for more marks and more state area than a device has.
 fn play(case: &[u8], out: &mut Buffer, waiting: Waiting) -> Waiting {
-    let mut marks = [0u64; 600];
+    let mut marks = [0u64; 512];
     let mut lent = [0u8; 4100];
     let mut area = [0u8; 4200];
     let answer = play_in(case, &mut marks, &mut lent, &mut area);

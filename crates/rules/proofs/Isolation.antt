@@ -1,23 +1,22 @@
 -- Demand 3: a session, seen by one controller, is its slot alone, unless a start of it is refused for what controllers share. Assumes nothing.
 use mathlib.Core.Path.{_≡_, refl, sym, ap, ap₂, subst, _∙_}
-use mathlib.Core.Logic.{_≢_}
 use mathlib.Core.Bool.{Bool, true, false, not, cond, true≢false}
 use mathlib.Core.List.{List, [], _∷_, map}
 use mathlib.Core.Option.{Option, none, some}
 use Prim.Native.Nat.{ℕ, zero, suc, _+_, _<_}
 use native.Mathlib.Omega.{arith}
-use native.Mathlib.Nat.{zero-add}
 use lib.Dec.{leb, eqb}
 use lib.ListN.{length, getD, set}
 use lib.Seq.{set-getD}
 use borrow.Author.Tests.{eqb-true, eqb-false, leb-true, le-leb}
 use Rattle.rules.specs.Lists.{any, member, sum, isSome}
-use Rattle.rules.specs.Refusals.{Test, _else_, verdict}
-use Rattle.rules.specs.Settings.{identifiersOf, placeOf}
-use Rattle.rules.specs.StartData.{countOf}
+use Rattle.rules.specs.Refusals.{Test, verdict}
+use Rattle.rules.specs.Settings.{mostUnits, identifiersOf, placeOf}
+use Rattle.rules.specs.Units.{units}
+use Rattle.rules.specs.StartData.{granularityOf, countOf, rangesOf}
 use Rattle.rules.specs.Order.{Op, start, stop, write, receive, suspend, resume, part, Seen, Arriving, startOwn, startShared, order}
-use Rattle.rules.specs.Device.{heldCount, cleaned, closedSettings}
-use Rattle.rules.specs.Machine.{Answer, refused, Marks, off, on, Slot, freshSlot, isSuspended, areOn, isTracked, heldOn, heldBy, isOpen, accepted, slotStep, State, fresh, soundState, countsIn, slotAt, withSlot, slotOf, seenAt, othersOpen, arrivingAt, stepAt, Call, Event, step, after, events, numberOf}
+use Rattle.rules.specs.Device.{Held, heldCount, heldUnits, cleaned, closedSettings}
+use Rattle.rules.specs.Machine.{Answer, refused, Marks, off, on, Slot, freshSlot, isSuspended, areOn, isTracked, heldOn, heldBy, isOpen, accepted, slotStep, State, fresh, soundState, countsIn, unitsIn, slotAt, withSlot, slotOf, seenAt, othersOpen, arrivingAt, stepAt, Call, Event, step, after, events, numberOf}
 use Rattle.rules.specs.History.{Did, only, historyOf}
 use Rattle.rules.specs.Demands.{unhindered, sharedRefusals}
 use Rattle.rules.specs.declared.Settings.{Settings}
@@ -25,12 +24,12 @@ use Rattle.rules.proofs.ListLaws.{and-left, and-right}
 use Rattle.rules.proofs.RefusalLaws.{verdict-append, verdict-same}
 use Rattle.rules.proofs.SlotHistory.{did}
 use Rattle.rules.proofs.StateLaws.{Fits, Sized, placeOf-fits, ownStep, step-settings, step-sized, step-own-answer, step-own, step-other, fresh-has, fresh-sized, fresh-slot}
-use Rattle.rules.proofs.SoundLaws.{step-sound}
+use Rattle.rules.proofs.SoundLaws.{step-sound, fresh-sum}
 
--- ---- what a controller's call sees, with n counts tracked
+-- ---- what a controller's call sees, with n counts and m units tracked
 
-abbrev seenFor : Bool → Settings → ℕ → Slot → ℕ → Seen
-seenFor b s a c n = record { sound = b; known = isSome (placeOf s a); suspended = isSuspended c; tracked = isTracked c; counts = n }
+abbrev seenFor : Bool → Settings → ℕ → Slot → ℕ → ℕ → Seen
+seenFor b s a c n m = record { sound = b; known = isSome (placeOf s a); suspended = isSuspended c; tracked = isTracked c; counts = n; units = m }
 
 -- and what a part sees beside that, with a state of another under way or not (W6)
 abbrev arrivingFor : Bool → Slot → Arriving
@@ -38,53 +37,68 @@ arrivingFor x c = record { area = true; others = x; front = c .front }
 
 -- a slot's step with nobody else tracked, and no other's state under way
 abbrev aloneStep : Bool → Settings → ℕ → Slot → Op → Answer × Slot
-aloneStep b s a c o = slotStep s (seenFor b s a c 0) (arrivingFor false c) c o
+aloneStep b s a c o = slotStep s (seenFor b s a c 0 0) (arrivingFor false c) c o
 
--- ---- the counts matter to a start that is refused with 12, another's state to a part that is refused with 23, and both to nothing else
+-- ---- the counts and units matter to a start that is refused with 12 or 11, another's state to a part that is refused with 23, and all of them to nothing else
 
-limit-same : {A : Type 0} (k n l : ℕ) (y : A) (refuse : ℕ → ℕ → A) → verdict ((leb (k + n) l else 12) ∷ []) y refuse ≢ refuse 12 0
-    → verdict ((leb (k + 0) l else 12) ∷ []) y refuse ≡ verdict ((leb (k + n) l else 12) ∷ []) y refuse
-limit-same k n l y refuse = go (leb (k + n) l) refl
+-- both tests of what controllers share
+shared-same : {A : Type 0} (number : A → ℕ) (refuse : ℕ → ℕ → A) → ((k i : ℕ) → number (refuse k i) ≡ k) → (s : Settings) (x : List ℕ) (n m : ℕ) (y : A)
+    → not (member (number (verdict (startShared s n m x) y refuse)) (11 ∷ 12 ∷ [])) ≡ true
+    → verdict (startShared s 0 0 x) y refuse ≡ verdict (startShared s n m x) y refuse
+shared-same number refuse f s x n m y = go (leb (us + m) mostUnits) refl (leb (countOf x + n) (s .limit)) refl
   where
-    go : (b : Bool) → leb (k + n) l ≡ b → cond b y (refuse 12 0) ≢ refuse 12 0 → cond (leb (k + 0) l) y (refuse 12 0) ≡ cond b y (refuse 12 0)
-    go true e f = let h = leb-true (k + n) l e in rw (le-leb (k + 0) l (omega arith))
-    go false e f = absurd (f refl)
+    us : ℕ
+    us = length (units (granularityOf x) (rangesOf x))
 
-not-limit : (n : ℕ) → not (member n (12 ∷ [])) ≡ true → n ≢ 12
-not-limit n e q = true≢false (sym e ∙ ap (λ m. not (member m (12 ∷ []))) q)
+    go : (a : Bool) → leb (us + m) mostUnits ≡ a → (b : Bool) → leb (countOf x + n) (s .limit) ≡ b
+        → not (member (number (cond a (cond b y (refuse 12 0)) (refuse 11 0))) (11 ∷ 12 ∷ [])) ≡ true
+        → cond (leb (us + 0) mostUnits) (cond (leb (countOf x + 0) (s .limit)) y (refuse 12 0)) (refuse 11 0) ≡ cond a (cond b y (refuse 12 0)) (refuse 11 0)
+    go true e true g z =
+        let h = leb-true (us + m) mostUnits e in
+        let k = leb-true (countOf x + n) (s .limit) g in
+        rw (le-leb (us + 0) mostUnits (omega arith), le-leb (countOf x + 0) (s .limit) (omega arith))
+    go true e false g z = absurd (true≢false (sym (rw (f 12 0) at z)))
+    go false e b g z = absurd (true≢false (sym (rw (f 11 0) at z)))
 
-slotStep-same : (b : Bool) (s : Settings) (a : ℕ) (c : Slot) (n : ℕ) (q : Bool) (o : Op)
-    → not (member (numberOf ((slotStep s (seenFor b s a c n) (arrivingFor q c) c o) .0)) (sharedRefusals o)) ≡ true
-    → aloneStep b s a c o ≡ slotStep s (seenFor b s a c n) (arrivingFor q c) c o
+slotStep-same : (b : Bool) (s : Settings) (a : ℕ) (c : Slot) (n m : ℕ) (q : Bool) (o : Op)
+    → not (member (numberOf ((slotStep s (seenFor b s a c n m) (arrivingFor q c) c o) .0)) (sharedRefusals o)) ≡ true
+    → aloneStep b s a c o ≡ slotStep s (seenFor b s a c n m) (arrivingFor q c) c o
 unfolding order
-slotStep-same b s a c n q (start x) f =
-    verdict-append before (last 0) y refuse
-    ∙ verdict-same (refuse 12 0) before (verdict (last n) y refuse) (verdict (last 0) y refuse) refuse (limit-same (countOf x) n (s .limit) y refuse)
-    (λ e. not-limit (numberOf ((slotStep s (seenFor b s a c n) (arrivingFor q c) c (start x)) .0)) f (ap (λ (r : Answer × Slot). numberOf (r .0)) (verdict-append before (last n) y refuse ∙ e)))
-    ∙ sym (verdict-append before (last n) y refuse)
+slotStep-same b s a c n m q (start x) f =
+    verdict-append before (last 0 0) y refuse
+    ∙ verdict-same Free before (verdict (last n m) y refuse) (verdict (last 0 0) y refuse) refuse (shared-same number refuse (λ k i. refl) s x n m y)
+    (subst Free (verdict-append before (last n m) y refuse) f)
+    ∙ sym (verdict-append before (last n m) y refuse)
   where
     before : List Test
-    before = startOwn s (seenFor b s a c 0) x
+    before = startOwn s (seenFor b s a c 0 0) x
 
-    last : ℕ → List Test
-    last m = startShared s m x
+    last : ℕ → ℕ → List Test
+    last n m = startShared s n m x
 
     y : Answer × Slot
     y = accepted c (start x)
 
     refuse : ℕ → ℕ → Answer × Slot
     refuse k i = (refused k i, c)
-slotStep-same b s a c n q stop f = refl
-slotStep-same b s a c n q (write w) f = refl
-slotStep-same b s a c n q (receive x) f = refl
-slotStep-same b s a c n q (suspend kind) f = refl
-slotStep-same b s a c n q resume f = refl
-slotStep-same b s a c n q (part x) f = go b (isSome (placeOf s a)) (c .suspended) q f
-  where
-    at : Bool → Bool → Bool → ℕ → Bool → Answer × Slot
-    at b known u m q = slotStep s (record { sound = b; known = known; suspended = u; tracked = isTracked c; counts = m }) (arrivingFor q c) c (part x)
 
-    go : (b known u q : Bool) → not (member (numberOf ((at b known u n q) .0)) (23 ∷ [])) ≡ true → at b known u 0 false ≡ at b known u n q
+    number : Answer × Slot → ℕ
+    number r = numberOf (r .0)
+
+    -- not refused for what is shared
+    Free : Answer × Slot → Type 0
+    Free r = not (member (number r) (11 ∷ 12 ∷ [])) ≡ true
+slotStep-same b s a c n m q stop f = refl
+slotStep-same b s a c n m q (write w) f = refl
+slotStep-same b s a c n m q (receive x) f = refl
+slotStep-same b s a c n m q (suspend kind) f = refl
+slotStep-same b s a c n m q resume f = refl
+slotStep-same b s a c n m q (part x) f = go b (isSome (placeOf s a)) (c .suspended) q f
+  where
+    at : Bool → Bool → Bool → ℕ → ℕ → Bool → Answer × Slot
+    at b known u n m q = slotStep s (record { sound = b; known = known; suspended = u; tracked = isTracked c; counts = n; units = m }) (arrivingFor q c) c (part x)
+
+    go : (b known u q : Bool) → not (member (numberOf ((at b known u n m q) .0)) (23 ∷ [])) ≡ true → at b known u 0 0 false ≡ at b known u n m q
     go false known u q f = refl
     go true false u q f = refl
     go true true false q f = refl
@@ -105,7 +119,7 @@ slotStep-unsound s v a c (part x) e = rw e
 
 pub withSlot-slotAt : (st : State) (p : Option ℕ) → withSlot st p (slotAt st p) ≡ st
 withSlot-slotAt st none = refl
-withSlot-slotAt st (some i) = ap (λ l. record { settings = st .settings; slots = l; stray = st .stray }) (set-getD (st .slots) i freshSlot)
+withSlot-slotAt st (some i) = ap (λ l. record { settings = st .settings; slots = l; amiss = st .amiss }) (set-getD (st .slots) i freshSlot)
 
 pub step-unsound : (st : State) (k : Call) → soundState st ≡ false → step st k ≡ (refused 1 0, st)
 unfolding step
@@ -187,19 +201,20 @@ seems-unhindered a (k ∷ ks) st z f =
         let free : not (member (numberOf ((ownStep st a (k .op)) .0)) (sharedRefusals (k .op))) ≡ true =
         subst (λ (x : Answer). not (member (numberOf x) (sharedRefusals (k .op))) ≡ true) (step-own-answer st k a own)
         (and-left (not (member (numberOf ((step st k) .0)) (sharedRefusals (k .op)))) (unhindered (historyOf a es)) f) in
-        seems-own a st k ks (ops a ks) z own (sym (slotStep-same (soundState st) (st .settings) a (slotOf st a) (countsIn st) (othersOpen st (placeOf (st .settings) a)) (k .op) free))
+        seems-own a st k ks (ops a ks) z own (sym (slotStep-same (soundState st) (st .settings) a (slotOf st a) (countsIn st) (unitsIn st) (othersOpen st (placeOf (st .settings) a)) (k .op) free))
         (ih (and-right (not (member (numberOf ((step st k) .0)) (sharedRefusals (k .op)))) (unhindered (historyOf a es)) f))
     go false q ih f = seems-other a st k ks (ops a ks) (eqb-false (k .id) a q) (ih f)
 
--- ---- a session of its calls alone: the counts are its own, which do not matter to it
+-- ---- a session of its calls alone: the counts and units are its own, which do not matter to it
 
-own-count : (b : Bool) (s : Settings) (a : ℕ) (c : Slot) (o : Op) → slotStep s (seenFor b s a c (heldCount (heldBy c))) (arrivingFor false c) c o ≡ aloneStep b s a c o
+own-count : (b : Bool) (s : Settings) (a : ℕ) (c : Slot) (o : Op)
+    → slotStep s (seenFor b s a c (heldCount (heldBy c)) (heldUnits (heldBy c))) (arrivingFor false c) c o ≡ aloneStep b s a c o
 unfolding order
 own-count b s a c (start x) = go b (isSome (placeOf s a)) (c .suspended) (c .marks)
   where
     go : (b known f : Bool) (t : Marks)
-        → slotStep s (record { sound = b; known = known; suspended = f; tracked = areOn t; counts = heldCount (heldOn t) }) (arrivingFor false c) c (start x)
-        ≡ slotStep s (record { sound = b; known = known; suspended = f; tracked = areOn t; counts = 0 }) (arrivingFor false c) c (start x)
+        → slotStep s (record { sound = b; known = known; suspended = f; tracked = areOn t; counts = heldCount (heldOn t); units = heldUnits (heldOn t) }) (arrivingFor false c) c (start x)
+        ≡ slotStep s (record { sound = b; known = known; suspended = f; tracked = areOn t; counts = 0; units = 0 }) (arrivingFor false c) c (start x)
     go b known f off = refl
     go true true true (on g rs p) = refl
     go true true false (on g rs p) = refl
@@ -215,29 +230,34 @@ own-count b s a c (part x) = refl
 -- nobody but a is tracked, and no other's state is under way
 pub record Lonely (a : ℕ) (st : State) : Type 0 where
   pub counts : countsIn st ≡ heldCount (heldBy (slotOf st a))
+  pub units : unitsIn st ≡ heldUnits (heldBy (slotOf st a))
   pub shut : othersOpen st (placeOf (st .settings) a) ≡ false
 
-sum-set : (cs : List Slot) (i : ℕ) (c : Slot) → i < length cs
-    → sum (map heldCount (map heldBy (set cs i c))) + heldCount (heldBy (getD cs i freshSlot)) ≡ sum (map heldCount (map heldBy cs)) + heldCount (heldBy c)
-sum-set [] i c h = absurd (omega arith)
-sum-set (x ∷ cs) zero c h = omega arith
-sum-set (x ∷ cs) (suc i) c h = omega (arith, sum-set cs i c (omega arith))
+-- what its slot holds, by any measure, is all that is held
+module _ (f : Option Held → ℕ) (zero-none : f none ≡ 0) where
+  sum-set : (cs : List Slot) (i : ℕ) (c : Slot) → i < length cs
+      → sum (map f (map heldBy (set cs i c))) + f (heldBy (getD cs i freshSlot)) ≡ sum (map f (map heldBy cs)) + f (heldBy c)
+  sum-set [] i c h = absurd (omega arith)
+  sum-set (x ∷ cs) zero c h = omega arith
+  sum-set (x ∷ cs) (suc i) c h = omega (arith, sum-set cs i c (omega arith))
 
-counts-step : (a : ℕ) (st : State) (k : Call) → Sized st → k .id ≡ a → countsIn st ≡ heldCount (heldBy (slotOf st a))
-    → countsIn ((step st k) .1) ≡ heldCount (heldBy (slotOf ((step st k) .1) a))
-unfolding step
-counts-step a st k z own l =
-    rw (step-own st k a z own) (rw own (go (placeOf (st .settings) a) refl (placeOf-fits st z a)))
-  where
-    go : (p : Option ℕ) → placeOf (st .settings) a ≡ p → Fits p (st .slots) → countsIn ((stepAt st p (k .op)) .1) ≡ heldCount (heldBy ((ownStep st a (k .op)) .1))
-    go none e h =
-        let r : slotOf ((step st k) .1) a ≡ freshSlot = ap (λ (s : Settings). slotAt ((step st k) .1) (placeOf s a)) (step-settings st k) ∙ rw e in
-        let q : (ownStep st a (k .op)) .1 ≡ freshSlot = sym (step-own st k a z own) ∙ r in
-        let z0 : countsIn st ≡ 0 = l ∙ rw e in
-        rw q z0
-    go (some i) e h =
-        let was : countsIn st ≡ heldCount (heldBy (getD (st .slots) i freshSlot)) = rw e at l in
-        rw e (omega (arith, sum-set (st .slots) i ((slotStep (st .settings) (seenAt st (some i)) (arrivingAt st (some i)) (getD (st .slots) i freshSlot) (k .op)) .1) h, was))
+  abbrev heldIn : State → ℕ
+  heldIn st = sum (map f (map heldBy (st .slots)))
+
+  held-step : (a : ℕ) (st : State) (k : Call) → Sized st → k .id ≡ a → heldIn st ≡ f (heldBy (slotOf st a)) → heldIn ((step st k) .1) ≡ f (heldBy (slotOf ((step st k) .1) a))
+  unfolding step
+  held-step a st k z own l =
+      rw (step-own st k a z own) (rw own (go (placeOf (st .settings) a) refl (placeOf-fits st z a)))
+    where
+      go : (p : Option ℕ) → placeOf (st .settings) a ≡ p → Fits p (st .slots) → heldIn ((stepAt st p (k .op)) .1) ≡ f (heldBy ((ownStep st a (k .op)) .1))
+      go none e h =
+          let r : slotOf ((step st k) .1) a ≡ freshSlot = ap (λ (s : Settings). slotAt ((step st k) .1) (placeOf s a)) (step-settings st k) ∙ rw e in
+          let q : (ownStep st a (k .op)) .1 ≡ freshSlot = sym (step-own st k a z own) ∙ r in
+          let was : slotOf st a ≡ freshSlot = rw e in
+          l ∙ ap (λ (c : Slot). f (heldBy c)) (was ∙ sym q)
+      go (some i) e h =
+          let was : heldIn st ≡ f (heldBy (getD (st .slots) i freshSlot)) = rw e at l in
+          rw e (omega (arith, sum-set (st .slots) i ((slotStep (st .settings) (seenAt st (some i)) (arrivingAt st (some i)) (getD (st .slots) i freshSlot) (k .op)) .1) h, was))
 
 set-twice : (cs : List Slot) (i : ℕ) (x y : Slot) → set (set cs i x) i y ≡ set cs i y
 set-twice [] i x y = refl
@@ -255,7 +275,8 @@ shut-step a st k own = rw own (go (placeOf (st .settings) a))
 lonely-step : (a : ℕ) (st : State) (k : Call) → Sized st → k .id ≡ a → Lonely a st → Lonely a ((step st k) .1)
 lonely-step a st k z own l =
     record {
-      counts = counts-step a st k z own (l .counts);
+      counts = held-step heldCount refl a st k z own (l .counts);
+      units = held-step heldUnits refl a st k z own (l .units);
       shut = ap (λ (s : Settings). othersOpen ((step st k) .1) (placeOf s a)) (step-settings st k) ∙ shut-step a st k own ∙ l .shut;
     }
 
@@ -268,7 +289,8 @@ seems-alone a (k ∷ ks) st z l = go (eqb (k .id) a) refl (λ t. seems-alone a k
     go true q ih =
         let own : k .id ≡ a = eqb-true (k .id) a q in
         let same : ownStep st a (k .op) ≡ aloneStep (soundState st) (st .settings) a (slotOf st a) (k .op) =
-        ap₂ (λ n x. slotStep (st .settings) (seenFor (soundState st) (st .settings) a (slotOf st a) n) (arrivingFor x (slotOf st a)) (slotOf st a) (k .op)) (l .counts) (l .shut)
+        ap₂ (λ n m. slotStep (st .settings) (seenFor (soundState st) (st .settings) a (slotOf st a) n m) (arrivingFor (othersOpen st (placeOf (st .settings) a)) (slotOf st a)) (slotOf st a) (k .op)) (l .counts) (l .units)
+        ∙ ap (λ x. slotStep (st .settings) (seenFor (soundState st) (st .settings) a (slotOf st a) (heldCount (heldBy (slotOf st a))) (heldUnits (heldBy (slotOf st a)))) (arrivingFor x (slotOf st a)) (slotOf st a) (k .op)) (l .shut)
         ∙ own-count (soundState st) (st .settings) a (slotOf st a) (k .op) in
         let r = seems-own a st k (only a ks) (ops a ks) z own same (ih ((step st k) .1) (step-sized st k z) (lonely-step a st k z own l)) in
         record { history = rw q (r .0); end = r .1 }
@@ -276,15 +298,11 @@ seems-alone a (k ∷ ks) st z l = go (eqb (k .id) a) refl (λ t. seems-alone a k
 
 -- ---- from a fresh device
 
-fresh-counts : (xs : List ℕ) → sum (map heldCount (map heldBy (map (λ (i : ℕ). freshSlot) xs))) ≡ 0
-fresh-counts [] = refl
-fresh-counts (x ∷ xs) = zero-add _ ∙ fresh-counts xs
-
 fresh-all-shut : (xs : List ℕ) → any isOpen (map (λ (i : ℕ). freshSlot) xs) ≡ false
 fresh-all-shut [] = refl
 fresh-all-shut (x ∷ xs) = fresh-all-shut xs
 
-fresh-shut : (s : Settings) (xs : List ℕ) (p : Option ℕ) → othersOpen (record { settings = s; slots = map (λ (i : ℕ). freshSlot) xs; stray = false }) p ≡ false
+fresh-shut : (s : Settings) (xs : List ℕ) (p : Option ℕ) → othersOpen (record { settings = s; slots = map (λ (i : ℕ). freshSlot) xs; amiss = false }) p ≡ false
 fresh-shut s xs none = fresh-all-shut xs
 fresh-shut s xs (some i) = go xs i
   where
@@ -296,7 +314,8 @@ fresh-shut s xs (some i) = go xs i
 fresh-lonely : (s : Settings) (words a : ℕ) → Lonely a (fresh s words)
 fresh-lonely s words a =
     record {
-      counts = rw (fresh-slot s words a) (fresh-has (λ st. countsIn st ≡ 0) s words (fresh-counts (identifiersOf s)) refl);
+      counts = rw (fresh-slot s words a) (fresh-has (λ st. countsIn st ≡ 0) s words (fresh-sum heldCount refl (identifiersOf s)) refl);
+      units = rw (fresh-slot s words a) (fresh-has (λ st. unitsIn st ≡ 0) s words (fresh-sum heldUnits refl (identifiersOf s)) refl);
       shut = fresh-has (λ st. othersOpen st (placeOf (st .settings) a) ≡ false) s words (fresh-shut (cleaned s) (identifiersOf s) (placeOf (cleaned s) a)) (fresh-shut closedSettings [] (placeOf closedSettings a));
     }
 

@@ -197,6 +197,10 @@ all-at f [] i d e h = absurd (omega arith)
 all-at f (x ∷ xs) zero d e h = and-left (f x) (all f xs) e
 all-at f (x ∷ xs) (suc i) d e h = all-at f xs i d (and-right (f x) (all f xs) e) (omega arith)
 
+pub all-from : {A : Type 0} (f : A → Bool) (xs : List A) (d : A) → ((i : ℕ) → i < length xs → f (getD xs i d) ≡ true) → all f xs ≡ true
+all-from f [] d h = refl
+all-from f (x ∷ xs) d h = and-intro (f x) (all f xs) (h 0 (omega arith)) (all-from f xs d (λ i l. h (suc i) (omega arith)))
+
 pub all-map : {A B : Type 0} (f : B → Bool) (g : A → B) (xs : List A) → all f (map g xs) ≡ all (λ x. f (g x)) xs
 all-map f g [] = refl
 all-map f g (x ∷ xs) = ap (λ b. f (g x) && b) (all-map f g xs)

@@ -8,7 +8,7 @@ use native.Mathlib.Omega.{arith}
 use lib.ListN.{length, take}
 use borrow.Author.Tests.{le-leb, lt-leb}
 use Rattle.rules.specs.Refusals.{Test, _else_, verdict, refusal, placeIn, passes}
-use Rattle.rules.specs.Ranges.{rowsTests, rangeTests, listTests, powersOk, unitsOk}
+use Rattle.rules.specs.Ranges.{rowsTests, rangeTests, listTests, powersOk}
 use Rattle.rules.specs.StartData.{granularityOf, countOf, rangesOf}
 use Rattle.rules.specs.Order.{Seen, startShared, startOrder}
 use Rattle.rules.specs.Demands.{Rowless, Names}
@@ -33,7 +33,7 @@ module _ (s : Settings) (v : Seen) (x : List ℕ) where
 
   -- the rules behind those of the rows: 10, 11 and 12
   abbrev others : List Test
-  others = (powersOk s rs else 10) ∷ (unitsOk g rs else 11) ∷ startShared s (v .counts) x
+  others = (powersOk s rs else 10) ∷ startShared s (v .counts) (v .units) x
 
   size : length rs ≡ n
   size = rangesOf-length x
@@ -42,7 +42,7 @@ module _ (s : Settings) (v : Seen) (x : List ℕ) where
   pub early : passes (take 8 tests) ≡ false → Rowless (refusal tests) (placeIn tests)
   early e =
       let none : (k : ℕ) → k < 18 → Rowless k 0 = λ k h. (inl h, refl) in
-      verdict-front Rowless (take 8 tests) (listTests s g n rs ++ startShared s (v .counts) x) 0 0 (λ k i. k) (λ k i. i) (
+      verdict-front Rowless (take 8 tests) (listTests s g n rs ++ startShared s (v .counts) (v .units) x) 0 0 (λ k i. k) (λ k i. i) (
         none 1 (omega arith),
         (
           none 2 (omega arith),
@@ -53,13 +53,13 @@ module _ (s : Settings) (v : Seen) (x : List ℕ) where
 
   module _ (e : passes (take 8 tests) ≡ true) where
     -- else the rules of ranges answer
-    past-first : {A : Type 0} (done : A) (refuse : ℕ → ℕ → A) → verdict tests done refuse ≡ verdict (listTests s g n rs ++ startShared s (v .counts) x) done refuse
-    past-first done refuse = verdict-rest (take 8 tests) (listTests s g n rs ++ startShared s (v .counts) x) done refuse e
+    past-first : {A : Type 0} (done : A) (refuse : ℕ → ℕ → A) → verdict tests done refuse ≡ verdict (listTests s g n rs ++ startShared s (v .counts) (v .units) x) done refuse
+    past-first done refuse = verdict-rest (take 8 tests) (listTests s g n rs ++ startShared s (v .counts) (v .units) x) done refuse e
 
     -- past the count, the rows and then the others
     past-count : {A : Type 0} (done : A) (refuse : ℕ → ℕ → A) → 1 ≤ n → n ≤ 16 → verdict tests done refuse ≡ verdict (rowsTests g 0 rs ++ others) done refuse
     unfolding rangeTests
-    past-count done refuse h k = past-first done refuse ∙ rw (le-leb 1 n h, le-leb n 16 k) (ap (λ (ts : List Test). verdict ts done refuse) (append-assoc (rowsTests g 0 rs) ((powersOk s rs else 10) ∷ (unitsOk g rs else 11) ∷ []) (startShared s (v .counts) x)))
+    past-count done refuse h k = past-first done refuse ∙ rw (le-leb 1 n h, le-leb n 16 k) (ap (λ (ts : List Test). verdict ts done refuse) (append-assoc (rowsTests g 0 rs) ((powersOk s rs else 10) ∷ []) (startShared s (v .counts) (v .units) x)))
 
     no-count : {A : Type 0} (done : A) (refuse : ℕ → ℕ → A) → n < 1 → verdict tests done refuse ≡ refuse 18 0
     unfolding rangeTests
@@ -73,8 +73,7 @@ module _ (s : Settings) (v : Seen) (x : List ℕ) where
     bad-count (inl h) = let l : n < 1 = omega (arith, size) in (no-count 0 (λ k i. k) l, no-count 0 (λ k i. i) l)
     bad-count (inr h) = let l : 16 < n = omega (arith, size) in (over-count 0 (λ k i. k) l, over-count 0 (λ k i. i) l)
 
-    pub names : Names s (v .counts) g rs (refusal tests) (placeIn tests)
-    unfolding unitsOk
+    pub names : Names s (v .counts) (v .units) g rs (refusal tests) (placeIn tests)
     names =
         record {
           count = bad-count;

@@ -9,8 +9,9 @@ use lib.Dec.{leb, ltb, eqb}
 use lib.ListN.{length, length-append}
 use borrow.Author.Tests.{leb-true, le-leb, ltb-true, eqb-true}
 use Rattle.rules.specs.Refusals.{Test, _else_}
-use Rattle.rules.specs.Settings.{granularityOk, unitSize}
-use Rattle.rules.specs.Ranges.{rowsTests, rangeTests, listTests, powersOk, unitsOk}
+use Rattle.rules.specs.Settings.{mostUnits, granularityOk, unitSize}
+use Rattle.rules.specs.Units.{units}
+use Rattle.rules.specs.Ranges.{rowsTests, rangeTests, listTests, powersOk}
 use Rattle.rules.specs.StartData.{granularityOf, countOf, rangesOf}
 use Rattle.rules.specs.ControllerState.{stateMost, stateOk}
 use Rattle.rules.specs.Order.{Seen, startShared, startOrder, Arriving, Part, offsetOf, isFirst, isLast, offsetOk, dataOk, followsOn, follows, soFar, joinedWith, joinedOk, partOrder}
@@ -38,6 +39,7 @@ pub record StartPassed (s : Settings) (v : Seen) (x : List ℕ) : Type 0 where
   pub untracked : not (v .tracked) ≡ true
   pub granularity : granularityOk s (granularityOf x) ≡ true
   pub list : Passed (listTests s (granularityOf x) (countOf x) (rangesOf x))
+  pub room : length (units (granularityOf x) (rangesOf x)) + v .units ≤ mostUnits
   pub limit : countOf x + v .counts ≤ s .limit
 
 pub startOrder-passed : (s : Settings) (v : Seen) (x : List ℕ) → Passed (startOrder s v x) → StartPassed s v x
@@ -46,21 +48,22 @@ startOrder-passed s v x h =
       untracked = h .1 .1 .1 .0;
       granularity = h .1 .1 .1 .1 .1 .1 .0;
       list = All-left (λ (t : Test). t .ok ≡ true) tests last rest;
-      limit = leb-true (countOf x + v .counts) (s .limit) (All-right (λ (t : Test). t .ok ≡ true) tests last rest .0);
+      room = leb-true (length (units (granularityOf x) (rangesOf x)) + v .units) mostUnits (All-right (λ (t : Test). t .ok ≡ true) tests last rest .0);
+      limit = leb-true (countOf x + v .counts) (s .limit) (All-right (λ (t : Test). t .ok ≡ true) tests last rest .1 .0);
     }
   where
     tests : List Test
     tests = listTests s (granularityOf x) (countOf x) (rangesOf x)
 
     last : List Test
-    last = startShared s (v .counts) x
+    last = startShared s (v .counts) (v .units) x
 
     rest : Passed (tests ++ last)
     rest = h .1 .1 .1 .1 .1 .1 .1 .1
 
 pub listTests-aligned : (s : Settings) (g n : ℕ) (rs : List Range) → Passed (listTests s g n rs) → All (Aligned (unitSize g)) rs
 listTests-aligned s g n rs h =
-    rangeTests-aligned g n rs (All-left (λ (t : Test). t .ok ≡ true) (rangeTests g n rs) ((powersOk s rs else 10) ∷ (unitsOk g rs else 11) ∷ []) h)
+    rangeTests-aligned g n rs (All-left (λ (t : Test). t .ok ≡ true) (rangeTests g n rs) ((powersOk s rs else 10) ∷ []) h)
 
 -- ---- W6: a part of a state
 

@@ -82,13 +82,13 @@ verdict-done number (t ∷ ts) done refuse f h e = go (t .ok) refl (verdict-done
     go true q ih e = let r = ih e in (r .0, (q, r .1))
     go false q ih e = absurd (omega (arith, h .0, f (t .number) (t .place), e))
 
--- two ends of which the second is the first unless that is a certain one: so are the verdicts
-pub verdict-same : {A : Type 0} (x : A) (ts : List Test) (k l : A) (refuse : ℕ → ℕ → A) → (k ≢ x → l ≡ k) → verdict ts k refuse ≢ x → verdict ts l refuse ≡ verdict ts k refuse
-verdict-same x [] k l refuse f = f
-verdict-same x (t ∷ ts) k l refuse f = go (t .ok) (verdict-same x ts k l refuse f)
+-- two ends of which the second is the first where that has a certain property: so are the verdicts
+pub verdict-same : {A : Type 0} (P : A → Type 0) (ts : List Test) (k l : A) (refuse : ℕ → ℕ → A) → (P k → l ≡ k) → P (verdict ts k refuse) → verdict ts l refuse ≡ verdict ts k refuse
+verdict-same P [] k l refuse f = f
+verdict-same P (t ∷ ts) k l refuse f = go (t .ok) (verdict-same P ts k l refuse f)
   where
-    go : (b : Bool) → (verdict ts k refuse ≢ x → verdict ts l refuse ≡ verdict ts k refuse)
-        → cond b (verdict ts k refuse) (refuse (t .number) (t .place)) ≢ x
+    go : (b : Bool) → (P (verdict ts k refuse) → verdict ts l refuse ≡ verdict ts k refuse)
+        → P (cond b (verdict ts k refuse) (refuse (t .number) (t .place)))
         → cond b (verdict ts l refuse) (refuse (t .number) (t .place)) ≡ cond b (verdict ts k refuse) (refuse (t .number) (t .place))
     go true ih n = ih n
     go false ih n = refl

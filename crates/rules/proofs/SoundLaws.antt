@@ -12,13 +12,13 @@ use lib.ListN.{length, getD, set}
 use borrow.Author.Tests.{leb-true, le-leb, eqb-true}
 use Rattle.rules.specs.Lists.{all, sum}
 use Rattle.rules.specs.Refusals.{refusal}
-use Rattle.rules.specs.Settings.{markWords, settingsOk, identifiersOf, placeOf}
+use Rattle.rules.specs.Settings.{markWords, mostUnits, settingsOk, identifiersOf, placeOf}
 use Rattle.rules.specs.Units.{Write}
 use Rattle.rules.specs.Ranges.{listTests}
 use Rattle.rules.specs.StartData.{granularityOf, countOf, rangesOf}
 use Rattle.rules.specs.ControllerState.{stateMost}
 use Rattle.rules.specs.Order.{Op, start, stop, write, receive, suspend, resume, part, isLast, joinedWith, Seen, Arriving, freshOrder, order}
-use Rattle.rules.specs.Device.{Held, heldOk, heldCount, frontOk, sound, soundRules, cleaned}
+use Rattle.rules.specs.Device.{Held, heldOk, heldCount, heldUnits, frontOk, sound, soundRules, cleaned}
 use Rattle.rules.specs.Machine.{Answer, refused, done, assembled, Marks, off, on, Slot, freshSlot, heldOn, heldBy, frontKept, openOk, wroteIn, reportedIn, accepted, slotStep, State, closed, opened, fresh, soundState, seenAt, arrivingAt, stepAt, Call, step, after}
 use Rattle.rules.specs.declared.Settings.{Settings}
 use Rattle.rules.proofs.ListLaws.{all-set, all-getD, every-at, and-left, and-right, and-intro, map-set}
@@ -42,19 +42,29 @@ module _ (s : Settings) (hs : List (Option Held)) (q : Bool) where
   unfolding sound
   sound-limit e = leb-true (sum (map heldCount hs)) (s .limit) (every-at (soundRules s hs q) 2 e)
 
-  pub sound-sequence : sound s hs q ≡ true → q ≡ true
+  pub sound-units : sound s hs q ≡ true → sum (map heldUnits hs) ≤ mostUnits
   unfolding sound
-  sound-sequence e = every-at (soundRules s hs q) 3 e
+  sound-units e = leb-true (sum (map heldUnits hs)) mostUnits (every-at (soundRules s hs q) 3 e)
 
-  pub sound-intro : settingsOk s ≡ true → all (heldOk s) hs ≡ true → sum (map heldCount hs) ≤ s .limit → q ≡ true → sound s hs q ≡ true
+  pub sound-rest : sound s hs q ≡ true → q ≡ true
   unfolding sound
-  sound-intro e f l z = rw (e, f, le-leb (sum (map heldCount hs)) (s .limit) l, z)
+  sound-rest e = every-at (soundRules s hs q) 4 e
+
+  pub sound-intro : settingsOk s ≡ true → all (heldOk s) hs ≡ true → sum (map heldCount hs) ≤ s .limit → sum (map heldUnits hs) ≤ mostUnits → q ≡ true → sound s hs q ≡ true
+  unfolding sound
+  sound-intro e f l u z = rw (e, f, le-leb (sum (map heldCount hs)) (s .limit) l, le-leb (sum (map heldUnits hs)) mostUnits u, z)
 
 -- ---- one slot
 
--- it holds what it may, and n counts that had its old count in them are within the limit with its new one: from what it held and what it holds
-abbrev Stays : Settings → ℕ → Option Held → Option Held → Type 0
-Stays s n x y = (heldOk s y ≡ true) × (n + heldCount y ≤ s .limit + heldCount x)
+-- it holds what it may, and counts and units that had its old ones in them are within the limit and the pool with its new ones: from what it held and what it holds
+pub record Stays (s : Settings) (v : Seen) (x y : Option Held) : Type 0 where
+  pub ok : heldOk s y ≡ true
+  pub counts : v .counts + heldCount y ≤ s .limit + heldCount x
+  pub units : v .units + heldUnits y ≤ mostUnits + heldUnits x
+
+-- what a call sees is within both
+abbrev Within : Settings → Seen → Type 0
+Within s v = (v .counts ≤ s .limit) × (v .units ≤ mostUnits)
 
 started-ok : (s : Settings) (v : Seen) (x : List ℕ) → StartPassed s v x
     → heldOk s (some (record { granularity = granularityOf x; count = length (rangesOf x); ranges = rangesOf x })) ≡ true
@@ -62,8 +72,9 @@ unfolding heldOk
 started-ok s v x p = rw (rangesOf-length x, p .granularity) (passes-all (listTests s (granularityOf x) (countOf x) (rangesOf x)) (p .list))
 
 -- a slot that holds the same
-stays-same : (s : Settings) (n : ℕ) (x y : Option Held) → y ≡ x → heldOk s x ≡ true → n ≤ s .limit → Stays s n x y
-stays-same s n x y q e h = (ap (heldOk s) q ∙ e, omega (arith, ap heldCount q))
+stays-same : (s : Settings) (v : Seen) (x y : Option Held) → y ≡ x → heldOk s x ≡ true → Within s v → Stays s v x y
+stays-same s v x y q e h =
+    record { ok = ap (heldOk s) q ∙ e; counts = omega (arith, ap heldCount q, h .0); units = omega (arith, ap heldUnits q, h .1) }
 
 -- a write and a report leave what is held
 wroteIn-held : (w : Write) (t : Marks) → heldOn ((wroteIn w t) .1) ≡ heldOn t
@@ -78,23 +89,23 @@ heldOk-none : (s : Settings) → heldOk s none ≡ true
 unfolding heldOk
 heldOk-none s = refl
 
-accepted-stays : (s : Settings) (v : Seen) (a : Arriving) (c : Slot) (o : Op) → Passed (order s v a o) → heldOk s (heldBy c) ≡ true → v .counts ≤ s .limit → Stays s (v .counts) (heldBy c) (heldBy ((accepted c o) .1))
+accepted-stays : (s : Settings) (v : Seen) (a : Arriving) (c : Slot) (o : Op) → Passed (order s v a o) → heldOk s (heldBy c) ≡ true → Within s v → Stays s v (heldBy c) (heldBy ((accepted c o) .1))
 unfolding order
 accepted-stays s v a c (start x) p e h =
     let q = startOrder-passed s v x p in
-    (started-ok s v x q, omega (arith, q .limit, rangesOf-length x))
-accepted-stays s v a c stop p e h = (heldOk-none s, omega arith)
-accepted-stays s v a c (write w) p e h = stays-same s (v .counts) (heldBy c) _ (wroteIn-held w (c .marks)) e h
-accepted-stays s v a c (receive x) p e h = stays-same s (v .counts) (heldBy c) _ (reportedIn-held (c .suspended) (length x) (c .marks)) e h
-accepted-stays s v a c (suspend kind) p e h = stays-same s (v .counts) (heldBy c) (heldBy c) refl e h
-accepted-stays s v a c resume p e h = stays-same s (v .counts) (heldBy c) (heldBy c) refl e h
-accepted-stays s v a c (part x) p e h = stays-same s (v .counts) (heldBy c) (heldBy c) refl e h
+    record { ok = started-ok s v x q; counts = omega (arith, q .limit, rangesOf-length x); units = omega (arith, q .room) }
+accepted-stays s v a c stop p e h = record { ok = heldOk-none s; counts = omega (arith, h .0); units = omega (arith, h .1) }
+accepted-stays s v a c (write w) p e h = stays-same s v (heldBy c) _ (wroteIn-held w (c .marks)) e h
+accepted-stays s v a c (receive x) p e h = stays-same s v (heldBy c) _ (reportedIn-held (c .suspended) (length x) (c .marks)) e h
+accepted-stays s v a c (suspend kind) p e h = stays-same s v (heldBy c) (heldBy c) refl e h
+accepted-stays s v a c resume p e h = stays-same s v (heldBy c) (heldBy c) refl e h
+accepted-stays s v a c (part x) p e h = stays-same s v (heldBy c) (heldBy c) refl e h
 
-slotStep-stays : (s : Settings) (v : Seen) (a : Arriving) (c : Slot) (o : Op) → heldOk s (heldBy c) ≡ true → v .counts ≤ s .limit
-    → Stays s (v .counts) (heldBy c) (heldBy ((slotStep s v a c o) .1))
+slotStep-stays : (s : Settings) (v : Seen) (a : Arriving) (c : Slot) (o : Op) → heldOk s (heldBy c) ≡ true → Within s v
+    → Stays s v (heldBy c) (heldBy ((slotStep s v a c o) .1))
 slotStep-stays s v a c o e h =
-    verdict-has (λ (r : Answer × Slot). Stays s (v .counts) (heldBy c) (heldBy (r .1))) (λ n i. (refused n i, c))
-    (λ n i. stays-same s (v .counts) (heldBy c) (heldBy c) refl e h) (order s v a o) (accepted c o)
+    verdict-has (λ (r : Answer × Slot). Stays s v (heldBy c) (heldBy (r .1))) (λ n i. (refused n i, c))
+    (λ n i. stays-same s v (heldBy c) (heldBy c) refl e h) (order s v a o) (accepted c o)
     (λ p. accepted-stays s v a c o p e h)
 
 -- W6: a state that is under way stays as it may be
@@ -135,11 +146,11 @@ slotStep-open s v a c o f g e =
 
 -- ---- the device
 
-sum-set : (cs : List Slot) (i : ℕ) (c : Slot)
-    → sum (map heldCount (map heldBy (set cs i c))) + heldCount (heldBy (getD cs i freshSlot)) ≤ sum (map heldCount (map heldBy cs)) + heldCount (heldBy c)
-sum-set [] i c = omega arith
-sum-set (x ∷ cs) zero c = omega arith
-sum-set (x ∷ cs) (suc i) c = omega (arith, sum-set cs i c)
+sum-set : (f : Option Held → ℕ) → f none ≡ 0 → (cs : List Slot) (i : ℕ) (c : Slot)
+    → sum (map f (map heldBy (set cs i c))) + f (heldBy (getD cs i freshSlot)) ≤ sum (map f (map heldBy cs)) + f (heldBy c)
+sum-set f z [] i c = omega (arith, z)
+sum-set f z (x ∷ cs) zero c = omega arith
+sum-set f z (x ∷ cs) (suc i) c = omega (arith, sum-set f z cs i c)
 
 all-heldBy : (s : Settings) (cs : List Slot) (i : ℕ) → all (heldOk s) (map heldBy cs) ≡ true → heldOk s (heldBy (getD cs i freshSlot)) ≡ true
 all-heldBy s [] i e = heldOk-none s
@@ -163,13 +174,14 @@ step-sound st k e = go (placeOf s (k .id))
         let w = arrivingAt st (some i) in
         let x = getD cs i freshSlot in
         let c : Slot = (slotStep s v w x (k .op)) .1 in
-        let stays = slotStep-stays s v w x (k .op) (all-heldBy s cs i (sound-held s (map heldBy cs) _ e)) (sound-limit s (map heldBy cs) _ e) in
-        let apart = sound-sequence s (map heldBy cs) _ e in
-        let opens = and-right (not (st .stray)) (all openOk cs) apart in
+        let stays = slotStep-stays s v w x (k .op) (all-heldBy s cs i (sound-held s (map heldBy cs) _ e)) (sound-limit s (map heldBy cs) _ e, sound-units s (map heldBy cs) _ e) in
+        let apart = sound-rest s (map heldBy cs) _ e in
+        let opens = and-right (not (st .amiss)) (all openOk cs) apart in
         sound-intro s (map heldBy (set cs i c)) _ (sound-settings s (map heldBy cs) _ e)
-        (rw (map-set heldBy cs i c) (all-set (heldOk s) (map heldBy cs) i (heldBy c) (sound-held s (map heldBy cs) _ e) (stays .0)))
-        (omega (arith, sum-set cs i c, stays .1))
-        (and-intro (not (st .stray)) (all openOk (set cs i c)) (and-left (not (st .stray)) (all openOk cs) apart)
+        (rw (map-set heldBy cs i c) (all-set (heldOk s) (map heldBy cs) i (heldBy c) (sound-held s (map heldBy cs) _ e) (stays .ok)))
+        (omega (arith, sum-set heldCount refl cs i c, stays .counts))
+        (omega (arith, sum-set heldUnits refl cs i c, stays .units))
+        (and-intro (not (st .amiss)) (all openOk (set cs i c)) (and-left (not (st .amiss)) (all openOk cs) apart)
         (all-set openOk cs i c opens (slotStep-open s v w x (k .op) refl refl (all-getD openOk cs i freshSlot refl opens))))
 
 pub after-sound : (ks : List Call) (st : State) → soundState st ≡ true → soundState (after st ks) ≡ true
@@ -178,9 +190,13 @@ after-sound (k ∷ ks) st e = after-sound ks ((step st k) .1) (step-sound st k e
 
 -- ---- a fresh device
 
-fresh-held : (s : Settings) (xs : List ℕ) → (all (heldOk s) (map heldBy (map (λ (i : ℕ). freshSlot) xs)) ≡ true) × (sum (map heldCount (map heldBy (map (λ (i : ℕ). freshSlot) xs))) ≤ 0)
-fresh-held s [] = (refl, omega arith)
-fresh-held s (x ∷ xs) = (and-intro (heldOk s none) _ (heldOk-none s) (fresh-held s xs .0), omega (arith, fresh-held s xs .1))
+fresh-held : (s : Settings) (xs : List ℕ) → all (heldOk s) (map heldBy (map (λ (i : ℕ). freshSlot) xs)) ≡ true
+fresh-held s [] = refl
+fresh-held s (x ∷ xs) = and-intro (heldOk s none) _ (heldOk-none s) (fresh-held s xs)
+
+pub fresh-sum : (f : Option Held → ℕ) → f none ≡ 0 → (xs : List ℕ) → sum (map f (map heldBy (map (λ (i : ℕ). freshSlot) xs))) ≡ 0
+fresh-sum f z [] = refl
+fresh-sum f z (x ∷ xs) = omega (arith, z, fresh-sum f z xs)
 
 fresh-closed-off : (xs : List ℕ) → all openOk (map (λ (i : ℕ). freshSlot) xs) ≡ true
 fresh-closed-off [] = refl
@@ -192,7 +208,8 @@ cleaned-ok s = rw (cleaned-identifiers s)
 
 opened-sound : (s : Settings) → settingsOk s ≡ true → soundState (opened s) ≡ true
 opened-sound s e =
-    sound-intro (cleaned s) _ _ (cleaned-ok s ∙ e) (fresh-held (cleaned s) (identifiersOf s) .0) (omega (arith, fresh-held (cleaned s) (identifiersOf s) .1)) (fresh-closed-off (identifiersOf s))
+    sound-intro (cleaned s) _ _ (cleaned-ok s ∙ e) (fresh-held (cleaned s) (identifiersOf s)) (omega (arith, fresh-sum heldCount refl (identifiersOf s)))
+    (omega (arith, fresh-sum heldUnits refl (identifiersOf s))) (fresh-closed-off (identifiersOf s))
 
 -- the closed device is unsound
 pub closed-unsound : soundState closed ≡ false

@@ -5,7 +5,7 @@ use mathlib.Core.Logic.{_≢_}
 use mathlib.Core.Bool.{Bool, true, false, cond}
 use mathlib.Core.List.{List, [], _∷_, _++_, map}
 use mathlib.Core.Option.{Option, none, some}
-use Prim.Native.Nat.{ℕ, zero, suc, _+_, _-_, _<_}
+use Prim.Native.Nat.{ℕ, zero, suc, _-_, _<_}
 use native.Mathlib.Omega.{arith}
 use lib.ListN.{length, take, getD, length-set, length-map, replicate}
 use lib.Seq.{getD-set-same, getD-set-other}
@@ -53,7 +53,7 @@ pub slotStep-unknown : (s : Settings) (v : Seen) (a : Arriving) (c : Slot) (o : 
 unfolding order
 slotStep-unknown s v a c o e r = go o (v .sound)
   where
-    go : (o : Op) (b : Bool) → slotStep s (record { sound = b; known = v .known; suspended = v .suspended; tracked = v .tracked; counts = v .counts }) a c o ≡ (refused (cond b 2 1) 0, c)
+    go : (o : Op) (b : Bool) → slotStep s (record { sound = b; known = v .known; suspended = v .suspended; tracked = v .tracked; counts = v .counts; units = v .units }) a c o ≡ (refused (cond b 2 1) 0, c)
     go (start x) true = rw e
     go (start x) false = refl
     go stop true = rw e
@@ -151,7 +151,7 @@ fresh-has P s words o c = verdict-has P (λ n i. closed) (λ n i. c) (freshOrder
 pub fresh-sized : (s : Settings) (words : ℕ) → Sized (fresh s words)
 fresh-sized s words = fresh-has Sized s words (length-map (identifiersOf s) (λ (i : ℕ). freshSlot) ∙ ap length (sym (cleaned-identifiers s))) refl
 
-fresh-slots : (xs : List ℕ) (p : Option ℕ) (s : Settings) → slotAt (record { settings = s; slots = map (λ (i : ℕ). freshSlot) xs; stray = false }) p ≡ freshSlot
+fresh-slots : (xs : List ℕ) (p : Option ℕ) (s : Settings) → slotAt (record { settings = s; slots = map (λ (i : ℕ). freshSlot) xs; amiss = false }) p ≡ freshSlot
 fresh-slots xs none s = refl
 fresh-slots [] (some i) s = refl
 fresh-slots (x ∷ xs) (some zero) s = refl

@@ -12,7 +12,7 @@ use lib.Pow.{pow-add, pow-mono, shl-lt}
 use Rattle.little.specs.Little.{numberAt, numberBytes, records, recordsAt}
 use Rattle.rules.specs.Settings.{settingsOk, placeOf, granularityOk, unitSize}
 use Rattle.rules.specs.Units.{Unit, Write, units, touches}
-use Rattle.rules.specs.Ranges.{rangeTests, powersOk, unitsOk}
+use Rattle.rules.specs.Ranges.{rangeTests, powersOk}
 use Rattle.rules.specs.StartData.{rangesOf, startBytes}
 use Rattle.rules.specs.Report.{reportBytes}
 use Rattle.rules.specs.Order.{Op, order}
@@ -151,7 +151,7 @@ granularity g h =
 -- ---- the worked numbers
 
 pub worked : Worked
-unfolding cases settingsOk placeOf granularityOk rangeTests powersOk unitsOk rangesOf startBytes stateOk fresh step order sound heldOk numberAt numberBytes records recordsAt
+unfolding cases settingsOk placeOf granularityOk rangeTests powersOk rangesOf startBytes stateOk fresh step order sound heldOk numberAt numberBytes records recordsAt
 worked = refl
 
 pub worked-states : WorkedStates

@@ -17,7 +17,8 @@ use Rattle.rules.specs.StartData.{noRange, startSize, startBytes, startD
 use Rattle.rules.specs.Report.{follows, runs, Descriptor, descriptor, Report, room, reportOn, marksLeft}
 use Rattle.rules.specs.ReportReader.{reportSize, bit, reportRefusal, reportSuspended, reportMore, reportIdentifier, reportGranularity, reportCount, reportRefusalAt, reportAddress, reportLength}
 use Rattle.rules.specs.Order.{Op, start, stop, write, receive, suspend, resume, freshOrder, part}
-use Rattle.rules.specs.Device.{heldOk}
+use Rattle.rules.specs.Device.{heldOk, noShare, sharesOk}
+use Rattle.rules.specs.declared.Share.{Share}
 use Rattle.rules.specs.Machine.{refused, on, pendingIn, State, fresh, soundState, slotOf, Call, step, after, events, lent, stored, numberOf, newlyOf, noReport, reportOf, assembledOf}
 use Rattle.rules.specs.History.{Did, only, historyOf, PendingBy, lists, slotBy}
 use Rattle.rules.specs.declared.Range.{Range}
@@ -58,8 +59,8 @@ pub data Breaks (g : ℕ) (r : Range) : ℕ → Type 0 where
 abbrev pub Rowless : ℕ → ℕ → Type 0
 Rowless number row = ((number < 18) ⊎ (21 < number)) × (row ≡ 0)
 
--- number and row of a start on ranges rs that breaks nothing before their rules, with so many counts tracked now
-pub record Names (s : Settings) (counts g : ℕ) (rs : List Range) (number row : ℕ) : Type 0 where
+-- number and row of a start on ranges rs that breaks nothing before their rules, with so many counts and units tracked now
+pub record Names (s : Settings) (counts held g : ℕ) (rs : List Range) (number row : ℕ) : Type 0 where
   pub count : (length rs ≡ 0) ⊎ (16 < length rs) → (number ≡ 18) × (row ≡ 0)
   -- the earliest row that breaks a rule: those before it are good
   pub rule : (i k : ℕ) → length rs ≤ 16 → i < length rs → ((j : ℕ) → j < i → Good g (getD rs j noRange)) → Breaks g (getD rs i noRange) k
@@ -67,15 +68,25 @@ pub record Names (s : Settings) (counts g : ℕ) (rs : List Range) (number row :
   pub none : 1 ≤ length rs → length rs ≤ 16 → ((j : ℕ) → j < length rs → Good g (getD rs j noRange)) → Rowless number row
   -- behind the rows 10, 11 and 12 answer, and nothing else
   pub behind : 1 ≤ length rs → length rs ≤ 16 → ((j : ℕ) → j < length rs → Good g (getD rs j noRange))
-      → number ≡ refusal ((powersOk s rs else 10) ∷ (leb (length (units g rs)) 4096 else 11) ∷ (leb (length rs + counts) (s .limit) else 12) ∷ [])
+      → number ≡ refusal ((powersOk s rs else 10) ∷ (leb (length (units g rs) + held) 16384 else 11) ∷ (leb (length rs + counts) (s .limit) else 12) ∷ [])
 
--- what soundness asks of a tracked controller is what a start asks: 7, 18 to 21, 10 and 11
+-- what soundness asks of a tracked controller by itself is what a start asks: 7, 18 to 21 and 10
 pub record Lawful (s : Settings) (g n : ℕ) (rs : List Range) : Type 0 where
   pub granularity : (s .least ≤ g) × (g ≤ s .greatest)
   pub count : (1 ≤ n) × (n ≤ 16)
   pub rows : (j : ℕ) → j < length rs → Good g (getD rs j noRange)
   pub powers : powersOk s rs ≡ true
-  pub units : length (units g rs) ≤ 4096
+
+-- W7: what it asks of the shares: none that has bits leaves the pool, and no two of them overlap
+pub record Lying (shares : List Share) : Type 0 where
+  pub inside : (i : ℕ) → i < length shares → let a = getD shares i noShare in 1 ≤ a .size → a .base + a .size ≤ 16384
+  pub apart : (i j : ℕ) → i < length shares → j < length shares → i ≢ j
+      → let a = getD shares i noShare in
+      let b = getD shares j noShare in
+      1 ≤ a .size → 1 ≤ b .size → (a .base + a .size ≤ b .base) ⊎ (b .base + b .size ≤ a .base)
+
+abbrev pub Lie : Type 0
+Lie = (shares : List Share) → (sharesOk shares ≡ true) ↔ Lying shares
 
 abbrev pub Held : Type 0
 Held = (s : Settings) (g n : ℕ) (rs : List Range) → (heldOk s (some (record { granularity = g; count = n; ranges = rs })) ≡ true) ↔ Lawful s g n rs
@@ -250,10 +261,10 @@ pub record ReadBack (id : ℕ) (r : Report) (x : List ℕ) : Type 0 where
 
 -- ---- demand 3
 
--- the refusals of a call that tell of what controllers share: of a start the descriptor limit, of a part of a state that another's is under way (W6), and of no
+-- the refusals of a call that tell of what controllers share: of a start the pool (W7) and the descriptor limit, of a part of a state that another's is under way (W6), and of no
 -- other call any
 abbrev pub sharedRefusals : Op → List ℕ
-sharedRefusals (start x) = 12 ∷ []
+sharedRefusals (start x) = 11 ∷ 12 ∷ []
 sharedRefusals stop = []
 sharedRefusals (write w) = []
 sharedRefusals (receive x) = []

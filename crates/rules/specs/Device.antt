@@ -1,14 +1,15 @@
 -- Document 01, "Refusal numbers": when a record is sound (refusal 1), a fresh device and the closed one. Unused places are not looked at, and
 -- fresh fills them with zeros.
 use Prim.Native.Nat.{ℕ, _+_, _-_, _%_}
-use mathlib.Core.Bool.{Bool, true, false, _&&_}
+use mathlib.Core.Bool.{Bool, true, false, _&&_, _||_}
 use mathlib.Core.List.{List, [], _∷_, _++_, map}
 use mathlib.Core.Option.{Option, none, some}
 use lib.Dec.{leb, eqb}
 use lib.ListN.{length, take, getD, replicate}
 use Rattle.rules.specs.Lists.{all, every, sum}
 use Rattle.rules.specs.Refusals.{_else_, passes, verdict}
-use Rattle.rules.specs.Settings.{settingsOk, granularityOk, identifiersOf, placeOf}
+use Rattle.rules.specs.Settings.{mostUnits, settingsOk, granularityOk, identifiersOf, placeOf}
+use Rattle.rules.specs.Units.{units}
 use Rattle.rules.specs.Ranges.{listTests}
 use Rattle.rules.specs.StartData.{placed}
 use Rattle.rules.specs.ControllerState.{stateMost}
@@ -16,6 +17,7 @@ use Rattle.rules.specs.Order.{freshOrder}
 use Rattle.rules.specs.declared.Range.{Range}
 use Rattle.rules.specs.declared.Tracking.{Tracking}
 use Rattle.rules.specs.declared.Tracking.the-variants.{Off, On}
+use Rattle.rules.specs.declared.Share.{Share}
 use Rattle.rules.specs.declared.Sequence.{Sequence}
 use Rattle.rules.specs.declared.Sequence.the-variants.{Nothing, Open}
 use Rattle.rules.specs.declared.Controller.{Controller}
@@ -30,7 +32,7 @@ pub record Held : Type 0 where
   pub count : ℕ
   pub ranges : List Range
 
--- whether a controller is not tracked, or its granularity and ranges pass 7, 18 to 21, 10 and 11
+-- whether a controller is not tracked, or its granularity and ranges pass 7, 18 to 21 and 10
 unfoldable pub heldOk : Settings → Option Held → Bool
 heldOk s none = true
 heldOk s (some h) = passes ((granularityOk s (h .granularity) else 7) ∷ listTests s (h .granularity) (h .count) (h .ranges))
@@ -40,21 +42,43 @@ abbrev pub heldCount : Option Held → ℕ
 heldCount none = 0
 heldCount (some h) = h .count
 
+-- how many different units they have
+abbrev pub heldUnits : Option Held → ℕ
+heldUnits none = 0
+heldUnits (some h) = length (units (h .granularity) (h .ranges))
+
+-- W7: a share of the pool that has no bits is nowhere
+abbrev pub noShare : Share
+noShare = record { base = 0; size = 0 }
+
+-- a share does not leave the pool, and two do not overlap
+abbrev pub isInside : Share → Bool
+isInside a = eqb (a .size) 0 || leb (a .base + a .size) mostUnits
+
+abbrev pub areApart : Share → Share → Bool
+areApart a b = (eqb (a .size) 0 || eqb (b .size) 0) || (leb (a .base + a .size) (b .base) || leb (b .base + b .size) (a .base))
+
+unfoldable pub sharesOk : List Share → Bool
+sharesOk [] = true
+sharesOk (a ∷ as′) = isInside a && (all (areApart a) as′ && sharesOk as′)
+
 -- W6: so many bytes can be there of a state that is not whole yet: "whole dwords, 4 to 4,096 bytes"
 abbrev pub frontOk : ℕ → Bool
 frontOk n = leb 4 n && (leb n stateMost && eqb (n % 4) 0)
 
--- the settings pass 16, each controller holds what it may, the counts together are within the limit, and an open sequence is as it may be
+-- the settings pass 16, each controller holds what it may, the counts together are within the limit and the units together within the pool, and an open sequence and
+-- the shares are as they may be
 abbrev pub soundRules : Settings → List (Option Held) → Bool → List Bool
-soundRules s hs sequence =
+soundRules s hs rest =
     settingsOk s
     ∷ all (heldOk s) hs
     ∷ leb (sum (map heldCount hs)) (s .limit)
-    ∷ sequence
+    ∷ leb (sum (map heldUnits hs)) mostUnits
+    ∷ rest
     ∷ []
 
 unfoldable pub sound : Settings → List (Option Held) → Bool → Bool
-sound s hs sequence = every (soundRules s hs sequence)
+sound s hs rest = every (soundRules s hs rest)
 
 -- ---- the record
 
@@ -66,9 +90,17 @@ heldIn (On g n) rs = some (record { granularity = g; count = n; ranges = take n 
 abbrev pub heldOf : Controller → Option Held
 heldOf c = heldIn (c .tracking) (c .ranges)
 
+-- its share: one that is not tracked has none, whatever its base
+abbrev pub shareIn : ℕ → Option Held → Share
+shareIn base none = noShare
+shareIn base (some h) = record { base = base; size = heldUnits (some h) }
+
+abbrev pub shareOf : Controller → Share
+shareOf c = shareIn (c .base) (heldOf c)
+
 -- a controller that is neither tracked nor suspended
 abbrev pub freshController : Controller
-freshController = record { tracking = Off; suspended = false; ranges = placed [] }
+freshController = record { tracking = Off; base = 0; suspended = false; ranges = placed [] }
 
 -- the controllers in use
 abbrev pub controllersOf : Device → List Controller
@@ -84,9 +116,14 @@ abbrev pub sequenceOk : Settings → List Controller → Sequence → Bool
 sequenceOk s cs Nothing = true
 sequenceOk s cs (Open owner end) = suspendedAt cs (placeOf s owner) && frontOk end
 
+-- W7: the shares of its eight places; one that is not in use has none
+abbrev pub sharesOf : Device → List Share
+sharesOf d = map shareOf (controllersOf d) ++ replicate (8 - d .settings .count) noShare
+
 -- whether a record is sound
 abbrev pub soundDevice : Device → Bool
-soundDevice d = sound (d .settings) (map heldOf (controllersOf d)) (sequenceOk (d .settings) (controllersOf d) (d .sequence))
+soundDevice d =
+    sound (d .settings) (map heldOf (controllersOf d)) (sequenceOk (d .settings) (controllersOf d) (d .sequence) && sharesOk (sharesOf d))
 
 -- ---- fresh
 

@@ -14,7 +14,7 @@ use Rattle.rules.specs.Units.{Unit, Write, units, clear, mark, newly, pe
 use Rattle.rules.specs.StartData.{granularityOf, rangesOf}
 use Rattle.rules.specs.Report.{Report, room, reportOn, marksLeft, reportBytes}
 use Rattle.rules.specs.Order.{Op, start, stop, write, receive, suspend, resume, part, Part, isLast, joinedWith, Seen, Arriving, freshOrder, order}
-use Rattle.rules.specs.Device.{Held, heldCount, frontOk, sound, cleaned, closedSettings}
+use Rattle.rules.specs.Device.{Held, heldCount, heldUnits, frontOk, sound, cleaned, closedSettings}
 use Rattle.rules.specs.declared.Range.{Range}
 use Rattle.rules.specs.declared.Settings.{Settings}
 
@@ -127,28 +127,32 @@ slotStep s v w c o = verdict (order s v w o) (accepted c o) (λ n i. (refused n 
 
 -- ---- the device
 
--- `stray`: a state arrives for a controller that the settings lack, which no calls from a fresh device lead to
+-- `amiss`: a state arrives for a controller that the settings lack, or shares overlap or leave the pool (W7), which no calls from a fresh device lead to
 pub record State : Type 0 where
   pub settings : Settings
   pub slots : List Slot
-  pub stray : Bool
+  pub amiss : Bool
 
 abbrev pub closed : State
-closed = record { settings = closedSettings; slots = []; stray = false }
+closed = record { settings = closedSettings; slots = []; amiss = false }
 
 -- the device that fresh makes of settings and a number of mark words (a refused one is closed)
 abbrev pub opened : Settings → State
-opened s = record { settings = cleaned s; slots = map (λ (i : ℕ). freshSlot) (identifiersOf s); stray = false }
+opened s = record { settings = cleaned s; slots = map (λ (i : ℕ). freshSlot) (identifiersOf s); amiss = false }
 
 unfoldable pub fresh : Settings → ℕ → State
 fresh s words = verdict (freshOrder s words) (opened s) (λ n i. closed)
 
 abbrev pub soundState : State → Bool
-soundState st = sound (st .settings) (map heldBy (st .slots)) (not (st .stray) && all openOk (st .slots))
+soundState st = sound (st .settings) (map heldBy (st .slots)) (not (st .amiss) && all openOk (st .slots))
 
 -- the counts of all controllers now tracked
 abbrev pub countsIn : State → ℕ
 countsIn st = sum (map heldCount (map heldBy (st .slots)))
+
+-- and their different units
+abbrev pub unitsIn : State → ℕ
+unitsIn st = sum (map heldUnits (map heldBy (st .slots)))
 
 -- the slot at a place, and a device with it replaced
 abbrev pub slotAt : State → Option ℕ → Slot
@@ -157,7 +161,7 @@ slotAt st (some i) = getD (st .slots) i freshSlot
 
 abbrev pub withSlot : State → Option ℕ → Slot → State
 withSlot st none c = st
-withSlot st (some i) c = record { settings = st .settings; slots = set (st .slots) i c; stray = st .stray }
+withSlot st (some i) c = record { settings = st .settings; slots = set (st .slots) i c; amiss = st .amiss }
 
 -- the slot of a controller
 abbrev pub slotOf : State → ℕ → Slot
@@ -172,6 +176,7 @@ seenAt st i =
       suspended = isSuspended (slotAt st i);
       tracked = isTracked (slotAt st i);
       counts = countsIn st;
+      units = unitsIn st;
     }
 
 -- whether a state is under way in another slot than that at a place

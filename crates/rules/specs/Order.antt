@@ -7,8 +7,8 @@ use mathlib.Core.Option.{Option, none, some}
 use lib.Dec.{leb, ltb, eqb}
 use lib.ListN.{length}
 use Rattle.rules.specs.Refusals.{Test, _else_}
-use Rattle.rules.specs.Settings.{markWords, mostNotes, settingsOk, granularityOk}
-use Rattle.rules.specs.Units.{Write}
+use Rattle.rules.specs.Settings.{markWords, mostUnits, mostNotes, settingsOk, granularityOk}
+use Rattle.rules.specs.Units.{Write, units}
 use Rattle.rules.specs.Ranges.{listTests}
 use Rattle.rules.specs.StartData.{headerTests, rangesThere, granularityOf, countOf, rangesOf}
 use Rattle.rules.specs.ControllerState.{stateMost, stateOk}
@@ -33,13 +33,14 @@ pub data Op : Type 0 where
   part : Part → Op
 
 -- what a call sees of its device: whether the record is sound and the marks are there, whether the identifier is in the settings (the manager's
--- own never is in sound ones), how its controller stands, and the counts of all controllers now tracked, together
+-- own never is in sound ones), how its controller stands, and the counts of all controllers now tracked, and their different units (W7), together
 pub record Seen : Type 0 where
   pub sound : Bool
   pub known : Bool
   pub suspended : Bool
   pub tracked : Bool
   pub counts : ℕ
+  pub units : ℕ
 
 -- W6: what a part sees beside that: whether the lent area has its bytes, whether a sequence of another controller is open, and the bytes of its own, if one is
 pub record Arriving : Type 0 where
@@ -65,7 +66,7 @@ startWho v =
     ∷ (not (v .tracked) else 3)
     ∷ []
 
--- the structure behind its header, by itself: 7, 8 (listed ranges), 18 to 21 with their rows (W3), 10, 11
+-- the structure behind its header, by itself: 7, 8 (listed ranges), 18 to 21 with their rows (W3), 10
 abbrev pub startListed : Settings → List ℕ → List Test
 startListed s x =
     (granularityOk s (granularityOf x) else 7)
@@ -76,12 +77,15 @@ startListed s x =
 abbrev pub startOwn : Settings → Seen → List ℕ → List Test
 startOwn s v x = startWho v ++ (headerTests x ++ startListed s x)
 
--- what controllers share, with so many counts tracked now: 12
-abbrev pub startShared : Settings → ℕ → List ℕ → List Test
-startShared s counts x = (leb (countOf x + counts) (s .limit) else 12) ∷ []
+-- what controllers share, with so many counts and units tracked now: 11, "exactly if the request and all tracked units together pass 16,384" (W7), and 12
+abbrev pub startShared : Settings → ℕ → ℕ → List ℕ → List Test
+startShared s counts held x =
+    (leb (length (units (granularityOf x) (rangesOf x)) + held) mostUnits else 11)
+    ∷ (leb (countOf x + counts) (s .limit) else 12)
+    ∷ []
 
 abbrev pub startOrder : Settings → Seen → List ℕ → List Test
-startOrder s v x = startOwn s v x ++ startShared s (v .counts) x
+startOrder s v x = startOwn s v x ++ startShared s (v .counts) (v .units) x
 
 -- ---- the other calls
 

@@ -1,4 +1,4 @@
--- Document 01, "The start structure", range rules, and the rules 10 and 11 of the same ranges. W3: each of the range rules has a number of its own, 18 to 21,
+-- Document 01, "The start structure", range rules, and rule 10 of the same ranges. W3: each of the range rules has a number of its own, 18 to 21,
 -- and names the row that it is about, counted from 0, the earliest row first.
 use Prim.Native.Nat.{ℕ, suc, _%_, _^_}
 use mathlib.Core.Bool.{Bool, _||_, not}
@@ -7,8 +7,8 @@ use lib.Dec.{leb, eqb}
 use lib.ListN.{length}
 use Rattle.rules.specs.Lists.{all, someBelow}
 use Rattle.rules.specs.Refusals.{Test, _else_, _place_, passes}
-use Rattle.rules.specs.Settings.{mostUnits, unitSize}
-use Rattle.rules.specs.Units.{endOf, units}
+use Rattle.rules.specs.Settings.{unitSize}
+use Rattle.rules.specs.Units.{endOf}
 use Rattle.rules.specs.declared.Range.{Range}
 use Rattle.rules.specs.declared.Settings.{Settings}
 
@@ -48,10 +48,6 @@ isPower n = someBelow 32 (λ k. eqb n (2 ^ k))
 unfoldable pub powersOk : Settings → List Range → Bool
 powersOk s rs = not (s .powers) || all (λ (r : Range). isPower (r .length)) rs
 
--- 11: at most so many different units
-unfoldable pub unitsOk : ℕ → List Range → Bool
-unitsOk g rs = leb (length (units g rs)) mostUnits
-
--- 18 to 21, 10 and 11
+-- 18 to 21, and 10
 abbrev pub listTests : Settings → ℕ → ℕ → List Range → List Test
-listTests s g n rs = rangeTests g n rs ++ (powersOk s rs else 10) ∷ (unitsOk g rs else 11) ∷ []
+listTests s g n rs = rangeTests g n rs ++ (powersOk s rs else 10) ∷ []

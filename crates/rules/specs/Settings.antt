@@ -40,20 +40,13 @@ granularityOk s g = leb (s .least) g && leb g (s .greatest)
 
 -- ---- sizes
 
--- the lent words of marks
+-- the lent words of marks: one pool (W7)
 abbrev pub markWords : ℕ
-markWords = 512
+markWords = 256
 
--- the most units that a controller's ranges may have
+-- the most units that all tracked controllers may have together: a bit of the pool each
 abbrev pub mostUnits : ℕ
-mostUnits = 4096
-
--- the controllers have 64 words each, in their order in the settings: the bits of a share, and the first bit of the share of the controller at a place
-abbrev pub shareSize : ℕ
-shareSize = 4096
-
-abbrev pub shareAt : ℕ → ℕ
-shareAt i = shareSize * i
+mostUnits = 16384
 
 -- the most records of a batch (W4)
 abbrev pub mostNotes : ℕ

@@ -6,11 +6,10 @@ use mathlib.Core.Path.{_≡_}
 use mathlib.Core.Bool.{Bool, true, false}
 use mathlib.Core.List.{List, [], _∷_, _++_, map}
 use lib.ListN.{take, drop, replicate, set}
-use Rattle.rules.specs.Settings.{markWords}
 use Rattle.rules.specs.StartData.{startBytes}
 use Rattle.rules.specs.Report.{Descriptor}
 use Rattle.rules.specs.ControllerState.{stateOk}
-use Rattle.rules.specs.Order.{start, write, receive, suspend, resume, part}
+use Rattle.rules.specs.Order.{start, stop, write, receive, suspend, resume, part}
 use Rattle.rules.specs.Machine.{Answer, refused, done, wrote, reported, assembled, Call, Event, events, fresh}
 use Rattle.rules.specs.declared.Range.{Range}
 use Rattle.rules.specs.declared.Settings.{Settings}
@@ -114,6 +113,17 @@ cases =
     ∷ case (starts 0 (range 4097 0 ∷ []) ∷ starts 0 (range (2 ^ 64 - 1) 0 ∷ []) ∷ starts 0 (range (2 ^ 64 - 1) 1 ∷ []) ∷ []) (refused 19 0 ∷ refused 19 0 ∷ refused 20 0 ∷ [])
     -- all of it before the power-of-two rule, and behind the granularity, which name no row
     ∷ record { powers = true; calls = starts 0 (range 65536 3 ∷ range 4096 0 ∷ []) ∷ starts 9 (range 0 0 ∷ []) ∷ []; answers = refused 19 1 ∷ refused 7 0 ∷ [] }
+    -- W7: 16,384 units in all, whoever has them: 11 before 12, and none after a stop
+    ∷ case
+    (starts 0 (range 0 16384 ∷ range 0 16384 ∷ []) ∷ otherStarts 0 (range 0 1 ∷ []) ∷ otherStarts 0 (singles 0 16) ∷ record { id = 5; op = stop } ∷ otherStarts 0 (range 0 16384 ∷ []) ∷ [])
+    (done ∷ refused 11 0 ∷ refused 11 0 ∷ done ∷ done ∷ [])
+    ∷ case (starts 0 (range 0 16385 ∷ []) ∷ starts 0 (range 0 4097 ∷ []) ∷ otherStarts 0 (range 0 12288 ∷ []) ∷ otherStarts 0 (range 0 12287 ∷ []) ∷ [])
+    (refused 11 0 ∷ done ∷ refused 11 0 ∷ done ∷ [])
+    -- tracked units are different ones too: those of ranges listed twice count once
+    ∷ case (starts 0 (range 0 8192 ∷ range 0 8192 ∷ []) ∷ otherStarts 0 (range 0 8193 ∷ []) ∷ otherStarts 0 (range 0 8192 ∷ []) ∷ []) (done ∷ refused 11 0 ∷ done ∷ [])
+    -- the room of one that stopped is used again, in front of another
+    ∷ case (starts 0 (range 0 8192 ∷ []) ∷ otherStarts 0 (range 0 8192 ∷ []) ∷ record { id = 5; op = stop } ∷ starts 0 (range 0 8193 ∷ []) ∷ starts 0 (range 0 8192 ∷ []) ∷ [])
+    (done ∷ done ∷ done ∷ refused 11 0 ∷ done ∷ [])
     -- W6: 13 for one that runs; a header alone is a state, and 4 bytes less or more are none
     ∷ case (sends 5 3 0 12 (zeros 48) ∷ suspends 5 ∷ sends 5 3 0 12 (zeros 48) ∷ sends 5 3 0 11 (zeros 44) ∷ sends 5 3 0 13 (zeros 52) ∷ [])
     (refused 13 0 ∷ done ∷ assembled (zeros 48) ∷ refused 27 0 ∷ refused 27 0 ∷ [])
@@ -170,7 +180,7 @@ settings powers =
 
 -- what the rules answer
 abbrev pub answered : Case → List Answer
-answered c = map (λ (e : Event). e .answer) (events (fresh (settings (c .powers)) markWords) (c .calls))
+answered c = map (λ (e : Event). e .answer) (events (fresh (settings (c .powers)) 256) (c .calls))
 
 -- each case is answered as the document says
 abbrev pub Worked : Type 0

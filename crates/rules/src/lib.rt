@@ -4,11 +4,11 @@ ghost use mathlib.Core.Path.{_≡_};
 ghost use lib.ListN.{replicate};
 ghost use Rattle.rules.specs.StartData.{noRange};
 
-// The lent words of marks.
-pub const MARK_WORDS: usize = 512;
+// The lent words of marks: one pool.
+pub const MARK_WORDS: usize = 256;
 
-// The most units that a controller's ranges may have.
-pub const MOST_UNITS: u64 = 4096;
+// The most units that the ranges of all tracked controllers may have together, a bit of the pool each.
+pub const MOST_UNITS: u64 = 16384;
 
 // The most records of a batch.
 pub const MOST_NOTES: usize = 1024;
@@ -34,11 +34,19 @@ pub enum Tracking {
     On(u8, u8),
 }
 
-// A migratable controller. Of its ranges the first so many are in use as its tracking says; of one that is off, none.
+// A migratable controller. Its marks stand from bit `base` of the pool on, and of its ranges the first so many are in use as its tracking says; of one that is off,
+// neither is looked at.
 pub struct Controller {
     pub tracking: Tracking,
+    pub base: u16,
     pub suspended: bool,
     pub ranges: [Range; 16],
+}
+
+// Where a controller's marks lie in the pool: as many bits as it has units, from its base on. A share of no bits is nowhere.
+pub struct Share {
+    pub base: usize,
+    pub size: usize,
 }
 
 // The settings. Of the identifiers the first `count` are in use.

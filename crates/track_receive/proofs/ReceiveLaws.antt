@@ -11,7 +11,7 @@ use Rattle.bits.specs.Share.{getShare, putShare}
 use Rattle.bits.proofs.Pack.{pack-only}
 use Rattle.little.specs.Little.{put}
 use Rattle.report_data.proofs.Blocks.{report-done}
-use Rattle.rules.specs.Settings.{shareAt, placeOf}
+use Rattle.rules.specs.Settings.{placeOf}
 use Rattle.rules.specs.Units.{Unit, units, pending}
 use Rattle.rules.specs.Report.{runs, Report, descriptor, room, reportOn, reportHeader, reportedRuns, marksLeft}
 use Rattle.rules.specs.Order.{receiveOrder}
@@ -69,7 +69,7 @@ module _ (d : Device) (ws : List ℕ) (id : ℕ) (x : List ℕ) where
       us = units g (take n (getD (d .controllers) i noController .ranges))
 
       abbrev p : List Bool
-      p = marksAt ws (shareAt i) (length us)
+      p = marksAt ws (getD (d .controllers) i noController .base) (length us)
 
       abbrev b : Bool
       b = getD (d .controllers) i noController .suspended
@@ -77,13 +77,13 @@ module _ (d : Device) (ws : List ℕ) (id : ℕ) (x : List ℕ) where
       abbrev k : ℕ
       k = room (length x)
 
-      receive-on : 32 ≤ length x → receiveReceipt d ws id x ≡ reportIn ws (shareAt i) id b g us p x
+      receive-on : 32 ≤ length x → receiveReceipt d ws id x ≡ reportIn ws (getD (d .controllers) i noController .base) id b g us p x
       unfolding receiveReceipt
       receive-on h = rw (l .place, l .seen, t, le-leb 32 (length x) h)
 
       -- what is listed, with the header, is the report
       pub receive-done : 32 ≤ length x → (ws′ x′ x″ : List ℕ) (runs : ℕ) (more : Bool)
-          → Lists g (take n (getD (d .controllers) i noController .ranges)) (flat ws) (shareAt i) x k runs more (flat ws′) x′
+          → Lists g (take n (getD (d .controllers) i noController .ranges)) (flat ws) (getD (d .controllers) i noController .base) x k runs more (flat ws′) x′
           → Words ws′ → length ws′ ≡ length ws → x″ ≡ put x′ 0 (reportHeader id b more runs g)
           → Receives (receiveReceipt d ws id x) (record { number = 0; suspended = b; more = more; granularity = g; runs = runs }) ws′ x″
       unfolding withMarks
@@ -91,6 +91,6 @@ module _ (d : Device) (ws : List ℕ) (id : ℕ) (x : List ℕ) where
           let r : Report = reportOn b g k us p in
           let c : runs ≡ length (r .descriptors) = s .count-is ∙ sym (length-map (reportedRuns k us p) descriptor) in (
             ap₂ (λ a z. record { number = 0; suspended = b; more = a; granularity = g; runs = z }) (s .more-is) c ∙ sym (ap (λ (y : Receipt). y .answer) (receive-on h)),
-            pack-only (length ws) ws′ (putShare (flat ws) (shareAt i) (marksLeft k us p)) m f (s .bits-are) ∙ sym (ap (λ (y : Receipt). y .marks) (receive-on h)),
+            pack-only (length ws) ws′ (putShare (flat ws) (getD (d .controllers) i noController .base) (marksLeft k us p)) m f (s .bits-are) ∙ sym (ap (λ (y : Receipt). y .marks) (receive-on h)),
             report-done id r x x′ x″ runs c (s .bytes-are) (q ∙ ap (λ a. put x′ 0 (reportHeader id b a runs g)) (s .more-is)) ∙ sym (ap (λ (y : Receipt). y .buffer) (receive-on h)),
           )

@@ -42,10 +42,10 @@ pub fn receive(d: Device, marks: &mut [u64], id: u16, buffer: &mut [u8]) -> Rece
     if size < 32 {
         return nothing(8);
     }
-    let ranges = c.ranges;
+    let ranges = calls::ranges_of(c);
     let listed = scan::list_runs(
         marks,
-        calls::share_at(i),
+        c.base as usize,
         g,
         n as usize,
         ranges,

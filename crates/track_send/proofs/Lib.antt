@@ -1,2 +1,3 @@
+pub mod PackLaws
 pub mod StartedLaws
 pub mod StopLaws

@@ -4,7 +4,7 @@ use mathlib.Core.Logic.{_≢_}
 use mathlib.Core.Bool.{true, false}
 use mathlib.Core.List.{List, [], _∷_, _++_}
 use mathlib.Core.Option.{some}
-use Prim.Native.Nat.{ℕ, _+_, _*_, _≤_, _<_}
+use Prim.Native.Nat.{ℕ, _+_, _-_, _*_, _≤_, _<_}
 use native.Mathlib.Omega.{arith}
 use lib.Dec.{leb}
 use lib.ListN.{length, getD, take, drop, replicate}
@@ -13,8 +13,9 @@ use Rattle.little.specs.Little.{recordsAt}
 use Rattle.little.proofs.Put.{put-take-front}
 use Rattle.little.proofs.Records.{recordsAt-length}
 use Rattle.rules.specs.Refusals.{Test, _else_, verdict, refusal, placeIn, refusalAt, passes}
-use Rattle.rules.specs.Settings.{shareAt, placeOf, granularityOk}
-use Rattle.rules.specs.Ranges.{rangeTests, listTests}
+use Rattle.rules.specs.Settings.{mostUnits, placeOf, granularityOk}
+use Rattle.rules.specs.Units.{units}
+use Rattle.rules.specs.Ranges.{rowsOk, rowsTests, rangeTests, listTests}
 use Rattle.rules.specs.StartData.{granularityOf, countOf, rangesOf, rangeAt, startSize, headerOf, noRange, placed}
 use Rattle.rules.specs.Order.{startListed, startShared, startOrder}
 use Rattle.rules.specs.declared.Device.{Device}
@@ -23,40 +24,42 @@ use Rattle.rules.specs.declared.Settings.{Settings}
 use Rattle.rules.specs.declared.Tracking.the-variants.{Off, On}
 use Rattle.rules.specs.declared.Header.the-variants as header
 use Rattle.rules.proofs.ListLaws.{All, All-append}
-use Rattle.rules.proofs.RefusalLaws.{Passed, passes-Passed, refusal-none, refusalAt-is, verdict-first, verdict-rest, verdict-passed, verdict-refused}
-use Rattle.record.specs.Record.{noController, withController, whereIs, seenIn, countsOf}
+use Rattle.rules.proofs.RefusalLaws.{Passed, Passed-left, Passed-right, passes-all, passes-Passed, refusal-none, refusalAt-is, verdict-first, verdict-rest, verdict-passed, verdict-refused}
+use Rattle.rules.proofs.RowLaws.{rowsTests-passes}
+use Rattle.record.specs.Record.{noController, whereIs, seenIn, countsOf, unitsOf}
 use Rattle.record.specs.declared.Place.the-variants.{At, Refused}
 use Rattle.record.proofs.RecordLaws.{Located, whereIs-at, whereIs-refused}
 use Rattle.ranges.proofs.RangeLaws.{listTests-numbers}
 use Rattle.start_data.specs.Answer.{headerSays}
 use Rattle.start_data.proofs.Answers.{headerOf-is, HeaderIs, headerOf-refused, HeaderRefused, noHeader, otherVersion}
-use Rattle.calls.specs.Calls.{startedWith, withClear, startDone, startChange}
+use Rattle.calls.specs.Calls.{startedWith, basesOf, sizesOf, packedDevice, packedWords, startDone, startChange}
+use Rattle.track_send.specs.Inner.{tracking}
 
 -- the tests of a start after those of its header: 7, 8 (listed ranges), 18 to 21, 10, 11 and 12
-abbrev listedTests : Settings → ℕ → List ℕ → List Test
-listedTests s counts x = startListed s x ++ startShared s counts x
+abbrev listedTests : Settings → ℕ → ℕ → List ℕ → List Test
+listedTests s counts held x = startListed s x ++ startShared s counts held x
 
 -- ---- 7 and what follows it
 
-module _ (s : Settings) (counts : ℕ) (x : List ℕ) (g n : ℕ) (e : headerOf x ≡ header.Is g n) where
+module _ (s : Settings) (counts held : ℕ) (x : List ℕ) (g n : ℕ) (e : headerOf x ≡ header.Is g n) where
   h : HeaderIs x g n
   h = headerOf-is x g n e
 
-  pub listed-granularity : granularityOk s g ≡ false → refusalAt (listedTests s counts x) ≡ record { number = 7; row = 0 }
+  pub listed-granularity : granularityOk s g ≡ false → refusalAt (listedTests s counts held x) ≡ record { number = 7; row = 0 }
   listed-granularity f = rw (h .granularity, f)
 
   module _ (f : granularityOk s g ≡ true) where
-    pub listed-short : length x < 8 + 12 * n → refusalAt (listedTests s counts x) ≡ record { number = 8; row = 0 }
+    pub listed-short : length x < 8 + 12 * n → refusalAt (listedTests s counts held x) ≡ record { number = 8; row = 0 }
     listed-short l = rw (h .granularity, f, h .count, lt-leb (startSize n) (length x) l)
 
     module _ (there : startSize n ≤ length x) where
       abbrev last : List Test
-      last = (leb (n + counts) (s .limit) else 12) ∷ []
+      last = (leb (length (units g (rangesOf x)) + held) mostUnits else 11) ∷ (leb (n + counts) (s .limit) else 12) ∷ []
 
-      rest : refusalAt (listedTests s counts x) ≡ refusalAt (listTests s g n (rangesOf x) ++ last)
+      rest : refusalAt (listedTests s counts held x) ≡ refusalAt (listTests s g n (rangesOf x) ++ last)
       rest = rw (h .granularity, f, h .count, le-leb (startSize n) (length x) there)
 
-      pub listed-many : 16 < n → refusalAt (listedTests s counts x) ≡ record { number = 18; row = 0 }
+      pub listed-many : 16 < n → refusalAt (listedTests s counts held x) ≡ record { number = 18; row = 0 }
       unfolding rangeTests
       listed-many l = rest ∙ rw (le-leb 1 n (omega arith), lt-leb n 16 l)
 
@@ -74,7 +77,7 @@ module _ (s : Settings) (counts : ℕ) (x : List ℕ) (g n : ℕ) (e : headerOf 
           number-of-list : r .number ≡ refusal (listTests s g n (rangesOf x))
           number-of-list = ap (λ (z : Refusal). z .number) (of-list ∙ refusalAt-is (listTests s g n (rangesOf x)))
 
-          pub listed-rules : r .number ≢ 0 → r ≡ refusalAt (listedTests s counts x)
+          pub listed-rules : r .number ≢ 0 → r ≡ refusalAt (listedTests s counts held x)
           listed-rules k = of-list ∙ sym (rest ∙ verdict-first (listTests s g n (rangesOf x)) last _ _ _ (λ z. k (number-of-list ∙ z)))
 
           module _ (k : r .number ≡ 0) where
@@ -83,40 +86,71 @@ module _ (s : Settings) (counts : ℕ) (x : List ℕ) (g n : ℕ) (e : headerOf 
                 sym (refusal-none (listTests s g n (rangesOf x)) (listTests-numbers s g n (rangesOf x)))
                 ∙ eq-eqb (refusal (listTests s g n (rangesOf x))) 0 (sym number-of-list ∙ k)
 
-            to-last : refusalAt (listedTests s counts x) ≡ refusalAt last
+            to-last : refusalAt (listedTests s counts held x) ≡ refusalAt last
             to-last = rest ∙ verdict-rest (listTests s g n (rangesOf x)) last _ _ pass
 
-            pub listed-limit : s .limit < n + counts → refusalAt (listedTests s counts x) ≡ record { number = 12; row = 0 }
-            listed-limit l = to-last ∙ rw (lt-leb (n + counts) (s .limit) l)
+            -- their rows break no rule
+            pub listed-rows : rowsOk g (take n (placed (recordsAt rangeAt 12 x 8 n))) ≡ true
+            unfolding rangeTests
+            listed-rows =
+                let p = passes-Passed (listTests s g n (rangesOf x)) pass in
+                let rows = Passed-left (rangeTests g n (rangesOf x)) _ p in
+                rw ranges-read (sym (rowsTests-passes g 0 (rangesOf x)) ∙ passes-all (rowsTests g 0 (rangesOf x)) (rows .1 .1))
 
-            pub listed-passed : n + counts ≤ s .limit → refusalAt (listedTests s counts x) ≡ record { number = 0; row = 0 }
-            listed-passed l = to-last ∙ rw (le-leb (n + counts) (s .limit) l)
+            module _ (u : ℕ) (are : u ≡ length (units g (take n (placed (recordsAt rangeAt 12 x 8 n))))) where
+              of-units : length (units g (rangesOf x)) ≡ u
+              of-units = sym (are ∙ ap (λ rs. length (units g rs)) ranges-read)
+
+              pub listed-pool : held ≤ mostUnits → mostUnits - held < u → refusalAt (listedTests s counts held x) ≡ record { number = 11; row = 0 }
+              listed-pool m l = to-last ∙ rw (of-units, lt-leb (u + held) mostUnits (omega (arith, m, l)))
+
+              module _ (m : held ≤ mostUnits) (fit : u ≤ mostUnits - held) where
+                pub listed-limit : s .limit < n + counts → refusalAt (listedTests s counts held x) ≡ record { number = 12; row = 0 }
+                listed-limit l = to-last ∙ rw (of-units, le-leb (u + held) mostUnits (omega (arith, m, fit)), lt-leb (n + counts) (s .limit) l)
+
+                pub listed-passed : n + counts ≤ s .limit → refusalAt (listedTests s counts held x) ≡ record { number = 0; row = 0 }
+                listed-passed l = to-last ∙ rw (of-units, le-leb (u + held) mostUnits (omega (arith, m, fit)), le-leb (n + counts) (s .limit) l)
 
   -- where all are passed
-  pub listed-all : (r : Refusal) → r ≡ refusalAt (listedTests s counts x) → r .number ≡ 0 → Passed (listedTests s counts x)
+  pub listed-all : (r : Refusal) → r ≡ refusalAt (listedTests s counts held x) → r .number ≡ 0 → Passed (listedTests s counts held x)
   listed-all r q k =
-      passes-Passed (listedTests s counts x)
-      (sym (refusal-none (listedTests s counts x) numbers)
-      ∙ eq-eqb (refusal (listedTests s counts x)) 0 (sym (ap (λ (z : Refusal). z .number) (q ∙ refusalAt-is (listedTests s counts x))) ∙ k))
+      passes-Passed (listedTests s counts held x)
+      (sym (refusal-none (listedTests s counts held x) numbers)
+      ∙ eq-eqb (refusal (listedTests s counts held x)) 0 (sym (ap (λ (z : Refusal). z .number) (q ∙ refusalAt-is (listedTests s counts held x))) ∙ k))
     where
-      numbers : All (λ (t : Test). 1 ≤ t .number) (listedTests s counts x)
+      numbers : All (λ (t : Test). 1 ≤ t .number) (listedTests s counts held x)
       numbers = (
         omega arith,
         (
           omega arith,
-          All-append (λ (t : Test). 1 ≤ t .number) (listTests s (granularityOf x) (countOf x) (rangesOf x)) ((leb (countOf x + counts) (s .limit) else 12) ∷ [])
-              (listTests-numbers s (granularityOf x) (countOf x) (rangesOf x)) (omega arith, tt),
+          All-append (λ (t : Test). 1 ≤ t .number) (listTests s (granularityOf x) (countOf x) (rangesOf x)) (startShared s counts held x)
+              (listTests-numbers s (granularityOf x) (countOf x) (rangesOf x)) (omega arith, (omega arith, tt)),
         ),
       )
 
-  pub listed-few : (r : Refusal) → r ≡ refusalAt (listedTests s counts x) → r .number ≡ 0 → (n ≤ 16) × (startSize n ≤ length x)
+  -- what is known of the ranges then
+  pub record Listed : Type 0 where
+    pub allowed : granularityOk s g ≡ true
+    pub few : n ≤ 16
+    pub there : startSize n ≤ length x
+    pub rows : rowsOk g (rangesOf x) ≡ true
+    pub room : length (units g (rangesOf x)) + held ≤ mostUnits
+
+  pub listed-known : (r : Refusal) → r ≡ refusalAt (listedTests s counts held x) → r .number ≡ 0 → Listed
   unfolding rangeTests
-  listed-few r q k =
+  listed-known r q k =
       let p = listed-all r q k in
-      let m = h .count in (
-        rw m at (leb-true (countOf x) 16 (p .1 .1 .1 .0)),
-        rw m at (leb-true (startSize (countOf x)) (length x) (p .1 .0)),
-      )
+      let m = h .count in
+      let tests = listTests s (granularityOf x) (countOf x) (rangesOf x) in
+      let list = Passed-left tests (startShared s counts held x) (p .1 .1) in
+      let rows = Passed-left (rangeTests (granularityOf x) (countOf x) (rangesOf x)) _ list in
+      record {
+        allowed = rw (sym (h .granularity)) (p .0);
+        few = rw m at (leb-true (countOf x) 16 (rows .1 .0));
+        there = rw m at (leb-true (startSize (countOf x)) (length x) (p .1 .0));
+        rows = rw (sym (h .granularity)) (sym (rowsTests-passes (granularityOf x) 0 (rangesOf x)) ∙ passes-all (rowsTests (granularityOf x) 0 (rangesOf x)) (rows .1 .1));
+        room = rw (sym (h .granularity)) (leb-true _ mostUnits (Passed-right tests (startShared s counts held x) (p .1 .1) .0));
+      }
 
 -- ---- the start
 
@@ -150,7 +184,7 @@ module _ (d : Device) (ws : List ℕ) (id : ℕ) (x : List ℕ) where
 
         module _ (g n : ℕ) (q : headerOf x ≡ header.Is g n) where
           abbrev tests : List Test
-          tests = listedTests (d .settings) (countsOf d) x
+          tests = listedTests (d .settings) (countsOf d) (unitsOf d) x
 
           to-list : startChange d ws id x ≡ verdict tests (startDone d ws x (some i)) (λ k j. startedWith k j d ws)
           unfolding startChange
@@ -163,8 +197,9 @@ module _ (d : Device) (ws : List ℕ) (id : ℕ) (x : List ℕ) where
               ∙ ap (λ (q : Refusal). startedWith (q .number) (q .row) d ws) (sym is)
 
           pub start-done : (r : Refusal) → r ≡ refusalAt tests → r .number ≡ 0
-              → startChange d ws id x ≡ startedWith 0 0 (withController d i (record { tracking = On g n; suspended = false; ranges = placed (recordsAt rangeAt 12 x 8 n) })) (withClear ws (shareAt i))
+              → let y = tracking d i g n (placed (recordsAt rangeAt 12 x 8 n)) in
+              startChange d ws id x ≡ startedWith 0 0 (packedDevice y) (packedWords ws (basesOf d) (sizesOf y) i)
           unfolding rangesOf
           start-done r a b =
               let p = headerOf-is x g n q in
-              to-list ∙ verdict-passed tests (startDone d ws x (some i)) (λ k j. startedWith k j d ws) (listed-all (d .settings) (countsOf d) x g n q r a b) ∙ rw (f, p .granularity, p .count)
+              to-list ∙ verdict-passed tests (startDone d ws x (some i)) (λ k j. startedWith k j d ws) (listed-all (d .settings) (countsOf d) (unitsOf d) x g n q r a b) ∙ rw (f, p .granularity, p .count)

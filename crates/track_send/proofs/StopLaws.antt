@@ -3,11 +3,12 @@ use mathlib.Core.Path.{_≡_}
 use mathlib.Core.Bool.{true, false}
 use mathlib.Core.List.{List}
 use Prim.Native.Nat.{ℕ}
-use lib.ListN.{length, getD, drop}
+use lib.ListN.{length, getD, take, drop}
 use Rattle.bits.specs.Flat.{flat, Words}
 use Rattle.bits.specs.Span.{fill}
 use Rattle.bits.proofs.Pack.{pack-only}
-use Rattle.rules.specs.Settings.{shareSize, shareAt, placeOf}
+use Rattle.rules.specs.Settings.{placeOf}
+use Rattle.rules.specs.Units.{units}
 use Rattle.rules.specs.Order.{stopOrder}
 use Rattle.rules.specs.declared.Device.{Device}
 use Rattle.rules.specs.declared.Tracking.the-variants.{Off, On}
@@ -17,9 +18,9 @@ use Rattle.record.proofs.RecordLaws.{Located, whereIs-at, whereIs-refused}
 use Rattle.calls.specs.Calls.{changed, withClear, stopped, stopDone, stopChange}
 
 -- words that have a share clear
-pub cleared : (ws ws′ : List ℕ) (base : ℕ) → length ws′ ≡ length ws → Words ws′ → flat ws′ ≡ fill false (flat ws) base shareSize → ws′ ≡ withClear ws base
+pub cleared : (ws ws′ : List ℕ) (base size : ℕ) → length ws′ ≡ length ws → Words ws′ → flat ws′ ≡ fill false (flat ws) base size → ws′ ≡ withClear ws base size
 unfolding withClear
-cleared ws ws′ base n h e = pack-only (length ws) ws′ (fill false (flat ws) base shareSize) n h e
+cleared ws ws′ base size n h e = pack-only (length ws) ws′ (fill false (flat ws) base size) n h e
 
 module _ (d : Device) (id : ℕ) where
   -- ---- stop
@@ -43,6 +44,8 @@ module _ (d : Device) (id : ℕ) where
       stop-off f t = rw (l .place, l .seen, f, t)
 
       pub stop-done : (g n : ℕ) → getD (d .controllers) i noController .suspended ≡ false → getD (d .controllers) i noController .tracking ≡ On g n
-          → stopChange d ws id ≡ changed 0 (withController d i (record { tracking = Off; suspended = false; ranges = stopped noController .ranges })) (withClear ws (shareAt i))
+          → let c = getD (d .controllers) i noController in
+          stopChange d ws id
+          ≡ changed 0 (withController d i (record { tracking = Off; base = 0; suspended = false; ranges = stopped noController .ranges })) (withClear ws (c .base) (length (units g (take n (c .ranges)))))
       unfolding stopChange
       stop-done g n f t = rw (l .place, l .seen, f, t)

@@ -7,31 +7,28 @@ use record::Place;
 use rules::Controller;
 use rules::Device;
 use rules::Header;
+use rules::MOST_UNITS;
+use rules::Range;
 use rules::Refusal;
+use rules::Share;
 use rules::Tracking;
 ghost use mathlib.Core.Path.{_≡_};
 ghost use mathlib.Core.Bool.{true};
-ghost use mathlib.Core.List.{_++_};
-ghost use Prim.Native.Nat.{_<_};
-ghost use lib.ListN.{length};
+ghost use mathlib.Core.List.{_++_, map};
+ghost use Prim.Native.Nat.{_+_, _<_, _≤_};
+ghost use lib.ListN.{length, set};
+ghost use Rattle.rules.specs.Lists.{sum};
 ghost use Rattle.rules.specs.Refusals.{refusalAt};
-ghost use Rattle.rules.specs.Settings.{shareAt, markWords};
+ghost use Rattle.rules.specs.Settings.{markWords};
 ghost use Rattle.rules.specs.StartData.{headerOf};
 ghost use Rattle.rules.specs.declared.Header.the-variants.{Is};
 ghost use Rattle.rules.specs.Device.{soundDevice};
-ghost use Rattle.record.specs.Record.{countsOf};
+ghost use Rattle.record.specs.Record.{countsOf, unitsOf};
 ghost use Rattle.start_data.specs.Answer.{headerSays};
-ghost use Rattle.calls.specs.Calls.{withClear, startChange, stopChange};
+ghost use Rattle.calls.specs.Calls.{withClear, basesOf, sizesOf, packedFrom, packedDevice, packedWords, startChange, stopChange};
+ghost use Rattle.pool.specs.Pool.{newBase, newBases};
+ghost use Rattle.track_send.specs.Inner.{tracking, Installs};
 ghost use Rattle.rules.specs.Order.{startListed, startShared};
-
-// Makes the share of the controller at place i clear.
-fn clear_share(marks: &mut [u64], i: usize)
-    requires { ⌜ (i < 8) × (length (now marks) ≡ markWords) ⌝ }
-    ensures { λ _. ⌜ now (marks .exit) ≡ withClear (now (marks .entry)) (shareAt i) ⌝ }
-{
-    let base = calls::share_at(i);
-    bits::clear_span(marks, base, base + calls::SHARE);
-}
 
 // ---- start
 
@@ -45,10 +42,22 @@ fn header_number(h: Header) -> u8
     }
 }
 
+// How many bits some shares have, together.
+fn together(shares: [Share; 8]) -> usize
+    requires { ⌜ sum (map (λ a. a .size) shares) ≤ 16384 ⌝ }
+    ensures { λ r. ⌜ r ≡ sum (map (λ a. a .size) shares) ⌝ }
+{
+    let mut total: usize = 0;
+    for i in 0..8 {
+        total += shares[i].size;
+    }
+    total
+}
+
 // The first of 7, 8 (listed ranges), 18 to 21, 10, 11 and 12 that a start structure with this granularity and count breaks, with its row.
 fn listed_refusal(d: Device, g: u8, n: u32, data: &[u8]) -> Refusal
     requires { ⌜ (soundDevice d ≡ true) × (headerOf (now «data») ≡ Is g n) ⌝ }
-    ensures { λ r. ⌜ r ≡ refusalAt (startListed (d .settings) (now («data» .entry)) ++ startShared (d .settings) (countsOf d) (now («data» .entry))) ⌝ }
+    ensures { λ r. ⌜ r ≡ refusalAt (startListed (d .settings) (now («data» .entry)) ++ startShared (d .settings) (countsOf d) (unitsOf d) (now («data» .entry))) ⌝ }
 {
     let s = d.settings;
     if !settings::granularity_ok(s, g) {
@@ -66,13 +75,78 @@ fn listed_refusal(d: Device, g: u8, n: u32, data: &[u8]) -> Refusal
     if refusal.number != 0 {
         return refusal;
     }
+    let units = ranges::units_in(g, count, ranges);
+    let held = together(record::shares(d));
+    if units.0 > MOST_UNITS - held as u64 {
+        return Refusal { number: 11, row: 0 };
+    }
     if count + record::weights(d) > s.limit as usize {
         return Refusal { number: 12, row: 0 };
     }
     Refusal { number: 0, row: 0 }
 }
 
-// Starts tracking a controller from a start structure: its granularity and ranges are recorded and its share of the marks is clear. Refused, in this
+// Where some shares begin.
+fn bases_of(shares: [Share; 8]) -> [usize; 8]
+    ensures { λ r. ⌜ r ≡ map (λ a. a .base) shares ⌝ }
+{
+    let mut bases = [0usize; 8];
+    for i in 0..8 {
+        bases[i] = shares[i].base;
+    }
+    bases
+}
+
+// How many bits some shares have, where the one at place i has `size`.
+fn sizes_with(shares: [Share; 8], i: usize, size: usize) -> [usize; 8]
+    requires { ⌜ i < 8 ⌝ }
+    ensures { λ r. ⌜ r ≡ set (map (λ a. a .size) shares) i size ⌝ }
+{
+    let mut sizes = [0usize; 8];
+    for j in 0..8 {
+        sizes[j] = shares[j].size;
+    }
+    sizes[i] = size;
+    sizes
+}
+
+// The record in which the shares of these sizes begin at these bits. A controller that has none is as it was.
+fn based(d: Device, sizes: [usize; 8], bases: [usize; 8]) -> Device
+    requires { ⌜ (bases ≡ newBases sizes) × (newBase sizes 8 ≤ 16384) ⌝ }
+    ensures { λ r. ⌜ r ≡ record { settings = d .settings; controllers = packedFrom sizes 0 (d .controllers); sequence = d .sequence } ⌝ }
+{
+    let mut e = d;
+    for i in 0..8 {
+        if sizes[i] != 0 {
+            e.controllers[i].base = bases[i] as u16;
+        }
+    }
+    e
+}
+
+// Records that a controller is tracked, and packs the shares: they stand one after another from bit 0 on, in the order of the settings, with their marks; the new
+// one is clear.
+fn install(d: Device, marks: &mut [u64], i: usize, g: u8, n: u8, ranges: [Range; 16]) -> Device
+    requires { ⌜ Installs d (now marks) i g n ranges ⌝ }
+    ensures { λ r. ⌜ (r ≡ packedDevice (tracking d i g n ranges)) × (now (marks .exit) ≡ packedWords (now (marks .entry)) (basesOf d) (sizesOf (tracking d i g n ranges)) i) ⌝ }
+{
+    let shares = record::shares(d);
+    let units = ranges::units_in(g, n as usize, ranges);
+    let sizes = sizes_with(shares, i, units.0 as usize);
+    pool::pack(marks, bases_of(shares), sizes, i);
+    let on = Tracking::On(g, n);
+    let mut e = d;
+    e.controllers[i] = Controller {
+        tracking: on,
+        base: 0,
+        suspended: false,
+        ranges,
+    };
+    let bases = pool::new_bases(sizes);
+    based(e, sizes, bases)
+}
+
+// Starts tracking a controller from a start structure: its granularity and ranges are recorded, and the shares of the pool are packed, its own clear among them. Refused, in this
 // order: 1, 2, 4 suspended, 3 already tracked, 8 no whole header, 6 version, 7 granularity, 8 listed ranges not there, 18 no range or more than 16, then row
 // by row 19 length 0, 20 unaligned, 21 past 2^64, then 10 power of two, 11 too many units, 12 descriptor limit passed. A refusal with 19 to 21 names its row.
 pub fn start(d: Device, marks: &mut [u64], id: u16, data: &[u8]) -> Started
@@ -120,23 +194,24 @@ pub fn start(d: Device, marks: &mut [u64], id: u16, data: &[u8]) -> Started
             device: d,
         };
     }
-    clear_share(marks, i);
     let ranges = start_data::read_ranges(data, n as usize);
-    let on = Tracking::On(g, n as u8);
-    let mut e = d;
-    e.controllers[i] = Controller {
-        tracking: on,
-        suspended: false,
-        ranges,
-    };
+    let device = install(d, marks, i, g, n as u8, ranges);
     Started {
         number: 0,
         row: 0,
-        device: e,
+        device,
     }
 }
 
 // ---- stop
+
+// Makes a share clear.
+fn clear_share(marks: &mut [u64], base: usize, n: usize)
+    requires { ⌜ (base + n ≤ 16384) × (length (now marks) ≡ markWords) ⌝ }
+    ensures { λ _. ⌜ now (marks .exit) ≡ withClear (now (marks .entry)) base n ⌝ }
+{
+    bits::clear_span(marks, base, base + n);
+}
 
 // Stops tracking a controller: its ranges are forgotten and its share of the marks is clear. Refused, in this order: 1, 2, 4 suspended, 5 not tracked.
 pub fn stop(d: Device, marks: &mut [u64], id: u16) -> Changed
@@ -155,18 +230,21 @@ pub fn stop(d: Device, marks: &mut [u64], id: u16) -> Changed
         };
     }
     let t = c.tracking;
-    let Tracking::On(_, _) = t else {
+    let Tracking::On(g, n) = t else {
         return Changed {
             number: 5,
             device: d,
         };
     };
-    clear_share(marks, i);
+    let ranges = calls::ranges_of(c);
+    let units = ranges::units_in(g, n as usize, ranges);
+    clear_share(marks, c.base as usize, units.0 as usize);
     let off = Tracking::Off;
     let none = rules::no_ranges();
     let mut e = d;
     e.controllers[i] = Controller {
         tracking: off,
+        base: 0,
         suspended: false,
         ranges: none,
     };

@@ -17,7 +17,7 @@ use borrow.Author.Tests.{ltb-false, leb-true, eqb-true, eqb-false, eq-eqb, ne-eq
 use Rattle.bits.specs.Flat.{flat}
 use Rattle.bits.specs.Share.{getShare}
 use Rattle.bits.proofs.Flat.{flat-length}
-use Rattle.rules.specs.Settings.{markWords, mostNotes, shareAt, placeOf}
+use Rattle.rules.specs.Settings.{markWords, mostNotes, placeOf}
 use Rattle.rules.specs.Units.{Unit, Write, units, touches, newly}
 use Rattle.rules.specs.Order.{writeOrder}
 use Rattle.rules.specs.Device.{soundDevice}
@@ -63,7 +63,7 @@ note-most d ws id w =
 
     done : (p : Option ℕ) → writeDone d ws w p .answer .count ≤ 64 * length ws
     done none = omega arith
-    done (some i) = in-share (shareAt i) (controllerAt d (some i) .tracking) (controllerAt d (some i) .ranges)
+    done (some i) = in-share (controllerAt d (some i) .base) (controllerAt d (some i) .tracking) (controllerAt d (some i) .ranges)
 
 -- what stands past the end of a list
 abbrev pub noRecord : WriteRecord

@@ -8,7 +8,7 @@ use Prim.Native.Nat.{ℕ, _+_, _^_, _≤_, _<_}
 use native.Mathlib.Omega.{arith}
 use native.Mathlib.Nat.{zero-add}
 use lib.ListN.{length, getD, take, drop}
-use lib.Dec.{leb, eqb}
+use lib.Dec.{leb}
 use borrow.Author.Tests.{le-leb, lt-leb, leb-true, eq-eqb, ne-eqb, eqb-true}
 use Rattle.bits.specs.Flat.{flat, Words}
 use Rattle.bits.specs.Share.{Holds, putShare}
@@ -16,7 +16,7 @@ use Rattle.bits.specs.Pack.{pack}
 use Rattle.bits.proofs.Flat.{flat-length}
 use Rattle.bits.proofs.Pack.{pack-only, pack-flat}
 use Rattle.bits.proofs.Share.{getShare-length, putShare-getShare}
-use Rattle.rules.specs.Settings.{markWords, shareAt, placeOf}
+use Rattle.rules.specs.Settings.{markWords, placeOf}
 use Rattle.rules.specs.Refusals.{refusal, verdict}
 use Rattle.rules.specs.Units.{Unit, Write, units, touches, mark, newly}
 use Rattle.rules.specs.Order.{writeOrder}
@@ -37,7 +37,7 @@ use Rattle.record.proofs.RecordLaws.{whereIs-at, whereIs-refused}
 use Rattle.calls.specs.Calls.{Note, withMarks, marksAt, noted, noteIn, writeDone, writeNote}
 use Rattle.calls.proofs.PlaceLaws.{held-at, share-within}
 use Rattle.writes.specs.declared.Single.{Single}
-use Rattle.writes.specs.Inner.{Lies, MayNote, noteTests, noteOn, isOne, singleOf, Fronts, alone}
+use Rattle.writes.specs.Inner.{Lies, MayNote, noteTests, noteOn, isOne, Fronts, alone}
 
 -- ---- the place, on a record that is known to be sound
 
@@ -224,6 +224,10 @@ pub last-place : (i : ℕ) → i < 8 → i ≢ 0 → i ≢ 1 → i ≢ 2 → i �
 last-place i h e0 e1 e2 e3 e4 e5 e6 =
     seventh i (beyond 6 i (beyond 5 i (beyond 4 i (beyond 3 i (beyond 2 i (beyond 1 i (first i e0) e1) e2) e3) e4) e5) e6) h
 
+-- what is asked of a controller says where its share begins
+pub same-base : (s t : Single) → s ≡ t → s .base ≡ t .base
+same-base s t e = ap (λ (x : Single). x .base) e
+
 module _ (d : Device) (ws : List ℕ) (id : ℕ) where
   -- where there is none
   pub write-refused : (w : Write) (n : ℕ) → whereIs d (length ws) id ≡ Refused n → writeNote d ws id w ≡ noted n 0 ws
@@ -233,19 +237,20 @@ module _ (d : Device) (ws : List ℕ) (id : ℕ) where
 
   -- where it stands at place i, which is known by the number k: its note is the call's
   module _ (i : ℕ) (e : whereIs d (length ws) id ≡ At i) (k : ℕ) (s : i ≡ k) where
-    pub write-on : (base : ℕ) → base ≡ shareAt i → (w : Write) → writeNote d ws id w ≡ noteOn (getD (d .controllers) k noController) ws base w
+    pub write-on : (base : ℕ) → base ≡ getD (d .controllers) i noController .base → (w : Write) → writeNote d ws id w ≡ noteOn (getD (d .controllers) k noController) ws base w
     unfolding writeNote noteOn
     write-on base b w = let l = whereIs-at d (length ws) id i e in rw (l .place, l .seen, b, sym s)
 
-    pub may-note : length (d .controllers) ≡ 8 → (base : ℕ) → base ≡ shareAt i → MayNote (getD (d .controllers) k noController) ws base
-    may-note h base b = subst (λ (j : ℕ). MayNote (getD (d .controllers) j noController) ws base) s go
+    pub may-note : length (d .controllers) ≡ 8 → 1 ≤ length (getD (d .controllers) i noController .ranges) → (base : ℕ) → base ≡ getD (d .controllers) i noController .base
+        → MayNote (getD (d .controllers) k noController) ws base
+    may-note h listed base b = subst (λ (j : ℕ). MayNote (getD (d .controllers) j noController) ws base) s go
       where
         go : MayNote (getD (d .controllers) i noController) ws base
         go g n t =
             let l = whereIs-at d (length ws) id i e in
             let there : i < length (d .controllers) = omega (arith, l .below) in
             let f = held-at d (length ws) id i e there g n t in
-            let fits = share-within d (length ws) id i e there g n t in
+            let fits = share-within d (length ws) id i e there g n t listed in
             record {
               small = f .small;
               few = f .few;

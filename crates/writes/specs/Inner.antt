@@ -53,7 +53,7 @@ isOne (On g n) = eqb n 1
 
 -- what a note asks of it
 abbrev pub singleOf : Controller → Single
-singleOf c = record { suspended = c .suspended; tracking = c .tracking; first = getD (c .ranges) 0 noRange }
+singleOf c = record { suspended = c .suspended; tracking = c .tracking; base = c .base; first = getD (c .ranges) 0 noRange }
 
 -- these are of a controller, which has its ranges
 abbrev pub Fronts : Single → Controller → Type 0
@@ -61,7 +61,7 @@ Fronts s c = (s ≡ singleOf c) × (1 ≤ length (c .ranges))
 
 -- it, as far as that says
 abbrev pub alone : Single → Controller
-alone f = record { tracking = f .tracking; suspended = f .suspended; ranges = f .first ∷ [] }
+alone f = record { tracking = f .tracking; base = f .base; suspended = f .suspended; ranges = f .first ∷ [] }
 
 -- ---- a batch
 

@@ -26,6 +26,7 @@ ghost use Rattle.writes.specs.Inner.{MayNote, noteTests, noteOn, isOne, 
 struct Single {
     suspended: bool,
     tracking: Tracking,
+    base: u16,
     first: Range,
 }
 
@@ -126,6 +127,7 @@ fn single_of(c: Controller) -> Single
     Single {
         suspended: c.suspended,
         tracking,
+        base: c.base,
         first,
     }
 }
@@ -160,8 +162,8 @@ fn note(d: Device, marks: &mut [u64], id: u16, at: u64, bytes: Bytes) -> Written
             count: 0,
         };
     };
-    let base = calls::share_at(i);
     let c = single_at(d, i);
+    let base = c.base as usize;
     let t = c.tracking;
     if is_one(t) {
         return note_one(c, marks, base, at, bytes);

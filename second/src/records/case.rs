@@ -5,8 +5,8 @@ use crate::rules::{Controller, Note, Range, Record, Sequence, Settings, Tracking
 
 /// A case is exactly so long; what stands after its last field is not looked at.
 pub const CASE_BYTES: usize = 2944;
-/// A case may lend more words or fewer than the 512 that document 01 wants, so that both are refused.
-pub const MOST_WORDS: usize = 600;
+/// A case may lend more words or fewer than the 256 that W7 wants, so that both are refused; as many as before W7 too.
+pub const MOST_WORDS: usize = 512;
 /// As many bytes at most are lent for a start structure, a report or a batch's rows, and a case has room for so many.
 pub const MOST_DATA: usize = 1024;
 /// A part may have more bytes than a state, so that 27 can be met; those that the case has no room for are zeros.
@@ -57,8 +57,7 @@ pub fn read_case(bytes: &[u8]) -> Option<Case> {
         *controller = read_controller(&mut fields)?;
     }
     record.sequence = read_sequence(&mut fields)?;
-    let words = fields.next_within(2, MOST_WORDS as u64)?;
-    let mark = fields.next(8)?;
+    let words = read_words(&mut fields)?;
     let number = fields.next(1)?;
     let id = fields.next(2)?;
     let address = fields.next(8)?;
@@ -85,7 +84,7 @@ pub fn read_case(bytes: &[u8]) -> Option<Case> {
         _ => return None,
     };
     let area = if number == PART { area } else { Vec::new() };
-    Some(Case { record, words: vec![mark; words as usize], call, id, data, area })
+    Some(Case { record, words, call, id, data, area })
 }
 
 fn read_settings(fields: &mut Fields) -> Option<Settings> {
@@ -111,7 +110,8 @@ fn read_controller(fields: &mut Fields) -> Option<Controller> {
         _ => return None,
     };
     let suspended = fields.next_within(1, 1)? == 1;
-    let mut controller = Controller { tracking, suspended, ..Controller::default() };
+    let base = fields.next(2)?;
+    let mut controller = Controller { tracking, suspended, base, ..Controller::default() };
     for range in controller.ranges.iter_mut() {
         *range = Range { start: fields.next(8)?, length: fields.next(4)? };
     }
@@ -125,6 +125,13 @@ fn read_sequence(fields: &mut Fields) -> Option<Sequence> {
         (1, owner, end) => Some(Sequence::Open { owner, end }),
         _ => None,
     }
+}
+
+/// "word w of these is mark rotated left by w modulo 64 bits". So words differ, and one that moved shows.
+fn read_words(fields: &mut Fields) -> Option<Vec<u64>> {
+    let words = fields.next_within(2, MOST_WORDS as u64)?;
+    let mark = fields.next(8)?;
+    Some((0..words).map(|word| mark.rotate_left((word % 64) as u32)).collect())
 }
 
 /// "the 64 of front and then fill in each", cut to the area's length.
@@ -181,6 +188,7 @@ fn put_controller(bytes: &mut Vec<u8>, controller: &Controller) {
     put(bytes, u128::from(granularity), 1);
     put(bytes, u128::from(count), 1);
     put(bytes, u128::from(controller.suspended), 1);
+    put(bytes, u128::from(controller.base), 2);
     for range in &controller.ranges {
         put(bytes, u128::from(range.start), 8);
         put(bytes, u128::from(range.length), 4);

@@ -1,6 +1,6 @@
-//! Cases with device records of any kind, sound or not. No listing leads to an unsound record, to marks that are not 512
-//! words or to a state area that is not 4,096 bytes, so refusal 1 is tested here. tests/RECORDS.md has the form of a case
-//! and of its answer.
+//! Cases with device records of any kind, sound or not. No listing leads to an unsound record, to marks that are not 256
+//! words or to a state area that is not 4,096 bytes, so refusal 1 is tested here, and the bits of every share. tests/RECORDS.md
+//! has the form of a case and of its answer.
 
 mod case;
 mod marks;
@@ -17,7 +17,7 @@ use crate::rules::{Note, Reason, Record, Refusal, UNSOUND};
 use crate::state::Part;
 
 use self::case::{read_case, record_bytes, Call, Case, CASE_BYTES, MOST_AREA, MOST_DATA, MOST_WORDS};
-use self::marks::{clear_words, mark_pending, pending_units, MARK_WORDS};
+use self::marks::{clear_share, mark_pending, pending_units, MARK_WORDS};
 
 /// What a call answers, and what it leaves behind.
 #[derive(Clone, Debug, PartialEq, Eq)]
@@ -79,22 +79,23 @@ fn done(case: &Case) -> Result<Outcome, Reason> {
     if case.call == Call::Fresh {
         // "Fresh: 16, then 1 for the marks' length; done, all marks are 0".
         let device = Device::fresh(&case.record.settings)?;
-        lent_512(&case.words)?;
+        lent_256(&case.words)?;
         after.record = device.record;
         after.words = vec![0; MARK_WORDS];
         return Ok(after);
     }
-    lent_512(&case.words)?;
+    lent_256(&case.words)?;
     let mut device = Device { record: case.record.clone(), pending: pending_units(&case.record, &case.words) };
     match &case.call {
         Call::Fresh => {}
         Call::Start => {
+            // "every bit behind them 0": the words are made anew from what is pending, the new share's bits among them.
             device.start(case.id, &case.data)?;
-            clear_words(&device.record, case.id, &mut after.words);
+            after.words = vec![0; MARK_WORDS];
         }
         Call::Stop => {
             device.stop(case.id)?;
-            clear_words(&device.record, case.id, &mut after.words);
+            clear_share(&case.record, case.id, &mut after.words);
         }
         Call::Write { address, bytes } => {
             after.count = device.write(&Note { id: case.id, address: *address, bytes: *bytes })?;
@@ -122,8 +123,8 @@ fn done(case: &Case) -> Result<Outcome, Reason> {
     Ok(after)
 }
 
-/// Refusal 1, its second half: "marks are not 512 words".
-fn lent_512(words: &[u64]) -> Result<(), Refusal> {
+/// Refusal 1, its second half, in W7: "1 expects 256 words".
+fn lent_256(words: &[u64]) -> Result<(), Refusal> {
     if words.len() == MARK_WORDS {
         Ok(())
     } else {

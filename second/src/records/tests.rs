@@ -2,11 +2,14 @@
 //! page 20; and 57344 is page 14, 61440 page 15, 77824 page 19.
 
 use super::*;
+use crate::device::units;
 use crate::rules::{Controller, Range, Sequence, Settings, Tracking};
 use crate::structure::structure_bytes;
+use crate::tests::Random;
 
 /// Manager 1, granularities 0 to 8, rule off, limit 16, controllers 5, 6 and 7. Controller 5 tracks 4 units from page 16
-/// on and 2 units from page 0 on; 6 is not tracked; 7 is suspended and tracks 3 units of granularity 8. All marks are 0.
+/// on and 2 units from page 0 on; 6 is not tracked; 7 is suspended and tracks 3 units of granularity 8. The share of 5 begins
+/// at bit 0, and that of 7 at bit 8192, in word 128. All marks are 0.
 fn base(call: Call, id: u64) -> Case {
     let mut record = Record::default();
     record.settings = Settings {
@@ -24,7 +27,8 @@ fn base(call: Call, id: u64) -> Case {
     record.controllers[2].tracking = Tracking::On { granularity: 8, count: 1 };
     record.controllers[2].suspended = true;
     record.controllers[2].ranges[0] = Range { start: 1048576, length: 3 };
-    Case { record, words: vec![0; 512], call, id, data: Vec::new(), area: Vec::new() }
+    record.controllers[2].base = 8192;
+    Case { record, words: vec![0; 256], call, id, data: Vec::new(), area: Vec::new() }
 }
 
 /// A batch of these notes: identifier, address and bytes.
@@ -154,14 +158,14 @@ fn ranges_at_and_past_their_limits() {
     assert_unsound(&|record| track(record, 0, &[(65537, 4)]));
     assert_unsound(&|record| track(record, 8, &[(1052672, 4)]));
     assert_unsound(&|record| track(record, 0, &[(65536, 0)]));
-    // The greatest total, and past it; a sum that would be 1 in 32 bits.
-    assert_sound(&|record| track(record, 0, &[(0, 4095), (16777216, 1)]));
-    assert_unsound(&|record| track(record, 0, &[(0, 4095), (16777216, 2)]));
+    // Up to the share of 7, and into it; a sum that would be 1 in 32 bits. 33554432 is page 8192.
+    assert_sound(&|record| track(record, 0, &[(0, 8191), (33554432, 1)]));
+    assert_unsound(&|record| track(record, 0, &[(0, 8191), (33554432, 2)]));
     assert_unsound(&|record| track(record, 0, &[(0, 4294967295), (17592186044416, 2)]));
     // Different units are counted.
-    assert_sound(&|record| track(record, 0, &[(0, 4096), (0, 4096)]));
-    assert_unsound(&|record| track(record, 0, &[(0, 4096), (4096, 4096)]));
-    assert_unsound(&|record| track(record, 0, &[(4096, 4096), (0, 4096)]));
+    assert_sound(&|record| track(record, 0, &[(0, 8192), (0, 8192)]));
+    assert_unsound(&|record| track(record, 0, &[(0, 8192), (4096, 8192)]));
+    assert_unsound(&|record| track(record, 0, &[(4096, 8192), (0, 8192)]));
     assert_unsound(&|record| track(record, 0, &[(0, 4294967295), (0, 4294967295)]));
     // The power-of-two rule: controller 7 has 3 units, 5 has 4 and 2.
     assert_unsound(&|record| record.settings.rule = 1);
@@ -189,9 +193,11 @@ fn rubbish(record: &mut Record) {
             *range = Range { start: 65537, length: 4294967295 };
         }
     }
+    record.controllers[1].base = 60000;
     for controller in record.controllers.iter_mut().skip(3) {
         controller.tracking = Tracking::On { granularity: 255, count: 255 };
         controller.suspended = true;
+        controller.base = 65535;
     }
 }
 
@@ -201,9 +207,9 @@ fn unused_places_are_not_looked_at() {
 }
 
 #[test]
-fn marks_that_are_not_512_words() {
+fn marks_that_are_not_256_words() {
     for mut case in calls() {
-        for words in &[0, 1, 511, 513, 600] {
+        for words in &[0, 1, 255, 257, 512] {
             case.words = vec![7; *words];
             assert_eq!(outcome(&case), Outcome { refusal: 1, ..untouched(&case) });
         }
@@ -263,18 +269,20 @@ fn refusals_that_have_no_row() {
     assert_refused(&case, 4, 0);
     case.id = 1;
     assert_refused(&case, 2, 0);
-    // Row 1 of the record is of no length: unsound, and no row is told. So with 511 words.
+    // Row 1 of the record is of no length: unsound, and no row is told. So with 255 words.
     let mut unsound = case.clone();
     unsound.record.controllers[0].ranges[1].length = 0;
     assert_refused(&unsound, 1, 0);
     case.words.pop();
     assert_refused(&case, 1, 0);
-    // Those behind 21: a length that is no power of two, 4,097 units, 14 ranges beside the 3 that are tracked.
+    // Those behind 21: a length that is no power of two, 16,376 units beside the 9 that are tracked, 14 ranges beside 3.
     let mut case = start_with(&[(65536, 4), (0, 3)]);
     case.record.settings.rule = 1;
     case.record.controllers[2].ranges[0].length = 4;
     assert_refused(&case, 10, 0);
-    assert_refused(&start_with(&[(65536, 4), (0, 4097)]), 11, 0);
+    assert_refused(&start_with(&[(65536, 4), (0, 16376)]), 11, 0);
+    let after = outcome(&start_with(&[(65536, 4), (0, 16375)]));
+    assert_eq!((after.refusal, after.row), (0, 0));
     assert_refused(&start_with(&[(65536, 4); 14]), 12, 0);
     let after = outcome(&start_with(&[(65536, 4); 13]));
     assert_eq!((after.refusal, after.row), (0, 0));
@@ -339,7 +347,7 @@ fn refused_batches() {
     for note in [(5, 65536, 1), (7, 0, 0), (5, u64::MAX, 2)].iter() {
         for records in [0, 1, 1024, 1025].iter() {
             let mut unsound = worked(&vec![*note; *records]);
-            unsound.words = vec![9; 512];
+            unsound.words = vec![9; 256];
             let mut short = unsound.clone();
             unsound.record.controllers[0].ranges[0].length = 0;
             assert_refused(&unsound, 1, 0);
@@ -356,7 +364,7 @@ fn batches_keep_to_their_bits() {
     let list = [(5, 73727, 2), (6, 0, u64::MAX), (5, 0, 8192), (7, 0, 1), (5, 65536, 1), (6, 0, 1)];
     let mut case = base(batch(&list), 0);
     rubbish(&mut case.record);
-    case.words = vec![0xffff_ffff_ffff_ffd0; 512];
+    case.words = vec![0xffff_ffff_ffff_ffd0; 256];
     assert_batch(&case, 3, 3, 4, &[(0, 0xffff_ffff_ffff_fff6)]);
     case.call = batch(&list[4..]);
     assert_batch(&case, 2, 1, 0, &[(0, 0xffff_ffff_ffff_ffd1)]);
@@ -369,6 +377,7 @@ fn batches_of_several_controllers() {
     let mut case = base(batch(&list), 0);
     case.record.controllers[1].tracking = Tracking::On { granularity: 0, count: 1 };
     case.record.controllers[1].ranges[0] = Range { start: 0, length: 2 };
+    case.record.controllers[1].base = 4096;
     case.record.controllers[2].suspended = false;
     assert_batch(&case, 6, 5, 0, &[(0, 16), (64, 3), (128, 3)]);
     // Before the last two the manager, or an end past 2^64.
@@ -384,9 +393,9 @@ fn batches_of_several_controllers() {
 fn batches_over_ranges_that_overlap() {
     // Page 17, pages 16 and 17, page 14; then 9 is unknown, and what stands behind it would mark all.
     let list = [(5, 69632, 1), (5, 65536, 8192), (5, 57344, 1), (9, 0, 1), (5, 0, u64::MAX)];
-    assert_batch(&shared(batch(&list), &[0; 512]), 3, 3, 2, &[(0, 0b010101)]);
-    assert_batch(&shared(batch(&list[..3]), &[1; 512]), 3, 2, 0, &[(0, 0b010101)]);
-    assert_batch(&shared(batch(&list[4..]), &[0b010101; 512]), 1, 3, 0, &[(0, 0b111111)]);
+    assert_batch(&shared(batch(&list), &[0; 256]), 3, 3, 2, &[(0, 0b010101)]);
+    assert_batch(&shared(batch(&list[..3]), &[1; 256]), 3, 2, 0, &[(0, 0b010101)]);
+    assert_batch(&shared(batch(&list[4..]), &[0b010101; 256]), 1, 3, 0, &[(0, 0b111111)]);
 }
 
 // ---------------------------------------------------------------------------------------------------------------
@@ -437,7 +446,7 @@ fn areas_of_any_length() {
 fn parts_leave_all_but_their_own_bytes() {
     let mut case = open(&part(0, 16, &[1, 2, 3, 4, 5, 6, 7, 8]), 7, 16);
     rubbish(&mut case.record);
-    case.words = vec![0xffff_ffff_ffff_ffd0; 512];
+    case.words = vec![0xffff_ffff_ffff_ffd0; 256];
     let mut expected = untouched(&case);
     expected.record.sequence = Sequence::Open { owner: 7, end: 24 };
     expected.area[16..24].copy_from_slice(&[1, 2, 3, 4, 5, 6, 7, 8]);
@@ -502,9 +511,9 @@ fn every_other_call_carries_the_sequence_on() {
 fn fresh_zeroes_all_it_leaves_unused() {
     let mut case = base(Call::Fresh, 0);
     rubbish(&mut case.record);
-    case.words = vec![u64::MAX; 512];
+    case.words = vec![u64::MAX; 256];
     let after = outcome(&case);
-    assert_eq!((after.refusal, after.words), (0, vec![0; 512]));
+    assert_eq!((after.refusal, after.words), (0, vec![0; 256]));
     assert_eq!(after.record.settings.identifiers, [5, 6, 7, 0, 0, 0, 0, 0]);
     assert_eq!(after.record.settings.limit, 16);
     for controller in &after.record.controllers {
@@ -516,12 +525,12 @@ fn fresh_zeroes_all_it_leaves_unused() {
 fn refused_fresh_is_closed() {
     // 1 for the marks' length, and 16 before it.
     let mut case = base(Call::Fresh, 0);
-    case.words = vec![9; 511];
+    case.words = vec![9; 255];
     let closed = |refusal, case: &Case| Outcome { refusal, record: Record::default(), ..untouched(case) };
     assert_eq!(outcome(&case), closed(1, &case));
     case.record.settings.limit = 129;
     assert_eq!(outcome(&case), closed(16, &case));
-    case.words = vec![9; 512];
+    case.words = vec![9; 256];
     assert_eq!(outcome(&case), closed(16, &case));
 }
 
@@ -530,15 +539,20 @@ fn start_and_stop_zero_what_they_leave_unused() {
     for (case, place) in calls().iter().take(2).zip(&[1, 0]) {
         let mut case = case.clone();
         rubbish(&mut case.record);
-        case.words = vec![u64::MAX; 512];
+        case.words = vec![u64::MAX; 256];
         let mut expected = untouched(&case);
         expected.record.controllers[*place] = Controller::default();
         if *place == 1 {
             expected.record.controllers[1].tracking = Tracking::On { granularity: 0, count: 1 };
             expected.record.controllers[1].ranges[0] = Range { start: 65536, length: 1 };
-        }
-        for word in 0..64 {
-            expected.words[place * 64 + word] = 0;
+            // Six bits of 5, one of 6, which is clear, and three of 7; all behind them are 0.
+            expected.record.controllers[1].base = 6;
+            expected.record.controllers[2].base = 7;
+            expected.words = vec![0; 256];
+            expected.words[0] = 0b1110111111;
+        } else {
+            // The six bits of 5 alone.
+            expected.words[0] = u64::MAX - 63;
         }
         assert_eq!(outcome(&case), expected);
     }
@@ -549,7 +563,7 @@ fn writes_and_reports_keep_to_their_bits() {
     // Bits 0 to 3 are pages 16 to 19, bits 4 and 5 pages 0 and 1; all other bits stay as they are.
     let mut case = base(Call::Write { address: 73727, bytes: 2 }, 5);
     rubbish(&mut case.record);
-    case.words = vec![0xffff_ffff_ffff_ffd0; 512];
+    case.words = vec![0xffff_ffff_ffff_ffd0; 256];
     let mut expected = untouched(&case);
     expected.count = 2;
     expected.words[0] = 0xffff_ffff_ffff_ffd6;
@@ -571,14 +585,377 @@ fn writes_and_reports_keep_to_their_bits() {
 
 #[test]
 fn last_bit_of_a_controller() {
-    // Unit 4095 of the second controller is the highest bit of word 127.
+    // Unit 4095 of a share that begins at bit 4096 is the highest bit of word 127.
     let mut case = base(Call::Write { address: 16777215, bytes: 1 }, 6);
     case.record.controllers[1].tracking = Tracking::On { granularity: 0, count: 1 };
     case.record.controllers[1].ranges[0] = Range { start: 0, length: 4096 };
+    case.record.controllers[1].base = 4096;
     let mut expected = untouched(&case);
     expected.count = 1;
     expected.words[127] = 1 << 63;
     assert_eq!(outcome(&case), expected);
+    // A share that ends with the pool, behind that of 7: the highest bit of word 255.
+    case.record.controllers[1].base = 12288;
+    let mut expected = untouched(&case);
+    expected.count = 1;
+    expected.words[255] = 1 << 63;
+    assert_eq!(outcome(&case), expected);
+}
+
+// ---------------------------------------------------------------------------------------------------------------
+// The pool (W7)
+// ---------------------------------------------------------------------------------------------------------------
+
+/// The controller in this place tracks so many pages from page 0 on, and its share begins at this bit.
+fn share(record: &mut Record, place: usize, base: u64, pages: u64) {
+    record.controllers[place].tracking = Tracking::On { granularity: 0, count: 1 };
+    record.controllers[place].ranges = Default::default();
+    record.controllers[place].ranges[0] = Range { start: 0, length: pages };
+    record.controllers[place].base = base;
+}
+
+#[test]
+fn shares_at_the_end_of_the_pool_and_past_it() {
+    // 7 has 3 units.
+    for base in &[6, 7, 63, 64, 8192, 16380, 16381] {
+        assert_sound(&|record| record.controllers[2].base = *base);
+    }
+    for base in &[16382, 16383, 16384, 16385, 32768, 60000, 65535] {
+        assert_unsound(&|record| record.controllers[2].base = *base);
+    }
+    // 5 at 0, with 6 units, is overlapped from 0 to 5; 5 has room below that of 7, and above it.
+    for base in 0..6 {
+        assert_unsound(&|record| record.controllers[2].base = base);
+    }
+    for base in &[1, 8186, 8195, 16378] {
+        assert_sound(&|record| record.controllers[0].base = *base);
+    }
+    for base in &[8187, 8191, 8192, 8193, 8194, 16379, 65530, 65535] {
+        assert_unsound(&|record| record.controllers[0].base = *base);
+    }
+    // READINGS W7: 6 at 16,383 with one unit, at 16,384, and off at 60,000. A start of 6 meets 3, or is done.
+    assert_eq!(refusals(&|record| share(record, 1, 16383, 1)), [3, 0, 0, 0, 0, 0, 0, 0]);
+    assert_unsound(&|record| share(record, 1, 16384, 1));
+    assert_unsound(&|record| share(record, 1, 3, 1));
+    assert_sound(&|record| record.controllers[1].base = 60000);
+}
+
+#[test]
+fn a_full_pool() {
+    // 16,381 units of 5 and 3 of 7: sound where they stand side by side, in either order. A start finds no room.
+    let full = [11, 0, 0, 0, 0, 0, 0, 0];
+    for (base_of_5, base_of_7) in &[(0, 16381), (3, 0)] {
+        let filled = |record: &mut Record, pages| {
+            share(record, 0, *base_of_5, pages);
+            record.controllers[2].base = *base_of_7;
+        };
+        assert_eq!(refusals(&|record| filled(record, 16381)), full);
+        assert_sound(&|record| filled(record, 16380));
+        assert_unsound(&|record| filled(record, 16382));
+    }
+    assert_unsound(&|record| share(record, 0, 0, 16384));
+    // 7 off, and alone it may have all.
+    let alone = |record: &mut Record| {
+        record.controllers[2].tracking = Tracking::Off;
+        share(record, 0, 0, 16384);
+    };
+    assert_eq!(refusals(&alone), full);
+}
+
+/// The words with these bits set alone.
+fn words_of(bits: &[usize]) -> Vec<u64> {
+    let mut words = vec![0; 256];
+    for bit in bits {
+        words[bit / 64] |= 1 << (bit % 64);
+    }
+    words
+}
+
+#[test]
+fn a_start_moves_pending_units_with_their_shares() {
+    // 7 lies at 8192, before 5 at 12,000, whose 130 pages lie over three words; 6, between them in the settings, is new.
+    let mut case = start_with(&[(0, 70)]);
+    share(&mut case.record, 0, 12000, 130);
+    // Units 0, 63, 64 and 129 of 5, units 0 and 2 of 7, and bits outside: one before, one behind and one between.
+    case.words = words_of(&[12000, 12063, 12064, 12129, 8192, 8194, 11999, 12130, 8195, 0, 16383, 200]);
+    let mut expected = untouched(&case);
+    expected.record.controllers[0].base = 0;
+    expected.record.controllers[1] = Controller { base: 130, ..Controller::default() };
+    expected.record.controllers[1].tracking = Tracking::On { granularity: 0, count: 1 };
+    expected.record.controllers[1].ranges[0] = Range { start: 0, length: 70 };
+    expected.record.controllers[2].base = 200;
+    expected.words = words_of(&[0, 63, 64, 129, 200, 202]);
+    assert_eq!(outcome(&case), expected);
+}
+
+#[test]
+fn shares_that_change_their_order() {
+    // Eight controllers of 5 pages each lie in turned order, every other bit of a share pending. 12 is off and starts.
+    let mut case = start_with(&[(0, 7)]);
+    case.id = 12;
+    case.record.settings.number = 8;
+    case.record.settings.identifiers = [5, 6, 7, 8, 9, 10, 11, 12];
+    let (mut bits, mut moved) = (Vec::new(), Vec::new());
+    for place in 0..7 {
+        let base = 700 - 100 * place;
+        case.record.controllers[place] = Controller::default();
+        share(&mut case.record, place, base as u64, 5);
+        bits.extend_from_slice(&[base - 1, base, base + 2, base + 4, base + 5]);
+        moved.extend_from_slice(&[5 * place, 5 * place + 2, 5 * place + 4]);
+    }
+    case.record.controllers[7] = Controller::default();
+    case.words = words_of(&bits);
+    let mut expected = untouched(&case);
+    for place in 0..7 {
+        expected.record.controllers[place].base = 5 * place as u64;
+    }
+    share(&mut expected.record, 7, 35, 7);
+    expected.words = words_of(&moved);
+    assert_eq!(outcome(&case), expected);
+}
+
+#[test]
+fn each_word_moves() {
+    // 16,000 pages in the midst of the pool, of which each 61st is pending: a start before them in the settings lets them
+    // move up or down.
+    let pending: Vec<usize> = (0..16000).step_by(61).collect();
+    for (base, pages) in &[(0, 375), (1, 375), (300, 1), (375, 64), (64, 64), (380, 375), (375, 375)] {
+        let mut case = start_with(&[(0, *pages)]);
+        case.record.controllers[0] = Controller::default();
+        case.record.controllers[2].base = 16381;
+        share(&mut case.record, 2, *base as u64, 16000);
+        case.words = words_of(&pending.iter().map(|unit| base + unit).collect::<Vec<usize>>());
+        let after = outcome(&case);
+        assert_eq!(after.refusal, 0);
+        let bases: Vec<u64> = after.record.controllers.iter().take(3).map(|controller| controller.base).collect();
+        assert_eq!(bases, [0, 0, *pages]);
+        assert_eq!(after.words, words_of(&pending.iter().map(|unit| *pages as usize + unit).collect::<Vec<usize>>()));
+    }
+}
+
+/// The words of the mark 1: one bit of each, which are 0, 65, 130 and so on up to 4,095, and from 4,096 on again.
+fn one_bit_a_word() -> Vec<u64> {
+    let mut bits = Vec::new();
+    for from in [0, 4096, 8192, 12288].iter() {
+        bits.extend((0..64).map(|word| from + 65 * word));
+    }
+    words_of(&bits)
+}
+
+#[test]
+fn words_that_differ_move() {
+    // 6's 200 pages lie at a base, and 5 starts with so many pages; of their bits are set ...
+    for (base, pages, moved) in [
+        (64, 1, [2, 67, 132, 197]),               // 65, 130, 195, 260
+        (65, 64, [64, 129, 194, 259]),            // the same, by a bit to the left
+        (0, 63, [63, 128, 193, 258]),             // 0, 65, 130, 195, to the right
+        (0, 64, [64, 129, 194, 259]),             // by a word
+        (0, 65, [65, 130, 195, 260]),             // by a word and a bit
+        (4096, 64, [64, 129, 194, 259]),          // 4096, 4161, 4226, 4291
+        (16184, 1, [5, 70, 135, 200]),            // 16188, 16253, 16318, 16383
+        (0, 16181, [16181, 16246, 16311, 16376]), // 7's three units are behind them
+    ]
+    .iter()
+    {
+        let mut case = start_with(&[(0, *pages)]);
+        case.id = 5;
+        case.record.controllers[0] = Controller { base: 60000, ..Controller::default() };
+        share(&mut case.record, 1, *base, 200);
+        case.record.controllers[2].base = if *base == 0 { 201 } else { 61 };
+        case.words = one_bit_a_word();
+        let after = outcome(&case);
+        let bases: Vec<u64> = after.record.controllers.iter().take(3).map(|controller| controller.base).collect();
+        assert_eq!((after.refusal, bases), (0, vec![0, *pages, *pages + 200]));
+        assert_eq!(after.words, words_of(moved));
+    }
+}
+
+#[test]
+fn whole_words_change_places() {
+    // 5 has words 3 and 4, and 7 words 0 to 2; 6 starts with a word between them.
+    let mut case = start_with(&[(0, 64)]);
+    share(&mut case.record, 0, 192, 128);
+    share(&mut case.record, 2, 0, 192);
+    case.words = (1..257).collect();
+    let mut expected = vec![4, 5, 0, 1, 2, 3];
+    expected.resize(256, 0);
+    assert_eq!(outcome(&case).words, expected);
+    // 5 has words 128 to 255, but for the last bit, and 7 words 0 to 126; 6 starts with what is left, a bit and a word.
+    let mut case = start_with(&[(0, 65)]);
+    share(&mut case.record, 0, 8192, 8191);
+    share(&mut case.record, 2, 0, 8128);
+    case.words = (1..257).collect();
+    assert_eq!(outcome(&case).words, (129..257).chain(0..128).collect::<Vec<u64>>());
+}
+
+#[test]
+fn a_stop_moves_nothing() {
+    // All bits are set: the stop clears those of its share, within three words, and no other.
+    let mut case = base(Call::Stop, 5);
+    rubbish(&mut case.record);
+    share(&mut case.record, 0, 100, 150);
+    case.words = vec![u64::MAX; 256];
+    let mut expected = untouched(&case);
+    expected.record.controllers[0] = Controller::default();
+    expected.words[1] = (1 << 36) - 1;
+    expected.words[2] = 0;
+    expected.words[3] = u64::MAX << 58;
+    assert_eq!(outcome(&case), expected);
+    // So of the whole pool.
+    share(&mut case.record, 0, 0, 16384);
+    case.record.controllers[2].tracking = Tracking::Off;
+    let after = outcome(&case);
+    assert_eq!((after.refusal, after.words), (0, vec![0; 256]));
+    assert_eq!(after.record.controllers[2].base, 8192, "off, so as it was");
+}
+
+#[test]
+fn writes_and_reports_at_a_base() {
+    // Page 0 is bit 12,010, in the midst of word 187: pages 21 and 22 are its last bit and the next word's first.
+    let mut case = base(Call::Write { address: 86016, bytes: 4097 }, 5);
+    rubbish(&mut case.record);
+    share(&mut case.record, 0, 12010, 100);
+    let mut expected = untouched(&case);
+    expected.count = 2;
+    expected.words = words_of(&[12031, 12032]);
+    assert_eq!(outcome(&case), expected);
+    // Every bit outside is set and stays so, and decides nothing.
+    case.words = vec![u64::MAX; 256];
+    case.words[187] = (1 << 42) - 1;
+    case.words[188] = 0;
+    case.words[189] = u64::MAX << 14;
+    let mut expected = untouched(&case);
+    expected.count = 2;
+    expected.words[187] |= 1 << 63;
+    expected.words[188] |= 1;
+    assert_eq!(outcome(&case), expected);
+    let before = case.words.clone();
+    case.call = Call::Receive;
+    case.words = expected.words;
+    case.data = vec![170; 32];
+    let mut expected = untouched(&case);
+    expected.report = [0, 0, 0, 1];
+    expected.words = before;
+    expected.data.copy_from_slice(&[
+        0, 0, 5, 0, 1, 0, 0, 0, 0, 0, 0, 0, 0, 0, 0, 0, // identifier 5, one, granularity 0
+        0, 80, 1, 0, 0, 0, 0, 0, 2, 0, 0, 0, 0, 0, 0, 0, // 86016, 2
+    ]);
+    assert_eq!(outcome(&case), expected);
+}
+
+#[test]
+fn other_calls_leave_bases_and_words() {
+    // Behind start and stop. The share of 5 is word 250's six lowest bits.
+    for mut case in calls().into_iter().skip(2) {
+        rubbish(&mut case.record);
+        case.record.controllers[0].base = 16000;
+        case.words = vec![u64::MAX; 256];
+        let after = outcome(&case);
+        assert_eq!(after.refusal, 0);
+        for (controller, before) in after.record.controllers.iter().zip(&case.record.controllers) {
+            assert_eq!(controller.base, before.base);
+        }
+        // The report clears them; all else is as it was.
+        if case.call == Call::Receive {
+            case.words[250] -= 63;
+        }
+        assert_eq!(after.words, case.words);
+    }
+}
+
+/// The bits of these words.
+fn bits_of(words: &[u64]) -> Vec<bool> {
+    (0..64 * words.len()).map(|bit| words[bit / 64] >> (bit % 64) & 1 == 1).collect()
+}
+
+/// The bits of each tracked controller's share, by its place, as a row of bools; nothing for one that is off.
+fn rows_of(record: &Record, words: &[u64]) -> Vec<Option<Vec<bool>>> {
+    let bits = bits_of(words);
+    let mut rows = Vec::new();
+    for controller in record.controllers.iter().take(record.settings.number as usize) {
+        let first = controller.base as usize;
+        rows.push(match controller.tracking {
+            Tracking::Off => None,
+            Tracking::On { .. } => Some(bits[first..first + units(controller).count()].to_vec()),
+        });
+    }
+    rows
+}
+
+/// A session as a row of cases, each given the record and the words that the one before left. It is answered as a session
+/// of the device alone, which has no words; after a done start the words are the rows joined, and else only the called
+/// controller's row may have changed.
+#[test]
+fn a_row_of_cases_is_a_session() {
+    let mut random = Random(8);
+    let fresh = start_with(&[]);
+    let mut met = [0; 22];
+    for _ in 0..60 {
+        let mut record = Record { settings: fresh.record.settings.clone(), ..Record::default() };
+        record.settings.number = 5;
+        record.settings.limit = 128;
+        record.settings.identifiers = [5, 6, 7, 8, 9, 0, 0, 0];
+        let mut device = Device::fresh(&record.settings).unwrap();
+        let mut words = vec![0; 256];
+        for _ in 0..60 {
+            let place = random.below(5);
+            let lengths = [1, 2, 63, 64, 65, 130, 4000, 8192, 16384 - random.below(9000), 16384 - random.below(16384)];
+            let ranges = [
+                Range { start: 4096 * random.below(99) as u64, length: 1 + random.below(99) as u64 },
+                Range { start: 4096 * random.below(99) as u64, length: lengths[random.below(10)] as u64 },
+            ];
+            let ranges = &ranges[random.below(2)..];
+            let (address, bytes) = (random.below(16384) as u64 * 4096, 1 + random.below(400) as u64 * 4096);
+            let call = match random.below(20) {
+                0..=6 => Call::Start,
+                7..=9 => Call::Stop,
+                10 | 11 => Call::Receive,
+                12 => Call::Suspend { kind: 1 },
+                13 | 14 => Call::Resume,
+                _ => Call::Write { address: address % 4194304, bytes },
+            };
+            let id = device.record.settings.identifiers[place];
+            let data = if call == Call::Start { structure_bytes(0, ranges) } else { vec![170; 48] };
+            let case = Case { record, words, call, id, data: data.clone(), area: Vec::new() };
+            let after = outcome(&case);
+            let mut buffer = data;
+            let (refusal, count) = match &case.call {
+                Call::Start => (device.start(id, &buffer).err().map(|reason| reason.number), 0),
+                Call::Stop => (device.stop(id).err(), 0),
+                Call::Receive => (device.receive(id, &mut buffer).err(), 0),
+                Call::Suspend { kind } => (device.suspend(id, *kind).err(), 0),
+                Call::Resume => (device.resume(id).err(), 0),
+                _ => {
+                    let noted = device.write(&Note { id, address: address % 4194304, bytes });
+                    (noted.err(), noted.unwrap_or(0))
+                }
+            };
+            assert_eq!((after.refusal, after.count), (refusal.unwrap_or(0), count));
+            assert_eq!((&after.record, &after.data), (&device.record, &buffer));
+            met[after.refusal as usize] += 1;
+            // The words after, by those before.
+            let mut rows = rows_of(&case.record, &case.words);
+            let rows_after = rows_of(&after.record, &after.words);
+            let mut expected = bits_of(&case.words);
+            if refusal.is_none() && case.call == Call::Start {
+                assert_eq!(rows[place], None);
+                rows[place] = Some(vec![false; units(&after.record.controllers[place]).count()]);
+                expected = rows.iter().flatten().flatten().cloned().collect();
+                expected.resize(16384, false);
+            } else if let Some(row) = &rows[place] {
+                let first = case.record.controllers[place].base as usize;
+                let own = first..first + row.len();
+                let cleared = vec![false; row.len()];
+                expected[own].copy_from_slice(rows_after[place].as_ref().unwrap_or(&cleared));
+            }
+            assert_eq!(bits_of(&after.words), expected);
+            record = after.record;
+            words = after.words;
+        }
+    }
+    for refusal in [0, 3, 4, 5, 11, 13].iter() {
+        assert!(met[*refusal] > 50, "{}: {}", refusal, met[*refusal]);
+    }
 }
 
 /// Controller 5 tracks page 17, then pages 15 to 18, then page 16, then pages 14 to 19: bit 0 is page 17, bits 1 to 3
@@ -594,14 +971,14 @@ fn shared(call: Call, words: &[u64]) -> Case {
 fn bits_of_ranges_that_overlap() {
     // A byte of each page from 13 to 20, and its bit.
     for (page, bit) in [(13, 0), (14, 16), (15, 2), (16, 4), (17, 1), (18, 8), (19, 32), (20, 0)].iter() {
-        let case = shared(Call::Write { address: page * 4096 + 4095, bytes: 1 }, &[0; 512]);
+        let case = shared(Call::Write { address: page * 4096 + 4095, bytes: 1 }, &[0; 256]);
         let mut expected = untouched(&case);
         expected.count = if *bit == 0 { 0 } else { 1 };
         expected.words[0] = *bit;
         assert_eq!(outcome(&case), expected, "{}", page);
     }
     // All of them, with the bits past the total as they were; page 16 was pending.
-    let case = shared(Call::Write { address: 0, bytes: u64::MAX }, &[0xffff_ffff_ffff_ffc4; 512]);
+    let case = shared(Call::Write { address: 0, bytes: u64::MAX }, &[0xffff_ffff_ffff_ffc4; 256]);
     let mut expected = untouched(&case);
     expected.count = 5;
     expected.words[0] = u64::MAX;
@@ -611,7 +988,7 @@ fn bits_of_ranges_that_overlap() {
 #[test]
 fn reports_of_ranges_that_overlap() {
     // The runs are page 17; pages 15 and 16; page 18; page 14; page 19. 48 bytes hold two of them.
-    let mut case = shared(Call::Receive, &[u64::MAX; 512]);
+    let mut case = shared(Call::Receive, &[u64::MAX; 256]);
     case.data = vec![170; 63];
     let mut expected = untouched(&case);
     expected.report = [0, 1, 0, 2];
@@ -665,7 +1042,7 @@ fn last_bits_of_ranges_that_overlap() {
 /// A whole case with each field's bytes at its offset in tests/RECORDS.md.
 fn case_bytes() -> Vec<u8> {
     let mut bytes = vec![0; CASE_BYTES];
-    let fields: [(usize, &[u8]); 25] = [
+    let fields: [(usize, &[u8]); 27] = [
         (0, &[1, 2]),                          // manager
         (2, &[3]),                             // least
         (3, &[4]),                             // greatest
@@ -675,22 +1052,24 @@ fn case_bytes() -> Vec<u8> {
         (15, &[9, 10]),                        // the first identifier
         (29, &[11, 12]),                       // the last identifier
         (31, &[1, 13, 14, 1]),                 // the first controller
-        (35, &[15, 0, 0, 0, 0, 0, 0, 16]),     // its first start
-        (43, &[17, 0, 0, 18]),                 // its first length
-        (227, &[1, 19, 20, 0]),                // the second controller
-        (1587, &[21, 0, 0, 0, 0, 0, 0, 22]),   // the last controller's last start
-        (1595, &[23, 0, 0, 24]),               // the last length
-        (1599, &[1, 37, 38, 39, 40]),          // an open sequence, its owner and its end
-        (1604, &[1, 2]),                       // 513 words
-        (1606, &[25, 0, 0, 0, 0, 0, 0, 26]),   // their mark
-        (1614, &[3, 27, 28]),                  // a write of this identifier
-        (1617, &[29, 0, 0, 0, 0, 0, 0, 30]),   // address
-        (1625, &[31, 0, 0, 0, 0, 0, 0, 32]),   // bytes
-        (1633, &[33, 3, 0, 34, 35, 36, 99]),   // type, 3 lent bytes, and one that isn't lent
-        (2662, &[41, 42, 0, 0, 43]),           // a part's indicator, and its offset's lower word
-        (2667, &[44, 0, 0, 45, 46, 0, 0, 47]), // the upper word, and the count
-        (2675, &[70, 0, 48, 49]),              // 70 bytes of state area, their fill, and the first of its front
-        (2741, &[50]),                         // the last of its front
+        (35, &[51, 52]),                       // its base
+        (37, &[15, 0, 0, 0, 0, 0, 0, 16]),     // its first start
+        (45, &[17, 0, 0, 18]),                 // its first length
+        (229, &[1, 19, 20, 0, 53, 54]),        // the second controller
+        (1421, &[55, 56]),                     // the last controller's base
+        (1603, &[21, 0, 0, 0, 0, 0, 0, 22]),   // its last start
+        (1611, &[23, 0, 0, 24]),               // the last length
+        (1615, &[1, 37, 38, 39, 40]),          // an open sequence, its owner and its end
+        (1620, &[1, 1]),                       // 257 words
+        (1622, &[25, 0, 0, 0, 0, 0, 0, 26]),   // their mark
+        (1630, &[3, 27, 28]),                  // a write of this identifier
+        (1633, &[29, 0, 0, 0, 0, 0, 0, 30]),   // address
+        (1641, &[31, 0, 0, 0, 0, 0, 0, 32]),   // bytes
+        (1649, &[33, 3, 0, 34, 35, 36, 99]),   // type, 3 lent bytes, and one that isn't lent
+        (2678, &[41, 42, 0, 0, 43]),           // a part's indicator, and its offset's lower word
+        (2683, &[44, 0, 0, 45, 46, 0, 0, 47]), // the upper word, and the count
+        (2691, &[70, 0, 48, 49]),              // 70 bytes of state area, their fill, and the first of its front
+        (2757, &[50]),                         // the last of its front
     ];
     for (at, field) in &fields {
         bytes[*at..*at + field.len()].copy_from_slice(field);
@@ -722,7 +1101,9 @@ fn fields_at_their_offsets() {
     let second = &case.record.controllers[1];
     assert_eq!((second.tracking, second.suspended), (Tracking::On { granularity: 19, count: 20 }, false));
     assert_eq!(case.record.controllers[7].ranges[15], Range { start: high(21, 22), length: 402653207 });
-    assert_eq!(case.words, vec![high(25, 26); 513]);
+    let bases: Vec<u64> = case.record.controllers.iter().map(|controller| controller.base).collect();
+    assert_eq!(bases, [13363, 13877, 0, 0, 0, 0, 0, 14391]);
+    assert_eq!((case.words.len(), case.words[0]), (257, high(25, 26)));
     assert_eq!(case.call, Call::Write { address: high(29, 30), bytes: high(31, 32) });
     assert_eq!((case.id, case.data), (7195, vec![34, 35, 36]));
     assert_eq!(case.record.sequence, Sequence::Open { owner: 9765, end: 10279 });
@@ -731,9 +1112,33 @@ fn fields_at_their_offsets() {
 }
 
 #[test]
+fn words_of_a_mark() {
+    // Rotated by 0 to 3 the lowest byte and the highest have room: 25 and 26, doubled each time.
+    let words = read_case(&case_bytes()).unwrap().words;
+    assert_eq!(words[..4], [high(25, 26), high(50, 52), high(100, 104), high(200, 208)]);
+    // Then each loses its highest bit to the byte above it: 16 times 25 is 256 and 144, 16 times 26 is 256 and 160.
+    assert_eq!(words[4], high(145, 160) + 256);
+    // Rotated by 63: halved, and what is left over of 25 is the highest bit.
+    assert_eq!(words[63], high(12, 13 + 128));
+    assert_eq!(words[64..256], [&words[..64], &words[..64], &words[..64]].concat()[..]);
+    assert_eq!(words[256], high(25, 26));
+    // Zeros and ones stay as they are.
+    for byte in [0, 255].iter() {
+        let mut bytes = case_bytes();
+        bytes[1622..1630].copy_from_slice(&[*byte; 8]);
+        assert_eq!(read_case(&bytes).unwrap().words, vec![if *byte == 0 { 0 } else { u64::MAX }; 257]);
+    }
+    // A bit is in each word one place higher, and in word 64 where it was.
+    let mut bytes = case_bytes();
+    bytes[1622..1630].copy_from_slice(&[1, 0, 0, 0, 0, 0, 0, 0]);
+    let words = read_case(&bytes).unwrap().words;
+    assert_eq!((words[0], words[1], words[63], words[64], words[65]), (1, 2, 1 << 63, 1, 2));
+}
+
+#[test]
 fn fields_of_a_part() {
     let mut bytes = case_bytes();
-    bytes[1614] = 8;
+    bytes[1630] = 8;
     let case = read_case(&bytes).unwrap();
     assert_eq!(case.call, Call::Part { indicator: 41, low: 721420330, high: 754974764, count: 788529198 });
     assert_eq!((case.id, case.data), (7195, vec![34, 35, 36]));
@@ -745,8 +1150,8 @@ fn fields_of_a_part() {
     assert_eq!(case.area, area);
     // Areas no longer than the front, and as long as can be.
     for (length, low, high) in [(0, 0, 0), (1, 1, 0), (63, 63, 0), (64, 64, 0), (4200, 104, 16)].iter() {
-        bytes[2675] = *low;
-        bytes[2676] = *high;
+        bytes[2691] = *low;
+        bytes[2692] = *high;
         let mut expected = [vec![49], vec![0; 62], vec![50], vec![48; 4136]].concat();
         expected.truncate(*length);
         assert_eq!(read_case(&bytes).unwrap().area, expected);
@@ -757,24 +1162,24 @@ fn fields_of_a_part() {
 fn data_of_a_part() {
     // 4,100 bytes, of which the case has room for 1,024: the others are zeros.
     let mut bytes = case_bytes();
-    bytes[1614] = 8;
-    bytes[1634] = 4;
-    bytes[1635] = 16;
-    bytes[2659] = 98;
+    bytes[1630] = 8;
+    bytes[1650] = 4;
+    bytes[1651] = 16;
+    bytes[2675] = 98;
     let mut expected = vec![34, 35, 36, 99];
     expected.resize(1023, 0);
     expected.push(98);
     expected.resize(4100, 0);
     assert_eq!(read_case(&bytes).unwrap().data, expected);
-    bytes[1634] = 5;
+    bytes[1650] = 5;
     assert_eq!(read_case(&bytes), None, "4,101 bytes");
 }
 
 #[test]
 fn record_is_written_as_it_was_read() {
     let bytes = case_bytes();
-    assert_eq!(record_bytes(&read_case(&bytes).unwrap().record), bytes[..1604].to_vec());
-    assert_eq!(record_bytes(&Record::default()), vec![0; 1604]);
+    assert_eq!(record_bytes(&read_case(&bytes).unwrap().record), bytes[..1620].to_vec());
+    assert_eq!(record_bytes(&Record::default()), vec![0; 1620]);
 }
 
 #[test]
@@ -786,7 +1191,7 @@ fn each_call_by_its_number() {
             .iter()
             .enumerate()
     {
-        bytes[1614] = number as u8;
+        bytes[1630] = number as u8;
         assert_eq!(read_case(&bytes).unwrap().call, *call);
     }
     assert_eq!(read_case(&batch_bytes(0, 0)).unwrap().call, Call::Batch(Vec::new()));
@@ -795,14 +1200,14 @@ fn each_call_by_its_number() {
 /// A batch with this many records, and as many lent bytes of two rows.
 fn batch_bytes(records: u64, lent: u8) -> Vec<u8> {
     let mut bytes = case_bytes();
-    bytes[1614] = 7;
-    bytes[1634] = lent;
-    bytes[1636..1672].copy_from_slice(&[
+    bytes[1630] = 7;
+    bytes[1650] = lent;
+    bytes[1652..1688].copy_from_slice(&[
         1, 2, 3, 0, 0, 0, 0, 0, 0, 4, 5, 0, 0, 0, 0, 0, 0, 6, // identifier, address, bytes
         7, 8, 9, 0, 0, 0, 0, 0, 0, 10, 11, 0, 0, 0, 0, 0, 0, 12,
     ]);
-    bytes[2660] = (records % 256) as u8;
-    bytes[2661] = (records / 256) as u8;
+    bytes[2676] = (records % 256) as u8;
+    bytes[2677] = (records / 256) as u8;
     bytes
 }
 
@@ -820,7 +1225,7 @@ fn rows_of_a_batch() {
     // No row.
     assert_eq!(call(1025, 0), batch(&[(0, 0, 0); 1025]));
     // The rows are lent bytes like any other.
-    assert_eq!(read_case(&batch_bytes(5, 36)).unwrap().data, batch_bytes(0, 0)[1636..1672].to_vec());
+    assert_eq!(read_case(&batch_bytes(5, 36)).unwrap().data, batch_bytes(0, 0)[1652..1688].to_vec());
 }
 
 #[test]
@@ -835,20 +1240,20 @@ fn bytes_that_are_no_batch() {
 #[test]
 fn bytes_that_are_no_case() {
     // Rule 2, tracking 2, off with a granularity, suspended 2, sequence 2, none with an owner and an end or with one of
-    // them, 601 words, call 9, 1,025 lent bytes, 4,201 bytes of area.
+    // them, 513 words, call 9, 1,025 lent bytes, 4,201 bytes of area.
     let damages: [&[(usize, u8)]; 12] = [
         &[(4, 2)],
         &[(31, 2)],
         &[(31, 0)],
         &[(34, 2)],
-        &[(1599, 2)],
-        &[(1599, 0)],
-        &[(1599, 0), (1600, 0), (1601, 0)],
-        &[(1599, 0), (1602, 0), (1603, 0)],
-        &[(1604, 89)],
-        &[(1614, 9)],
-        &[(1634, 1), (1635, 4)],
-        &[(2675, 105), (2676, 16)],
+        &[(1615, 2)],
+        &[(1615, 0)],
+        &[(1615, 0), (1616, 0), (1617, 0)],
+        &[(1615, 0), (1618, 0), (1619, 0)],
+        &[(1621, 2)],
+        &[(1630, 9)],
+        &[(1650, 1), (1651, 4)],
+        &[(2691, 105), (2692, 16)],
     ];
     for damage in &damages {
         let mut bytes = case_bytes();
@@ -869,9 +1274,10 @@ fn answers_at_their_offsets() {
     let report = [3, 4, 5, high(6, 7)];
     let numbers = Outcome { refusal: 200, row: 201, count: high(1, 2), report, ..untouched(&case) };
     let mut after = Outcome { notes_done: high(8, 9), cut: 10, whole: high(11, 12), ..numbers };
-    after.words[512] = high(41, 42);
+    after.words = vec![high(25, 26); 256];
+    after.words.push(high(41, 42));
     after.area = vec![43, 44];
-    let mut expected = vec![0; 11666];
+    let mut expected = vec![0; 10978];
     let fields: [(usize, &[u8]); 9] = [
         (0, &[200, 201]),                    // refusal and row
         (2, &[1, 0, 0, 0, 0, 0, 0, 2]),      // count
@@ -879,39 +1285,39 @@ fn answers_at_their_offsets() {
         (13, &[6, 0, 0, 0, 0, 0, 0, 7]),     // number of runs
         (21, &[8, 0, 0, 0, 0, 0, 0, 9, 10]), // notes done, and the refusal that cut the batch
         (30, &[11, 0, 0, 0, 0, 0, 0, 12]),   // whole
-        (5738, &[41, 0, 0, 0, 0, 0, 0, 42]), // the last of 513 words
-        (6442, &[34, 35, 36]),               // 3 lent bytes
-        (7466, &[43, 44]),                   // 2 bytes of state area
+        (3706, &[41, 0, 0, 0, 0, 0, 0, 42]), // the last of 257 words
+        (5754, &[34, 35, 36]),               // 3 lent bytes
+        (6778, &[43, 44]),                   // 2 bytes of state area
     ];
     for (at, field) in &fields {
         expected[*at..*at + field.len()].copy_from_slice(field);
     }
-    expected[38..1642].copy_from_slice(&case_bytes()[..1604]);
-    for word in 0..512 {
-        expected[1642 + 8 * word..1650 + 8 * word].copy_from_slice(&[25, 0, 0, 0, 0, 0, 0, 26]);
+    expected[38..1658].copy_from_slice(&case_bytes()[..1620]);
+    for word in 0..256 {
+        expected[1658 + 8 * word..1666 + 8 * word].copy_from_slice(&[25, 0, 0, 0, 0, 0, 0, 26]);
     }
     assert_eq!(answer(&after), expected);
 }
 
 #[test]
 fn answer_to_a_case_that_lends_the_most() {
-    // 600 words answer 1. Nothing is changed, so the answer ends in all that was lent.
+    // 512 words answer 1. Nothing is changed, so the answer ends in all that was lent.
     let mut case = base(Call::Receive, 5);
-    case.words = vec![u64::MAX; 600];
+    case.words = vec![u64::MAX; 512];
     case.data = vec![170; 1024];
     let mut expected = vec![1];
     expected.resize(38, 0);
     expected.extend_from_slice(&record_bytes(&case.record));
-    expected.resize(6442, 255);
-    expected.resize(7466, 170);
-    expected.resize(11666, 0);
+    expected.resize(5754, 255);
+    expected.resize(6778, 170);
+    expected.resize(10978, 0);
     assert_eq!(answer(&outcome(&case)), expected);
     // So with a part: of its 4,100 bytes the first 1,024 are there, and the area is.
     let mut case = part(1, 0, &[170; 4100]);
-    case.words = vec![u64::MAX; 600];
+    case.words = vec![u64::MAX; 512];
     case.area = vec![85; 4200];
-    expected.truncate(7466);
-    expected.resize(11666, 85);
+    expected.truncate(6778);
+    expected.resize(10978, 85);
     assert_eq!(answer(&outcome(&case)), expected);
 }
 
@@ -922,13 +1328,13 @@ fn answer_to_a_start_that_names_a_row() {
     let mut expected = vec![20, 1];
     expected.resize(38, 0);
     expected.extend_from_slice(&record_bytes(&case.record));
-    expected.resize(6442, 0);
+    expected.resize(5754, 0);
     expected.extend_from_slice(&[
         0, 0, 0, 0, 2, 0, 0, 0, // version, reserved, granularity, count
         0, 0, 1, 0, 0, 0, 0, 0, 4, 0, 0, 0, // 65536, 4
         1, 16, 0, 0, 0, 0, 0, 0, 1, 0, 0, 0, // 4097, 1
     ]);
-    expected.resize(11666, 0);
+    expected.resize(10978, 0);
     assert_eq!(answer(&outcome(&case)), expected);
 }
 
@@ -942,7 +1348,7 @@ fn answer_to_a_batch_that_is_cut() {
     expected.resize(38, 0);
     expected.extend_from_slice(&record_bytes(&case.record));
     expected.push(0b0110);
-    expected.resize(11666, 0);
+    expected.resize(10978, 0);
     assert_eq!(answer(&outcome(&case)), expected);
 }
 
@@ -958,20 +1364,22 @@ fn answer_to_a_part_that_yields_a_state() {
     let mut record = case.record.clone();
     record.sequence = Sequence::Nothing;
     expected.extend_from_slice(&record_bytes(&record));
-    expected.resize(7466 + 48, 0);
-    expected.resize(7466 + 4096, 0xEE);
-    expected.resize(11666, 0);
+    expected.resize(6778 + 48, 0);
+    expected.resize(6778 + 4096, 0xEE);
+    expected.resize(10978, 0);
     assert_eq!(answer(&outcome(&case)), expected);
 }
 
 #[test]
 fn controller_that_is_off_answers_zeros() {
-    // A stop of controller 5 zeroes its 196 bytes, from byte 31 of the record on, and the record stays in the form.
-    let mut expected = record_bytes(&base(Call::Stop, 5).record);
-    for byte in &mut expected[31..227] {
+    // A stop of controller 5 zeroes its 198 bytes, from byte 31 of the record on, and the record stays in the form.
+    let mut case = base(Call::Stop, 5);
+    case.record.controllers[0].base = 12345;
+    let mut expected = record_bytes(&case.record);
+    for byte in &mut expected[31..229] {
         *byte = 0;
     }
-    assert_eq!(answer(&outcome(&base(Call::Stop, 5)))[38..1642].to_vec(), expected);
+    assert_eq!(answer(&outcome(&case))[38..1658].to_vec(), expected);
 }
 
 #[test]
@@ -979,9 +1387,9 @@ fn an_answer_for_each_case() {
     // Two cases of zeros: a fresh whose settings have no identifiers. It answers 16 and is closed; no words, no bytes.
     let mut output = Vec::new();
     play(&mut &vec![0; 2 * CASE_BYTES][..], &mut output).unwrap();
-    let mut expected = vec![0; 2 * 11666];
+    let mut expected = vec![0; 2 * 10978];
     expected[0] = 16;
-    expected[11666] = 16;
+    expected[10978] = 16;
     assert_eq!(output, expected);
     let mut output = Vec::new();
     play(&mut &[][..], &mut output).unwrap();

@@ -229,15 +229,15 @@ fn all_units_of_eight_controllers() {
     let mut lines = vec![("dev 1 0 0 0 128 10 11 12 13 14 15 16 17".to_string(), "0".to_string())];
     let mut notes = Vec::new();
     for id in 10..18 {
-        lines.push((format!("start {} 0 0 4096", id), "0".to_string()));
+        lines.push((format!("start {} 0 0 2048", id), "0".to_string()));
         notes.push(format!("{} 0 16777216", id));
     }
     let notes: Vec<&str> = notes.iter().map(|note| note.as_str()).collect();
-    // 8 times 4,096.
-    lines.push((batch_of(&notes), "0 done 8 new 32768 refusal 0".to_string()));
+    // 8 times 2,048.
+    lines.push((batch_of(&notes), "0 done 8 new 16384 refusal 0".to_string()));
     lines.push((batch_of(&notes), "0 done 8 new 0 refusal 0".to_string()));
     for id in 10..18 {
-        lines.push((format!("recv {} 32", id), "0 susp 0 more 0 gran 0 runs 1/0 4096".to_string()));
+        lines.push((format!("recv {} 32", id), "0 susp 0 more 0 gran 0 runs 1/0 2048".to_string()));
     }
     let lines: Vec<(&str, &str)> = lines.iter().map(|(line, answer)| (line.as_str(), answer.as_str())).collect();
     shelf(&lines);

@@ -1,12 +1,12 @@
--- `ranges::list_refusal` is right because it asks the table's tests in their order: the count, the rows, then 10 and 11.
+-- `ranges::list_refusal` is right because it asks the table's tests in their order: the count, the rows, then 10.
 use mathlib.Core.Path.{_≡_, sym, _∙_}
 use mathlib.Core.Bool.{true}
 use native.Mathlib.Omega.{arith}
 use borrow.Author.Needs.{needs}
 use borrow.Author.Tests.{not-true, not-false}
 use lib.ListN.{take}
-use Rattle.rules.specs.Ranges.{rowsOk, powersOk}
-use Rattle.ranges.proofs.RangeLaws.{rows-none, list-empty, list-many, list-rows, list-ten, list-eleven, list-done}
+use Rattle.rules.specs.Ranges.{rowsOk}
+use Rattle.ranges.proofs.RangeLaws.{rows-none, list-empty, list-many, list-rows, list-ten, list-done}
 use Rattle.ranges.proofs.list_refusal.Statement.{statement}
 use Rattle.ranges.proofs.list_refusal.Tie as tie
 
@@ -15,10 +15,6 @@ rows-passed : (c : tie.Else3) → let a = c .before .before .before .before .bef
 rows-passed c =
     let a = c .before .before .before .before .before .args in
     rows-none (a .g) (take (a .n) (a .ranges)) _ (c .before .before .rows-refusal .ensures) (c .if3 .left)
-
--- past the fourth they pass 10
-ten-passed : (c : tie.Else4) → let a = c .before .before .before .before .before .before .before .args in powersOk (a .s) (take (a .n) (a .ranges)) ≡ true
-ten-passed c = sym (c .before .powers-ok .ensures) ∙ not-false _ (c .if4 .left)
 
 returns : tie.Need-returns
 returns c = sym (list-empty _ _ _ _ (c .if1 .taken))
@@ -38,20 +34,10 @@ powers-ok-requires c κs = search needs
 returns-4 : tie.Need-returns-4
 returns-4 c = sym (list-ten _ _ _ _ (omega arith) (omega arith) (rows-passed (c .before .before)) (sym (c .before .powers-ok .ensures) ∙ not-true _ (c .if4 .taken)))
 
-units-ok-requires : tie.Need-units-ok-requires
-units-ok-requires c κs = (c .before .before .before .before .before .before .before .pre, omega arith, rows-passed (c .before .before))
-
 returns-5 : tie.Need-returns-5
-returns-5 c =
-    let p = c .before .before in
-    sym (list-eleven _ _ _ _ (omega arith) (omega arith) (rows-passed (p .before .before)) (ten-passed p) (sym (c .before .units-ok .ensures) ∙ not-true _ (c .if5 .taken)))
-
-returns-6 : tie.Need-returns-6
-returns-6 c =
-    let p = c .before .before in
-    sym (list-done _ _ _ _ (omega arith) (omega arith) (rows-passed (p .before .before)) (ten-passed p) (sym (c .before .units-ok .ensures) ∙ not-false _ (c .if5 .left)))
+returns-5 c = sym (list-done _ _ _ _ (omega arith) (omega arith) (rows-passed (c .before .before)) (sym (c .before .powers-ok .ensures) ∙ not-false _ (c .if4 .left)))
 
 pub list-refusal-spec : {M : Type 1} → statement M
 list-refusal-spec =
     tie.close
-    (tie.spec returns returns-2 rows-refusal-requires returns-3 powers-ok-requires returns-4 units-ok-requires returns-5 returns-6)
+    (tie.spec returns returns-2 rows-refusal-requires returns-3 powers-ok-requires returns-4 returns-5)

@@ -1,17 +1,16 @@
 -- `ranges::units_in` is right because the pieces are all the units, each once. The loop's invariant: what was counted and what is left are all units. The
 -- measure is the units that are left.
 use mathlib.Core.Path.{_≡_, sym, ap, subst, _∙_}
-use mathlib.Core.List.{[]}
-use Prim.Native.Nat.{_≤_, _+_}
+use Prim.Native.Nat.{_≤_, _+_, _^_}
 use native.Mathlib.Omega.{arith}
 use native.Mathlib.Nat.{zero-add, add-zero}
-use lib.ListN.{length, take}
+use lib.ListN.{length, take, length-take}
 use borrow.Author.Needs.{needs}
 use Rattle.rules.specs.Settings.{unitSize}
 use Rattle.rules.specs.Units.{units}
-use Rattle.rules.proofs.UnitLaws.{unitsFrom-length}
 use Rattle.pieces.specs.Pieces.{rowOf, unitsLeft, PieceFound, NextIs}
 use Rattle.pieces.proofs.PieceLaws.{left-all, piece-length}
+use Rattle.ranges.proofs.RangeLaws.{units-lengths, lengths-small}
 use Rattle.ranges.proofs.units_in.Statement.{statement}
 use Rattle.ranges.proofs.units_in.Tie as tie
 
@@ -21,6 +20,12 @@ Inv-loop g n ranges total₀ row₀ unit₀ total row unit =
 
 abbrev μ-loop : tie.MeasureT-loop
 μ-loop g n ranges total₀ row₀ unit₀ total row unit = length (unitsLeft (unitSize g) (take n ranges) row (unit .0))
+
+-- there are few: 16 ranges of at most 2^52 units
+few : (c : tie.Start Inv-loop μ-loop) → length (units (c .args .g) (take (c .args .n) (c .args .ranges))) ≤ 2 ^ 56
+few c =
+    let rs = take (c .args .n) (c .args .ranges) in
+    omega (arith, units-lengths (c .args .g) rs, lengths-small (c .args .g) rs (c .pre .2), length-take (c .args .n) (c .args .ranges), c .pre .1)
 
 -- the piece that was found
 found : (c : tie.After-known-told Inv-loop μ-loop)
@@ -50,7 +55,8 @@ returns : tie.Need-returns Inv-loop μ-loop
 returns c =
     let l = c .before .before .before .loop in
     let q = subst (NextIs _ _ _ _) (c .enum-told .given .1) (c .before .before .next-piece .ensures) in
-    sym (add-zero _) ∙ (rw q at (l .inv .1))
+    let e = sym (add-zero _) ∙ (rw q at (l .inv .1)) in
+    (e, omega (arith, e, few (c .before .before .before .before)))
 
 length-of-requires : tie.Need-length-of-requires Inv-loop μ-loop
 length-of-requires c κs = search needs
@@ -60,7 +66,7 @@ add-total c =
     let k = c .before .before in
     let l = k .before .before .before .before .loop in
     let s = k .before .before .before .before .before in
-    omega (arith, l .inv .1, piece-length _ _ _ _ _ (found k), c .before .length-of .ensures .0, unitsFrom-length (unitSize (s .args .g)) 0 [] (take (s .args .n) (s .args .ranges)), s .pre .3)
+    omega (arith, l .inv .1, piece-length _ _ _ _ _ (found k), c .before .length-of .ensures .0, few s)
 
 loop-less : tie.Need-loop-less Inv-loop μ-loop
 loop-less c = let k = c .before .before .before in omega (arith, found k .some, piece-length _ _ _ _ _ (found k))

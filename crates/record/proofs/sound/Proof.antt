@@ -1,17 +1,35 @@
--- `record::sound` is right because settings that fail are a rule that is broken, a sequence that fails is one, and past them the weights are within the limit
--- exactly if the other two rules hold. Settings that pass make the weights safe: 1 to 8 controllers, granularities up to 20.
-use mathlib.Core.Path.{_≡_, sym, _∙_}
+-- `record::sound` is right because settings that fail are a rule that is broken, a sequence that fails is one, and so are weights past the limit; past them the
+-- pool is left, which is as it may be where the shares lie one behind the other by their ranges' lengths (`soundDevice-lined`). Settings that pass make the walk
+-- safe: 1 to 8 controllers, granularities up to 20.
+use Prim.Native.Nat.{_≤_}
+use mathlib.Core.Path.{_≡_, sym, ap, _∙_}
 use mathlib.Core.Bool.{true}
+use native.Mathlib.Omega.{arith}
 use borrow.Author.Needs.{needs}
 use borrow.Author.Tests.{not-true, not-false}
 use Rattle.rules.specs.Settings.{settingsOk}
-use Rattle.record.proofs.RecordLaws.{soundDevice-settings-not, soundDevice-sequence-not, soundDevice-weights}
+use Rattle.rules.specs.Device.{controllersOf, sequenceOk}
+use Rattle.record.specs.Record.{weightsOf}
+use Rattle.record.specs.declared.Walked.{Walked}
+use Rattle.record.proofs.WalkLaws.{walkOf-weight}
+use Rattle.record.proofs.RecordLaws.{soundDevice-settings-not, soundDevice-sequence-not, soundDevice-heavy, soundDevice-all-held, soundDevice-pool, soundDevice-lined}
 use Rattle.record.proofs.sound.Statement.{statement}
 use Rattle.record.proofs.sound.Tie as tie
 
--- past the first test the settings pass
+-- past the first test the settings pass, and past the second the sequence does
 passed : (c : tie.Else1) → settingsOk (c .before .before .before .args .d .settings) ≡ true
 passed c = sym (c .before .settings-ok .ensures) ∙ not-false _ (c .if1 .left)
+
+follows : (c : tie.Else2) → let d = c .before .before .before .before .before .args .d in sequenceOk (d .settings) (controllersOf d) (d .sequence) ≡ true
+follows c = sym (c .before .sequence-ok .ensures) ∙ not-false _ (c .if2 .left)
+
+-- what was weighed
+weighed : (c : tie.After-walk) → c .walk .result .weight ≡ weightsOf (c .before .before .before .before .before .before .args .d)
+weighed c = ap (λ (w : Walked). w .weight) (c .walk .ensures) ∙ walkOf-weight (c .before .before .before .before .before .before .args .d)
+
+-- past the third test it is within the limit
+light : (c : tie.Else3) → let d = c .before .before .before .before .before .before .before .before .before .args .d in weightsOf d ≤ d .settings .limit
+light c = omega (arith, weighed (c .before .before .before), c .if3 .left)
 
 settings-ok-requires : tie.Need-settings-ok-requires
 settings-ok-requires c κs = search needs
@@ -29,18 +47,50 @@ returns-2 c =
     let d = c .before .before .before .before .before .args .d in
     sym (soundDevice-sequence-not d (sym (c .before .sequence-ok .ensures) ∙ not-true _ (c .if2 .taken)))
 
-weights-requires : tie.Need-weights-requires
-weights-requires c κs = passed (c .before .before)
+walk-requires : tie.Need-walk-requires
+walk-requires c κs = passed (c .before .before)
 
-cast-result : tie.Need-cast-result
-cast-result c = search needs
+cast-if3 : tie.Need-cast-if3
+cast-if3 c = search needs
 
 returns-3 : tie.Need-returns-3
 returns-3 c =
-    let s = c .before .before in
-    let d = s .before .before .before .before .before .args .d in
-    rw (c .before .weights .ensures) (soundDevice-weights d (passed (s .before .before)) (sym (s .before .sequence-ok .ensures) ∙ not-false _ (s .if2 .left)))
+    let w = c .before .before .before in
+    let p = w .before .before .before in
+    sym (soundDevice-heavy (p .before .before .before .args .d) (passed p) (omega (arith, weighed w, c .if3 .taken)))
+
+returns-4 : tie.Need-returns-4
+returns-4 c =
+    let l = c .before .before in
+    let w = l .before .before .before in
+    let q = w .before in
+    let p = q .before .before in
+    sym (soundDevice-lined (p .before .before .before .args .d) (passed p) (light l) (follows q) (omega (arith, ap (λ (w : Walked). w .end) (w .walk .ensures), c .if4 .taken)))
+
+pool-ok-requires : tie.Need-pool-ok-requires
+pool-ok-requires c κs =
+    let l = c .before .before in
+    let p = l .before .before .before .before .before .before in
+    (passed p, soundDevice-all-held (p .before .before .before .args .d) (passed p) (light l))
+
+returns-5 : tie.Need-returns-5
+returns-5 c =
+    let l = c .before .before .before in
+    let q = l .before .before .before .before in
+    let p = q .before .before in
+    c .pool-ok .ensures ∙ sym (soundDevice-pool (p .before .before .before .args .d) (passed p) (light l) (follows q))
 
 pub sound-spec : {M : Type 1} → statement M
 sound-spec =
-    tie.close (tie.spec settings-ok-requires returns sequence-ok-requires returns-2 weights-requires cast-result returns-3)
+    tie.close
+    (tie.spec
+    settings-ok-requires
+    returns
+    sequence-ok-requires
+    returns-2
+    walk-requires
+    cast-if3
+    returns-3
+    returns-4
+    pool-ok-requires
+    returns-5)

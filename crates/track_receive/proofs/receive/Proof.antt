@@ -1,13 +1,13 @@
 -- `track_receive::receive` is right: it refuses in the order of its table, lists the first runs and makes them clear, and stores the header last, when the
 -- number of runs and More To Report are known. Assumes nothing.
-use mathlib.Core.Path.{_≡_, sym, _∙_}
+use mathlib.Core.Path.{_≡_, sym, ap, _∙_}
 use Prim.Native.Nat.{_+_, _*_, _<_, _≤_}
 use native.Mathlib.Omega.{arith}
 use denote.Ref.{now}
 use lib.ListN.{length, getD, take}
 use borrow.Author.Needs.{needs}
 use Rattle.rules.specs.Units.{units}
-use Rattle.rules.specs.Settings.{shareAt, markWords}
+use Rattle.rules.specs.Settings.{markWords}
 use Rattle.record.specs.Record.{noController, whereIs}
 use Rattle.record.specs.declared.Place.the-variants.{At, Refused}
 use Rattle.record.proofs.RecordLaws.{whereIs-at}
@@ -46,11 +46,15 @@ held : (c : tie.After-known-told2)
     HeldFacts (a .t1 .settings) (c .before .t .given .0 .0) n (take n (r .ranges))
 held c = held-at _ _ _ _ (found (c .before .before .before .before)) (there (c .before .before .before .before)) _ _ (c .before .t .given .1)
 
-fits : (c : tie.After-known-told2)
-    → let a = c .before .before .before .before .before .before .before .before .before .before .args in
-    let r = getD (a .t1 .controllers) (c .before .before .before .before .before .place .given .0 .0) noController in
-    shareAt (c .before .before .before .before .before .place .given .0 .0) + length (units (c .before .t .given .0 .0) (take (c .before .t .given .0 .1 .0) (r .ranges))) ≤ 64 * markWords
-fits c = share-within _ _ _ _ (found (c .before .before .before .before)) (there (c .before .before .before .before)) _ _ (c .before .t .given .1)
+fits : (c : tie.After-ranges-of)
+    → let k = c .before .before in
+    let a = k .before .before .before .before .before .before .before .before .before .before .args in
+    let r = getD (a .t1 .controllers) (k .before .before .before .before .before .place .given .0 .0) noController in
+    let t = k .before .t in
+    r .base + length (units (t .given .0 .0) (take (t .given .0 .1 .0) (r .ranges))) ≤ 64 * markWords
+fits c =
+    let k = c .before .before in
+    share-within _ _ _ _ (found (k .before .before .before .before)) (there (k .before .before .before .before)) _ _ (k .before .t .given .1) (omega (arith, ap length (c .ranges-of .ensures .0), c .ranges-of .ensures .1))
 
 locate-requires : tie.Need-locate-requires
 locate-requires c κs = search needs
@@ -94,11 +98,14 @@ nothing-requires-3 c κs = search needs
 returns-3 : tie.Need-returns-3
 returns-3 c = receives-nothing _ 8 _ _ _ (receive-short _ _ _ _ _ (found (c .before .before .before .before .before .before)) _ _ (c .before .before .before .t .given .1) (c .before .if1 .taken)) (c .nothing3 .ensures)
 
-share-at-requires : tie.Need-share-at-requires
-share-at-requires c κs = below (c .before .before .before .before .before .before .before)
+ranges-of-requires : tie.Need-ranges-of-requires
+ranges-of-requires c κs = search needs
 
 cast-list-runs : tie.Need-cast-list-runs
 cast-list-runs c = search needs
+
+cast-list-runs-2 : tie.Need-cast-list-runs-2
+cast-list-runs-2 c = search needs
 
 sub-list-runs : tie.Need-sub-list-runs
 sub-list-runs c = search needs
@@ -107,12 +114,13 @@ list-runs-requires : tie.Need-list-runs-requires
 list-runs-requires c κs =
     let m = c .before .before .before .before .before in
     let w = whereIs-at _ _ _ _ (found (m .before .before .before .before)) .whole in
-    ((held m .small, held m .few, held m .rows), (record { within = omega (arith, fits m, w, c .before .share-at .ensures); small = omega (arith, fits m, c .before .share-at .ensures) }, omega arith))
+    let f = fits (c .before .before .before) in
+    ((held m .small, held m .few, rw (c .before .before .before .ranges-of .ensures .0) (held m .rows)), (record { within = rw (c .before .before .before .ranges-of .ensures .0) (omega (arith, f, w)); small = rw (c .before .before .before .ranges-of .ensures .0) (omega (arith, f)) }, omega arith))
 
 cast-put-header : tie.Need-cast-put-header
 cast-put-header c =
     let m = c .before .before .before .before .before .before .before .before .before .before .before .before in
-    omega (arith, lists-few _ _ _ _ _ _ _ _ _ _ (c .before .before .before .before .before .before .list-runs .ensures), held m .total)
+    omega (arith, lists-few _ _ _ _ _ _ _ _ _ _ (rw (c .before .before .before .before .before .before .before .before .before .before .ranges-of .ensures .0) at (c .before .before .before .before .before .before .list-runs .ensures)), fits (c .before .before .before .before .before .before .before .before .before .before))
 
 put-header-requires : tie.Need-put-header-requires
 put-header-requires c κs = search needs
@@ -128,7 +136,7 @@ returns-4 c =
     let r = c .before .before .before .before .before .before .before .before .before in
     let h = r .before .before .before .before .before in
     let m = h .before in
-    receive-done _ _ _ _ _ (found (m .before .before .before .before)) _ _ (m .before .t .given .1) (h .if1 .left) _ _ _ _ _ (rw (r .before .before .share-at .ensures) at (r .list-runs .ensures)) (λ i. c .before .before .before .before .before .before .before .slice-known3 .given i .fits) (r .list-runs .kept .0) (c .before .before .put-header .ensures)
+    receive-done _ _ _ _ _ (found (m .before .before .before .before)) _ _ (m .before .t .given .1) (h .if1 .left) _ _ _ _ _ (rw (r .before .before .before .before .ranges-of .ensures .0) at (r .list-runs .ensures)) (λ i. c .before .before .before .before .before .before .before .slice-known3 .given i .fits) (r .list-runs .kept .0) (c .before .before .put-header .ensures)
 
 pub receive-spec : {M : Type 1} → statement M
 receive-spec =
@@ -148,8 +156,9 @@ receive-spec =
     returns-2
     nothing-requires-3
     returns-3
-    share-at-requires
+    ranges-of-requires
     cast-list-runs
+    cast-list-runs-2
     sub-list-runs
     list-runs-requires
     cast-put-header

@@ -1,21 +1,22 @@
 -- `track_send::start` is right: it refuses in the order of its table; done, the share is clear and granularity, count and ranges are recorded.
 -- Assumes nothing.
 use mathlib.Core.Path.{_≡_, sym, ap, _∙_}
-use Prim.Native.Nat.{_<_, _≤_}
+use Prim.Native.Nat.{_<_}
 use native.Mathlib.Omega.{arith}
 use denote.Ref.{now}
 use lib.ListN.{length}
 use borrow.Author.Needs.{needs}
-use Rattle.rules.specs.StartData.{headerOf, startSize}
+use Rattle.rules.specs.StartData.{headerOf}
 use Rattle.rules.specs.declared.Header.the-variants.{Is}
-use Rattle.record.specs.Record.{whereIs}
+use Rattle.settings.proofs.SettingsLaws.{granularityOk-greatest}
+use Rattle.record.specs.Record.{whereIs, countsOf, unitsOf}
 use Rattle.start_data.specs.Answer.{headerSays}
 use Rattle.start_data.proofs.Answers.{rangesRead-there}
 use Rattle.record.specs.declared.Place.the-variants.{At, Refused}
-use Rattle.record.proofs.RecordLaws.{whereIs-at}
+use Rattle.record.proofs.RecordLaws.{whereIs-at, soundDevice-facts}
 use Rattle.calls.proofs.Answers.{leaves, leaves-unchanged}
 use Rattle.calls.proofs.PlaceLaws.{refused-place}
-use Rattle.track_send.proofs.StartedLaws.{start-refused, start-suspended, start-tracked, start-header, start-listed, start-done, listed-few}
+use Rattle.track_send.proofs.StartedLaws.{start-refused, start-suspended, start-tracked, start-header, start-listed, start-done, ranges-read, Listed, listed-known}
 use Rattle.track_send.proofs.start.Statement.{statement}
 use Rattle.track_send.proofs.start.Tie as tie
 
@@ -37,9 +38,11 @@ below c = whereIs-at _ _ _ _ (found c) .below
 listed : (c : tie.After-known-told2) → headerOf (now (c .before .before .before .before .before .before .before .before .before .before .before .before .before .before .args .«data»)) ≡ Is (c .before .header .given .0 .0) (c .before .header .given .0 .1 .0)
 listed c = sym (c .before .before .before .read-header .ensures .is) ∙ c .before .header .given .1
 
--- its number of ranges, once they have passed
-few : (c : tie.Else2) → (c .before .before .before .before .header .given .0 .1 .0 ≤ 16) × (startSize (c .before .before .before .before .header .given .0 .1 .0) ≤ length (now (c .before .before .before .before .before .before .before .before .before .before .before .before .before .before .before .before .before .args .«data»)))
-few c = listed-few _ _ _ _ _ (listed (c .before .before .before)) _ (c .before .before .listed-refusal .ensures) (c .if2 .left)
+-- what is known of its ranges, once they have passed
+known : (c : tie.Else2)
+    → let a = c .before .before .before .before .before .before .before .before .before .before .before .before .before .before .before .before .before .args in
+    Listed (a .t1 .settings) (countsOf (a .t1)) (unitsOf (a .t1)) (now (a .«data»)) (c .before .before .before .before .header .given .0 .0) (c .before .before .before .before .header .given .0 .1 .0) (listed (c .before .before .before))
+known c = listed-known _ _ _ _ _ _ (listed (c .before .before .before)) _ (c .before .before .listed-refusal .ensures) (c .if2 .left)
 
 locate-requires : tie.Need-locate-requires
 locate-requires c κs = search needs
@@ -97,34 +100,46 @@ listed-refusal-requires c κs = (whereIs-at _ _ _ _ (found (c .before .before .b
 returns-5 : tie.Need-returns-5
 returns-5 c = leaves-unchanged _ _ _ (start-listed _ _ _ _ _ (found (c .before .before .before .before .before .before .before .before .before .before .before)) (c .before .before .before .before .before .before .before .before .before .if1 .left) (c .before .before .before .before .before .before .before .enum-told2 .given .1) _ _ (listed (c .before .before .before)) _ (c .before .before .listed-refusal .ensures) (c .if2 .taken))
 
-clear-share-requires : tie.Need-clear-share-requires
-clear-share-requires c κs = (below (c .before .before .before .before .before .before .before .before .before .before .before .before), whereIs-at _ _ _ _ (found (c .before .before .before .before .before .before .before .before .before .before .before .before)) .whole)
-
 cast-read-ranges : tie.Need-cast-read-ranges
 cast-read-ranges c = search needs
 
 read-ranges-requires : tie.Need-read-ranges-requires
 read-ranges-requires c κs = search needs
 
-cast-t33 : tie.Need-cast-t33
-cast-t33 c = omega (arith, few (c .before .before .before .before .before) .0)
+cast-install : tie.Need-cast-install
+cast-install c = omega (arith, known (c .before .before) .few)
 
-mul-t20 : tie.Need-mul-t20
-mul-t20 c = omega (arith, below (c .before .before .before .before .before .before .before .before .before .before .before .before .before .before .before .before))
-
-element-set-from-e : tie.Need-element-set-from-e
-element-set-from-e c = below (c .before .before .before .before .before .before .before .before .before .before .before .before .before .before .before .before)
+install-requires : tie.Need-install-requires
+install-requires c κs =
+    let k = known (c .before .before) in
+    let p = c .before .before .before .before .before .before .before .before .before .before .before .before .before in
+    let a = c .before .before .before .before .before .before .before .before .before .before .before .before .before .before .before .before .before .before .before .args in
+    let l = whereIs-at _ _ _ _ (found p) in
+    let read = c .before .read-ranges .ensures ∙ rangesRead-there _ _ (k .few) (k .there) in
+    let same = ranges-read (a .t1 .settings) (countsOf (a .t1)) (unitsOf (a .t1)) _ _ _ (listed (c .before .before .before .before .before)) (k .allowed) (k .there) (k .few) in
+    record {
+      sound = l .sound;
+      words = l .whole;
+      used = l .used;
+      off = c .before .before .before .before .before .before .before .before .before .enum-told2 .given .1;
+      small = omega (arith, granularityOk-greatest _ _ (k .allowed), soundDevice-facts (a .t1) (l .sound) .greatest);
+      few = k .few;
+      rows = rw (read, same) (k .rows);
+      room = rw (read, same) (k .room);
+    }
 
 same-length : tie.Need-same-length
 same-length c = search needs
 
 returns-6 : tie.Need-returns-6
 returns-6 c =
+    let e = c .before .before .before .before .before in
     let k = c .before .before .before .before .before .before .before .before .before .before .before .before .before .before .before .before in
-    let a = k .before .before .before .before .before .before .args in
-    let read-few = few (c .before .before .before .before .before) in
-    leaves _ _ _ _ _ (start-done (a .t1) (now (a .marks)) (a .id) (now (a .«data»)) _ (found k) (c .before .before .before .before .before .before .before .before .before .before .before .before .before .before .if1 .left) (c .before .before .before .before .before .before .before .before .before .before .before .before .enum-told2 .given .1) _ _ (listed (c .before .before .before .before .before .before .before .before)) _ (c .before .before .before .before .before .before .before .listed-refusal .ensures) (c .before .before .before .before .before .if2 .left))
-    (rw (c .read-ranges .ensures, rangesRead-there _ _ (read-few .0) (read-few .1))) (c .before .before .before .clear-share .ensures)
+    let a = c .before .before .before .before .before .before .before .before .before .before .before .before .before .before .before .before .before .before .before .before .before .before .args in
+    let l = known e in
+    let read = c .before .before .before .before .read-ranges .ensures ∙ rangesRead-there _ _ (l .few) (l .there) in
+    leaves _ _ _ _ _ (start-done (a .t1) (now (a .marks)) (a .id) (now (a .«data»)) _ (found k) (e .before .before .before .before .before .before .before .before .before .if1 .left) (e .before .before .before .before .before .before .before .enum-told2 .given .1) _ _ (listed (e .before .before .before)) _ (e .before .before .listed-refusal .ensures) (e .if2 .left))
+    (rw (c .before .before .install .ensures .0, read)) (c .before .before .install .ensures .1 ∙ rw read)
 
 pub start-spec : {M : Type 1} → statement M
 start-spec =
@@ -148,11 +163,9 @@ start-spec =
     returns-4
     listed-refusal-requires
     returns-5
-    clear-share-requires
     cast-read-ranges
     read-ranges-requires
-    cast-t33
-    mul-t20
-    element-set-from-e
+    cast-install
+    install-requires
     same-length
     returns-6)

@@ -1,16 +1,18 @@
 -- `track_send::stop` is right: it refuses in the order of its table; done, the share is clear and the controller is as fresh. Assumes nothing.
-use mathlib.Core.Path.{_≡_, sym, _∙_}
+use mathlib.Core.Path.{_≡_, sym, ap, _∙_}
 use Prim.Native.Nat.{_<_}
 use native.Mathlib.Omega.{arith}
 use denote.Ref.{now}
-use lib.ListN.{length}
+use lib.ListN.{length, getD, take}
 use borrow.Author.Needs.{needs}
 use Rattle.little.proofs.Put.{put-nil}
-use Rattle.record.specs.Record.{whereIs}
+use Rattle.rules.proofs.LoopLaws.{length-mapped}
+use Rattle.ranges.proofs.RangeLaws.{HeldFacts}
+use Rattle.record.specs.Record.{noController, whereIs}
 use Rattle.record.specs.declared.Place.the-variants.{At, Refused}
 use Rattle.record.proofs.RecordLaws.{whereIs-at}
 use Rattle.calls.proofs.Answers.{leaves, leaves-unchanged}
-use Rattle.calls.proofs.PlaceLaws.{refused-place}
+use Rattle.calls.proofs.PlaceLaws.{refused-place, held-at, share-within}
 use Rattle.track_send.proofs.StopLaws.{stop-refused, stop-suspended, stop-off, stop-done}
 use Rattle.track_send.proofs.stop.Statement.{statement}
 use Rattle.track_send.proofs.stop.Tie as tie
@@ -29,6 +31,20 @@ refused c = sym (c .before .before .before .locate .ensures) ∙ refused-place _
 -- it is below 8
 below : (c : tie.After-known-told) → c .before .place .given .0 .0 < 8
 below c = whereIs-at _ _ _ _ (found c) .below
+
+-- the record has its eight controllers
+there : (c : tie.After-known-told) → c .before .place .given .0 .0 < length (c .before .before .before .before .before .args .t1 .controllers)
+there c =
+    let e : length (c .before .before .before .before .before .args .t1 .controllers) ≡ 8 = search (length-mapped, needs) in
+    omega (arith, below c)
+
+-- what a tracked controller of a sound record holds, and that its marks lie within the words
+held : (c : tie.After-known-told2)
+    → let a = c .before .before .before .before .before .before .before .before .before .before .args in
+    let r = getD (a .t1 .controllers) (c .before .before .before .before .before .before .place .given .0 .0) noController in
+    let n = c .before .t .given .0 .1 .0 in
+    HeldFacts (a .t1 .settings) (c .before .t .given .0 .0) n (take n (r .ranges))
+held c = held-at _ _ _ _ (found (c .before .before .before .before .before)) (there (c .before .before .before .before .before)) _ _ (c .before .t .given .1)
 
 locate-requires : tie.Need-locate-requires
 locate-requires c κs = search needs
@@ -54,36 +70,58 @@ element-copy-out-c c = below c
 returns-2 : tie.Need-returns-2
 returns-2 c = leaves-unchanged _ _ _ (stop-suspended _ _ _ _ (found (c .before .before)) (c .if1 .taken))
 
+enum-known-t : tie.Need-enum-known-t
+enum-known-t c = search needs
+
 enum-told-2 : tie.Need-enum-told-2
 enum-told-2 c = search needs
 
-enum-told-3 : tie.Need-enum-told-3
-enum-told-3 c = search needs
-
 returns-3 : tie.Need-returns-3
-returns-3 c = leaves-unchanged _ _ _ (stop-off _ _ _ _ (found (c .before .before .before .before)) (c .before .before .if1 .left) (c .enum-told3 .given .1))
+returns-3 c = leaves-unchanged _ _ _ (stop-off _ _ _ _ (found (c .before .before .before .before)) (c .before .before .if1 .left) (c .enum-told2 .given .1))
+
+ranges-of-requires : tie.Need-ranges-of-requires
+ranges-of-requires c κs = search needs
+
+cast-units-in : tie.Need-cast-units-in
+cast-units-in c = search needs
+
+units-in-requires : tie.Need-units-in-requires
+units-in-requires c κs = let h = held (c .before) in (h .small, h .few, rw (c .ranges-of .ensures .0) (h .rows))
+
+cast-clear-share : tie.Need-cast-clear-share
+cast-clear-share c = search needs
 
 clear-share-requires : tie.Need-clear-share-requires
-clear-share-requires c κs = (below (c .before .before .before .before .before), whereIs-at _ _ _ _ (found (c .before .before .before .before .before)) .whole)
+clear-share-requires c κs =
+    let k = c .before .before .before .before in
+    let r = c .before .before .before .ranges-of in
+    let u = c .before .before .units-in .ensures .0 in
+    let p = k .before .before .before .before .before in (
+      omega (arith, rw (r .ensures .0) at u, share-within _ _ _ _ (found p) (there p) _ _ (k .before .t .given .1) (omega (arith, ap length (r .ensures .0), r .ensures .1))),
+      whereIs-at _ _ _ _ (found p) .whole,
+    )
 
 no-ranges-requires : tie.Need-no-ranges-requires
 no-ranges-requires c κs = search needs
 
-mul-t14 : tie.Need-mul-t14
-mul-t14 c = omega (arith, below (c .before .before .before .before .before .before .before .before .before))
+mul-t29 : tie.Need-mul-t29
+mul-t29 c = omega (arith, below (c .before .before .before .before .before .before .before .before .before .before .before .before .before))
 
 element-set-from-e : tie.Need-element-set-from-e
-element-set-from-e c = omega (arith, below (c .before .before .before .before .before .before .before .before .before))
+element-set-from-e c = omega (arith, below (c .before .before .before .before .before .before .before .before .before .before .before .before .before))
 
 same-length : tie.Need-same-length
 same-length c = search needs
 
 returns-4 : tie.Need-returns-4
 returns-4 c =
-    let k = c .before .before .before .before .before .before .before .before .before in
-    let a = k .before .before .before .before .before .args in
-    leaves _ _ _ _ _ (stop-done (a .t1) (a .id) (now (a .marks)) _ (found k) _ _ (c .before .before .before .before .before .before .before .if1 .left) (c .before .before .before .before .before .enum-told2 .given .1))
-    (rw (c .no-ranges .ensures, put-nil)) (c .before .before .before .clear-share .ensures)
+    let k = c .before .before .before .before .before .before .before .before in
+    let p = k .before .before .before .before .before in
+    let a = p .before .before .before .before .before .args in
+    let r = c .before .before .before .before .before .before .before .ranges-of in
+    let u = c .before .before .before .before .before .before .units-in .ensures .0 in
+    leaves _ _ _ _ _ (stop-done (a .t1) (a .id) (now (a .marks)) _ (found p) _ _ (k .before .before .before .if1 .left) (k .before .t .given .1))
+    (rw (c .no-ranges .ensures, put-nil)) (c .before .before .before .clear-share .ensures ∙ rw (u, r .ensures .0))
 
 pub stop-spec : {M : Type 1} → statement M
 stop-spec =
@@ -97,12 +135,16 @@ stop-spec =
     mul-c
     element-copy-out-c
     returns-2
+    enum-known-t
     enum-told-2
-    enum-told-3
     returns-3
+    ranges-of-requires
+    cast-units-in
+    units-in-requires
+    cast-clear-share
     clear-share-requires
     no-ranges-requires
-    mul-t14
+    mul-t29
     element-set-from-e
     same-length
     returns-4)

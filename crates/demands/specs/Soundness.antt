@@ -1,0 +1,98 @@
+-- Refusal 1, in plain words: which records are sound, what an unsound one answers, and that no calls from a fresh device lead to one.
+use Prim.Native.Nat.{ℕ, _+_, _%_, _≤_, _<_}
+use mathlib.Core.Path.{_≡_}
+use mathlib.Core.Logic.{_≢_, _⊎_, _↔_}
+use mathlib.Core.Bool.{true, false}
+use mathlib.Core.List.{List, map}
+use mathlib.Core.Option.{some}
+use lib.ListN.{length, take, getD}
+use Rattle.rules.specs.Lists.{sum}
+use Rattle.rules.specs.Settings.{settingsOk, placeOf}
+use Rattle.rules.specs.Units.{units}
+use Rattle.rules.specs.Device.{noShare, sharesOf, closedDevice, soundDevice}
+use Rattle.rules.specs.Machine.{refused, Call, lent}
+use Rattle.rules.specs.Demands.{Lawful}
+use Rattle.rules.specs.declared.Tracking.{Tracking}
+use Rattle.rules.specs.declared.Tracking.the-variants.{Off, On}
+use Rattle.rules.specs.declared.Sequence.the-variants.{Open}
+use Rattle.rules.specs.declared.Settings.{Settings}
+use Rattle.rules.specs.declared.Controller.{Controller}
+use Rattle.rules.specs.declared.Device.{Device}
+use Rattle.record.specs.Record.{countsOf, unitsOf, controllerAt}
+use Rattle.calls.specs.Calls.{sizesOf, freshChange}
+use Rattle.demands.specs.Sessions.{Left, Given, Sized, outcome, endOf}
+
+-- settings that pass 16: "1 to 8 controller identifiers, all different", "the manager's own identifier, not among them", "least ≤ greatest ≤ 20", a limit of "0 to 128"
+pub record Settled (s : Settings) : Type 0 where
+  pub count : (1 ≤ s .count) × (s .count ≤ 8)
+  pub different : (i j : ℕ) → i < s .count → j < s .count → getD (s .identifiers) i 0 ≡ getD (s .identifiers) j 0 → i ≡ j
+  pub manager : (i : ℕ) → i < s .count → getD (s .identifiers) i 0 ≢ s .manager
+  pub granularities : (s .least ≤ s .greatest) × (s .greatest ≤ 20)
+  pub limit : s .limit ≤ 128
+
+-- a record has the places of its type
+pub record Whole (d : Device) : Type 0 where
+  pub controllers : length (d .controllers) ≡ 8
+  pub ranges : (i : ℕ) → i < 8 → length (controllerAt d (some i) .ranges) ≡ 16
+
+-- W6: an open sequence that a sound record may have: "unsound if its owner isn't suspended or its end isn't whole dwords, 4 to 4,096 bytes"
+pub record LawfulSequence (d : Device) (owner end : ℕ) : Type 0 where
+  pub place : ℕ
+  pub known : placeOf (d .settings) owner ≡ some place
+  pub suspended : controllerAt d (some place) .suspended ≡ true
+  pub dwords : end % 4 ≡ 0
+  pub least : 4 ≤ end
+  pub most : end ≤ 4096
+
+-- the controller at a place in use is tracked with granularity g and n ranges
+abbrev pub TracksAt : Device → ℕ → ℕ → ℕ → Type 0
+TracksAt d i g n = (i < d .settings .count) × (controllerAt d (some i) .tracking ≡ On g n)
+
+-- how many units it then has, and where its share begins
+abbrev pub unitsAt : Device → ℕ → ℕ → ℕ → ℕ
+unitsAt d i g n = length (units g (take n (controllerAt d (some i) .ranges)))
+
+abbrev pub baseAt : Device → ℕ → ℕ
+baseAt d i = controllerAt d (some i) .base
+
+-- what a sound record is. Nothing is asked of unused places, of a base among them
+pub record Sound (d : Device) : Type 0 where
+  pub settings : settingsOk (d .settings) ≡ true
+  -- of a tracked controller by itself what a start asks: 7, 18 to 21 and 10
+  pub held : (i g n : ℕ) → TracksAt d i g n → Lawful (d .settings) g n (take n (controllerAt d (some i) .ranges))
+  pub limit : countsOf d ≤ d .settings .limit
+  -- W7: "1 covers shares that overlap or leave these words and […] tracked units above 16,384 in all"
+  pub inside : (i g n : ℕ) → TracksAt d i g n → baseAt d i + unitsAt d i g n ≤ 16384
+  pub apart : (i g n j f m : ℕ) → i ≢ j → TracksAt d i g n → TracksAt d j f m
+      → (baseAt d i + unitsAt d i g n ≤ baseAt d j) ⊎ (baseAt d j + unitsAt d j f m ≤ baseAt d i)
+  pub units : unitsOf d ≤ 16384
+  pub sequence : (owner end : ℕ) → d .sequence ≡ Open owner end → LawfulSequence d owner end
+
+-- how many ranges a controller holds
+abbrev pub rangesIn : Tracking → ℕ
+rangesIn Off = 0
+rangesIn (On g n) = n
+
+-- W7: where its shares lie, and what 11 and 12 are decided with. A tracked controller in use has a share from its base on, with a bit for each different unit of its
+-- ranges; one that is not tracked has none, whatever its base, and a place that is not in use has none, whatever stands there
+pub record Shares (d : Device) : Type 0 where
+  pub places : length (sharesOf d) ≡ 8
+  pub on : (i g n : ℕ) → TracksAt d i g n → getD (sharesOf d) i noShare ≡ record { base = baseAt d i; size = unitsAt d i g n }
+  pub off : (i : ℕ) → i < d .settings .count → controllerAt d (some i) .tracking ≡ Off → getD (sharesOf d) i noShare .size ≡ 0
+  pub unused : (i : ℕ) → d .settings .count ≤ i → getD (sharesOf d) i noShare .size ≡ 0
+  -- "all tracked units together": of each share its bits, no more and no fewer; and the counts together
+  pub units : unitsOf d ≡ sum (sizesOf d)
+  pub counts : countsOf d ≡ sum (map (λ (c : Controller). rangesIn (c .tracking)) (take (d .settings .count) (d .controllers)))
+
+-- "From a fresh device no sequence of calls leads to an unsound record, save the closed device of a refused fresh", which answers 1 to every call
+pub record Soundness : Type 0 where
+  pub settings : (s : Settings) → length (s .identifiers) ≡ 8 → (settingsOk s ≡ true) ↔ Settled s
+  pub exactly : (d : Device) → Whole d → (soundDevice d ≡ true) ↔ Sound d
+  pub shares : (d : Device) → length (d .controllers) ≡ 8 → d .settings .count ≤ 8 → Shares d
+  -- an unsound record, or marks of another number of words, answers 1 to every call
+  pub unsound : (l : Left) (k : Call) → (soundDevice (l .device) ≡ false) ⊎ (length (l .marks) ≢ 256) → outcome l k .answer ≡ refused 1 0
+  pub kept : (s : Settings) (m : Given) (ks : List Call) → Sized s m → freshChange s (m .marks) .answer .number ≡ 0
+      → (soundDevice (endOf s m ks .device) ≡ true) × (length (endOf s m ks .marks) ≡ 256)
+  pub closed : (s : Settings) (m : Given) (ks : List Call) (k : Call) → freshChange s (m .marks) .answer .number ≢ 0
+      → (endOf s m ks ≡ record { device = closedDevice; marks = m .marks; area = m .area }) × (outcome (endOf s m ks) k .answer ≡ refused 1 0)
+      × (outcome (endOf s m ks) k .bytes ≡ lent (k .op))
