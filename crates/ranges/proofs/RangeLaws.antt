@@ -3,17 +3,17 @@
 use Prim.Native.Nat.{ℕ, zero, suc, _+_, _-_, _*_, _%_, _^_, _<_, _≤_, min}
 use mathlib.Core.Path.{_≡_, refl, sym, ap, _∙_}
 use mathlib.Core.Logic.{_≢_}
-use mathlib.Core.Bool.{Bool, true, false, not, _&&_, _||_, and-true, and-false}
+use mathlib.Core.Bool.{Bool, true, false, not, _&&_, _||_, and-true, and-false, cond}
 use mathlib.Core.List.{List, [], _∷_, _++_}
 use native.Mathlib.Numerals.{add-one}
 use native.Mathlib.Omega.{arith}
 use native.Mathlib.Nat.{mul-le-mul-left}
-use lib.Dec.{eqb}
+use lib.Dec.{leb, eqb}
 use lib.ListN.{length, getD, take, drop}
 use borrow.Author.Tests.{leb-true, le-leb, lt-leb, eq-eqb, ne-eqb}
 use Rattle.rules.specs.Lists.{all, keep}
 use Rattle.rules.specs.Refusals.{Test, _else_, passes, refusal, refusalAt}
-use Rattle.rules.specs.Settings.{granularityOk, unitSize, bytesOf}
+use Rattle.rules.specs.Settings.{mostUnits, granularityOk, unitSize, bytesOf}
 use Rattle.rules.specs.Units.{endOf, unitsOfRow, uncovered, unitsFrom, units}
 use Rattle.rules.specs.Ranges.{rowTests, rowOk, rowsOk, rowsTests, rangeTests, isPower, powersOk, listTests}
 use Rattle.rules.specs.StartData.{noRange}
@@ -26,7 +26,7 @@ use Rattle.rules.proofs.RowLaws.{rowOk-facts, row-answers, rowsTests-passes}
 use Rattle.rules.proofs.UnitLaws.{unitsFrom-length}
 use Rattle.measures.proofs.MeasureLaws.{unitSize-least, bytesOf-pos}
 use Rattle.settings.proofs.SettingsLaws.{granularityOk-greatest}
-use Rattle.ranges.specs.Kept.{lengthsOf, keptBy, keptOf}
+use Rattle.ranges.specs.Kept.{lengthsOf, mostOf, keptBy, keptOf}
 
 -- ---- one range
 
@@ -192,14 +192,29 @@ module _ (s : Settings) (g n : ℕ) (rs : List Range) where
     pub kept-not : all (eachOk s g) rs ≡ false → keptOf s g n rs ≡ keptBy false 0
     kept-not e = rw (passes-each, e)
 
-    pub kept-all : all (eachOk s g) rs ≡ true → keptOf s g n rs ≡ keptBy true (lengthsOf rs)
-    kept-all e = rw (passes-each, e)
+    -- kept, with lengths that are within the pool, or not
+    pub kept-few : all (eachOk s g) rs ≡ true → lengthsOf rs ≤ mostUnits → keptOf s g n rs ≡ keptBy true (lengthsOf rs)
+    kept-few e h = rw (passes-each, e, le-leb (lengthsOf rs) mostUnits h)
+
+    pub kept-counted : all (eachOk s g) rs ≡ true → mostUnits < lengthsOf rs → keptOf s g n rs ≡ keptBy true (length (units g rs))
+    kept-counted e h = rw (passes-each, e, lt-leb (lengthsOf rs) mostUnits h)
+
+-- ranges that are kept each keep the rules of a row
+pub each-rows : (s : Settings) (g : ℕ) (rs : List Range) → all (eachOk s g) rs ≡ true → rowsOk g rs ≡ true
+each-rows s g rs e = and-left (rowsOk g rs) (powersOk s rs) (sym (each-all s g rs) ∙ e)
 
 -- ---- how many units ranges have
 
 -- there are no more different ones than the lengths say
 pub units-lengths : (g : ℕ) (rs : List Range) → length (units g rs) ≤ lengthsOf rs
 units-lengths g rs = unitsFrom-length (unitSize g) 0 [] rs
+
+pub units-most : (g : ℕ) (rs : List Range) → length (units g rs) ≤ mostOf g rs
+units-most g rs = go (leb (lengthsOf rs) mostUnits)
+  where
+    go : (b : Bool) → length (units g rs) ≤ cond b (lengthsOf rs) (length (units g rs))
+    go true = units-lengths g rs
+    go false = omega arith
 
 -- a unit has 4 KiB at least, so of a range that ends at most at 2^64 there are at most 2^52
 row-small : (g : ℕ) (r : Range) → rowOk g r ≡ true → r .length ≤ 2 ^ 52

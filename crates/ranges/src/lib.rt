@@ -1,6 +1,7 @@
 // Checks of listed ranges: refusals 18 to 21, which name a row, and 10; and how many units they have.
 
 use pieces::NextPiece;
+use rules::MOST_UNITS;
 use rules::Range;
 use rules::Refusal;
 use rules::Settings;
@@ -15,10 +16,10 @@ ghost use Rattle.rules.specs.Units.{units};
 ghost use Rattle.rules.specs.Ranges.{rowTests, rowOk, rowsOk, rowsTests, isPower, powersOk, listTests};
 ghost use Rattle.ranges.specs.Kept.{keptBy, keptOf};
 
-// What one pass over listed ranges answers: whether they break no rule, and then their lengths together, else 0.
+// What one pass over listed ranges answers: whether they break no rule, and then how many different units they have at most, else 0.
 pub struct Kept {
     pub ok: bool,
-    pub lengths: Units,
+    pub most: Units,
 }
 
 // The first rule of a row that a range breaks: 19 it has no units, 20 its start is no multiple of the unit, 21 it ends past 2^64; else 0. Its last byte is
@@ -151,14 +152,15 @@ fn row_ok(s: Settings, g: u8, r: Range) -> bool
 fn broken() -> Kept
     ensures { λ r. ⌜ r ≡ keptBy false 0 ⌝ }
 {
-    let lengths = Units(0);
-    Kept { ok: false, lengths }
+    let most = Units(0);
+    Kept { ok: false, most }
 }
 
-// Whether n listed ranges break no rule, 18 to 21 and 10, and then their lengths together, in one pass: every call asks it of every controller.
+// Whether n listed ranges break no rule, 18 to 21 and 10, and then how many different units they have at most: their lengths together, or where these pass the
+// pool, as many as there are. Every call asks it of every controller, so it is one pass where the lengths will do.
 pub fn list_kept(s: Settings, g: u8, n: u8, ranges: [Range; 16]) -> Kept
     requires { ⌜ g ≤ 20 ⌝ }
-    ensures { λ r. ⌜ (r ≡ keptOf s g n (take n ranges)) × (r .lengths .0 ≤ 16 * 4294967295) ⌝ }
+    ensures { λ r. ⌜ (r ≡ keptOf s g n (take n ranges)) × (r .most .0 ≤ 16 * 4294967295) ⌝ }
 {
     let m = n as usize;
     if m < 1 {
@@ -176,6 +178,10 @@ pub fn list_kept(s: Settings, g: u8, n: u8, ranges: [Range; 16]) -> Kept
         let u = measures::length_of(r);
         total += u.0;
     }
-    let lengths = Units(total);
-    Kept { ok: true, lengths }
+    if total <= MOST_UNITS {
+        let most = Units(total);
+        return Kept { ok: true, most };
+    }
+    let most = units_in(g, m, ranges);
+    Kept { ok: true, most }
 }

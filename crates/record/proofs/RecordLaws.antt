@@ -256,7 +256,7 @@ module _ (d : Device) where
           let few = le-leb (countsOf d) (d .settings .limit) (omega (arith, weights-counts (d .settings) (controllersOf d) held)) in
           rw (e, all-map (heldOk (d .settings)) heldOf (controllersOf d), held, few, q, and-true (sharesOk (sharesOf d)))
 
-      -- which is as it may be where the shares lie one behind the other by the lengths of their ranges
+      -- which is as it may be where the shares lie one behind the other by as many units as they have at most
       pub soundDevice-lined : sequenceOk (d .settings) (controllersOf d) (d .sequence) ≡ true → walkOf d .end ≤ mostUnits → soundDevice d ≡ true
       soundDevice-lined q h =
           let nowhere = Lined-nowhere (8 - d .settings .count) (walkOf d .end) in

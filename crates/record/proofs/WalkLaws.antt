@@ -1,4 +1,4 @@
--- Laws of the walk over the controllers: its weights, and that shares which lie one behind the other by the lengths of their ranges do so by their units. All of
+-- Laws of the walk over the controllers: its weights, and that shares which lie one behind the other by as many units as they have at most do so by their units. All of
 -- it is the library's interface. Assumes nothing.
 use Prim.Native.Nat.{ℕ, zero, suc, _+_, _*_, _<_, _≤_}
 use mathlib.Core.Path.{_≡_, refl, sym, ap, _∙_}
@@ -18,11 +18,11 @@ use Rattle.rules.specs.declared.Controller.{Controller}
 use Rattle.rules.specs.declared.Settings.{Settings}
 use Rattle.rules.specs.declared.Device.{Device}
 use Rattle.rules.proofs.ListLaws.{and-left, and-right}
-use Rattle.ranges.specs.Kept.{lengthsOf}
+use Rattle.ranges.specs.Kept.{mostOf}
 use Rattle.ranges.specs.declared.Kept.{Kept}
-use Rattle.ranges.proofs.RangeLaws.{units-lengths}
+use Rattle.ranges.proofs.RangeLaws.{units-most}
 use Rattle.record.specs.Record.{noController, weightOf, weightsOf}
-use Rattle.record.specs.Inner.{heldLengths, keptIn, endAfter, walkedBy, walkFrom, nothingWalked, walkOf}
+use Rattle.record.specs.Inner.{heldMost, keptIn, endAfter, walkedBy, walkFrom, nothingWalked, walkOf}
 use Rattle.record.specs.declared.Walked.{Walked}
 use Rattle.record.proofs.ShareLaws.{Lined, Lined-empty, Lined-more}
 
@@ -30,7 +30,7 @@ use Rattle.record.proofs.ShareLaws.{Lined, Lined-empty, Lined-more}
 
 -- one controller more, by what it is found to hold
 pub walkedBy-is : (s : Settings) (w : Walked) (c : Controller) (k : Kept) (own end : ℕ) → k ≡ keptIn s (heldOf c) → own ≡ cond (k .ok) (heldCount (heldOf c)) 65536
-    → end ≡ endAfter (w .end) (c .base) (k .lengths .0) → record { weight = w .weight + own; end = end } ≡ walkedBy s w c
+    → end ≡ endAfter (w .end) (c .base) (k .most .0) → record { weight = w .weight + own; end = end } ≡ walkedBy s w c
 unfolding walkedBy
 walkedBy-is s w c k own end e f g = rw (f, g, e)
 
@@ -92,10 +92,10 @@ lined-after end to most a xs h k = go (eqb most 0) refl (ltb (a .base) end) refl
     go false e true f l = absurd (omega (arith, l .rising))
     go false e false f l = Lined-more end to a xs most h (ltb-false (a .base) end f) k l
 
--- so does that of a controller, which has no more units than its lengths say
-lined-held : (end to base : ℕ) (h : Option Held) (xs : List Share) → to ≤ mostUnits → Lined (endAfter end base (heldLengths h)) to xs → Lined end to (shareIn base h ∷ xs)
+-- so does that of a controller, which has no more units than that
+lined-held : (end to base : ℕ) (h : Option Held) (xs : List Share) → to ≤ mostUnits → Lined (endAfter end base (heldMost h)) to xs → Lined end to (shareIn base h ∷ xs)
 lined-held end to base none xs l k = Lined-empty end to noShare xs refl k
-lined-held end to base (some h) xs l k = lined-after end to (lengthsOf (h .ranges)) (shareIn base (some h)) xs l (units-lengths (h .granularity) (h .ranges)) k
+lined-held end to base (some h) xs l k = lined-after end to (mostOf (h .granularity) (h .ranges)) (shareIn base (some h)) xs l (units-most (h .granularity) (h .ranges)) k
 
 -- where all hold what they may and the end is within the pool, they lie one behind the other
 pub walkFrom-lined : (s : Settings) (w : Walked) (cs : List Controller) (rest : List Share) (to : ℕ) → all (λ c. heldOk s (heldOf c)) cs ≡ true → to ≤ mostUnits

@@ -10,19 +10,19 @@ use Rattle.rules.specs.Device.{Held, heldOk, heldOf, controllersOf}
 use Rattle.rules.specs.declared.Controller.{Controller}
 use Rattle.rules.specs.declared.Settings.{Settings}
 use Rattle.rules.specs.declared.Device.{Device}
-use Rattle.ranges.specs.Kept.{lengthsOf, keptBy}
+use Rattle.ranges.specs.Kept.{mostOf, keptBy}
 use Rattle.ranges.specs.declared.Kept.{Kept}
 use Rattle.record.specs.Record.{weightOf}
 use Rattle.record.specs.declared.Walked.{Walked}
 
--- the lengths of the ranges that are held, together
-abbrev pub heldLengths : Option Held → ℕ
-heldLengths none = 0
-heldLengths (some h) = lengthsOf (h .ranges)
+-- at least as many as there are different units of what is held
+abbrev pub heldMost : Option Held → ℕ
+heldMost none = 0
+heldMost (some h) = mostOf (h .granularity) (h .ranges)
 
 -- whether a controller may hold what it does, and then these
 abbrev pub keptIn : Settings → Option Held → Kept
-keptIn s h = keptBy (heldOk s h) (heldLengths h)
+keptIn s h = keptBy (heldOk s h) (heldMost h)
 
 -- where shares end that lie one behind the other, with one more of at most so many bits from its base on: one of none is nowhere, and one that begins before the end
 -- of those so far makes it more than every base
@@ -31,7 +31,7 @@ endAfter end base size = cond (eqb size 0) end (cond (ltb base end) 131072 (base
 
 -- the walk: one controller more
 unfoldable pub walkedBy : Settings → Walked → Controller → Walked
-walkedBy s w c = record { weight = w .weight + weightOf s c; end = endAfter (w .end) (c .base) (keptIn s (heldOf c) .lengths .0) }
+walkedBy s w c = record { weight = w .weight + weightOf s c; end = endAfter (w .end) (c .base) (keptIn s (heldOf c) .most .0) }
 
 -- several more
 abbrev pub walkFrom : Settings → Walked → List Controller → Walked

@@ -48,23 +48,23 @@ fn count_of(c: Controller) -> usize
     }
 }
 
-// Whether a controller is off, or its granularity and ranges pass 7, 18 to 21 and 10; and then the lengths of its ranges together.
+// Whether a controller is off, or its granularity and ranges pass 7, 18 to 21 and 10; and then how many different units it has at most.
 fn controller_kept(s: Settings, c: Controller) -> Kept
     requires { ⌜ s .greatest ≤ 20 ⌝ }
-    ensures { λ r. ⌜ (r ≡ keptIn s (heldOf c)) × (r .lengths .0 ≤ 16 * 4294967295) ⌝ }
+    ensures { λ r. ⌜ (r ≡ keptIn s (heldOf c)) × (r .most .0 ≤ 16 * 4294967295) ⌝ }
 {
     let t = c.tracking;
     let none = Units(0);
     let Tracking::On(g, n) = t else {
         return Kept {
             ok: true,
-            lengths: none,
+            most: none,
         };
     };
     if !settings::granularity_ok(s, g) {
         return Kept {
             ok: false,
-            lengths: none,
+            most: none,
         };
     }
     let ranges = c.ranges;
@@ -97,14 +97,14 @@ fn end_after(end: u64, base: u16, size: Units) -> u64
     b + size.0
 }
 
-// The walk over the controllers, one more. Its share is taken to be as long as its ranges are: it has no more units.
+// The walk over the controllers, one more. Its share is taken to have as many bits as it has at most.
 fn walk_on(s: Settings, w: Walked, c: Controller) -> Walked
     requires { ⌜ (s .greatest ≤ 20) × (w .weight ≤ 458752) ⌝ }
     ensures { λ r. ⌜ (r ≡ walkedBy s w c) × (r .weight ≤ w .weight + 65536) ⌝ }
 {
     let kept = controller_kept(s, c);
     let own = weight(kept.ok, c);
-    let end = end_after(w.end, c.base, kept.lengths);
+    let end = end_after(w.end, c.base, kept.most);
     Walked {
         weight: w.weight + own,
         end,
@@ -325,7 +325,7 @@ fn sequence_ok(d: Device) -> bool
 
 // Whether a record is sound: its settings pass 16, each controller in use is off or holds what it may, their counts are within the limit, their shares lie
 // apart within the pool, and a state that arrives in parts is as it may be. Unused places are not looked at. Units are counted only where the shares do not
-// already lie one behind the other by their ranges' lengths.
+// already lie one behind the other by as many as they have at most.
 pub fn sound(d: Device) -> bool
     ensures { λ r. ⌜ r ≡ soundDevice d ⌝ }
 {

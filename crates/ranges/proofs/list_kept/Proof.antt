@@ -1,4 +1,5 @@
--- `ranges::list_kept` is right because it asks each range by itself and adds its length. Each length is below 2^32, so no sum wraps.
+-- `ranges::list_kept` is right because it asks each range by itself and adds its length, and counts the units where that is above the pool's. Each length is below
+-- 2^32, so no sum wraps.
 -- The loop's invariant: all of the first n pass by themselves exactly if those from `i` on do, and the sum of their lengths is what was added and the sum of
 -- those from `i` on. The measure is how many are left.
 use mathlib.Core.Path.{_≡_, refl, sym, ap, _∙_}
@@ -13,7 +14,7 @@ use Rattle.rules.specs.StartData.{noRange}
 use Rattle.rules.proofs.LoopLaws.{all-miss, all-next, all-end, sum-next, sum-end}
 use Rattle.ranges.specs.Kept.{lengthsOf, keptBy}
 use Rattle.ranges.specs.declared.Kept.{Kept}
-use Rattle.ranges.proofs.RangeLaws.{eachOk, kept-empty, kept-many, kept-not, kept-all}
+use Rattle.ranges.proofs.RangeLaws.{eachOk, kept-empty, kept-many, kept-not, kept-few, kept-counted, each-rows, units-lengths}
 use Rattle.ranges.proofs.list_kept.Statement.{statement}
 use Rattle.ranges.proofs.list_kept.Tie as tie
 
@@ -26,9 +27,9 @@ Inv-loop s g n ranges m total₀ i₀ total i =
 abbrev μ-loop : tie.MeasureT-loop
 μ-loop s g n ranges m total₀ i₀ total i = n - i
 
--- where a rule is broken there are no lengths
-nothing : (r k : Kept) → r ≡ keptBy false 0 → k ≡ keptBy false 0 → (r ≡ k) × (r .lengths .0 ≤ 16 * 4294967295)
-nothing r k e f = (e ∙ sym f, omega (arith, ap (λ (x : Kept). x .lengths .0) e))
+-- where a rule is broken there are no units
+nothing : (r k : Kept) → r ≡ keptBy false 0 → k ≡ keptBy false 0 → (r ≡ k) × (r .most .0 ≤ 16 * 4294967295)
+nothing r k e f = (e ∙ sym f, omega (arith, ap (λ (x : Kept). x .most .0) e))
 
 broken-requires : tie.Need-broken-requires Inv-loop μ-loop
 broken-requires c κs = search needs
@@ -92,16 +93,42 @@ loop-again c =
       p .loop .inv .5 ∙ all-next (eachOk (a .s) (a .g)) (a .t4) (a .n) (p .loop .i) noRange (omega arith) (omega arith) (sym (q .before .row-ok .ensures) ∙ not-false _ (q .if3 .left)),
     )
 
+-- past the loop the lengths are added and each range passes by itself
+added : (c : tie.After-loop Inv-loop μ-loop)
+    → let a = c .before .before .before .before .args in
+    lengthsOf (take (a .n) (a .t4)) ≡ c .before .loop .total
+added c =
+    let a = c .before .before .before .before .args in
+    omega (arith, sum-end (λ r. r .length) (a .t4) (a .n) (c .before .loop .i) (omega arith), c .before .loop .inv .4)
+
+passed : (c : tie.After-loop Inv-loop μ-loop)
+    → let a = c .before .before .before .before .args in
+    all (eachOk (a .s) (a .g)) (take (a .n) (a .t4)) ≡ true
+passed c =
+    let a = c .before .before .before .before .args in
+    c .before .loop .inv .5 ∙ all-end (eachOk (a .s) (a .g)) (a .t4) (a .n) (c .before .loop .i) (omega arith)
+
 returns-4 : tie.Need-returns-4 Inv-loop μ-loop
 returns-4 c =
-    let p = c .before in
-    let a = p .before .before .before .args in
-    let total : lengthsOf (take (a .n) (a .t4)) ≡ p .loop .total =
-    omega (arith, sum-end (λ r. r .length) (a .t4) (a .n) (p .loop .i) (omega arith), p .loop .inv .4) in (
-      sym (kept-all (a .s) (a .g) (a .n) (take (a .n) (a .t4)) (omega arith) (omega arith)
-          (p .loop .inv .5 ∙ all-end (eachOk (a .s) (a .g)) (a .t4) (a .n) (p .loop .i) (omega arith))
-          ∙ ap (keptBy true) total),
+    let q = c .before in
+    let a = q .before .before .before .before .args in (
+      sym (kept-few (a .s) (a .g) (a .n) (take (a .n) (a .t4)) (omega arith) (omega arith) (passed q) (omega (arith, added q)) ∙ ap (keptBy true) (added q)),
       omega arith,
+    )
+
+units-in-requires : tie.Need-units-in-requires Inv-loop μ-loop
+units-in-requires c κs =
+    let q = c .before in
+    let a = q .before .before .before .before .args in
+    (q .before .before .before .before .pre, omega arith, each-rows (a .s) (a .g) (take (a .n) (a .t4)) (passed q))
+
+returns-5 : tie.Need-returns-5 Inv-loop μ-loop
+returns-5 c =
+    let q = c .before .before in
+    let a = q .before .before .before .before .args in
+    let is = c .units-in .ensures .0 in (
+      sym (kept-counted (a .s) (a .g) (a .n) (take (a .n) (a .t4)) (omega arith) (omega arith) (passed q) (omega (arith, added q)) ∙ ap (keptBy true) (sym is)),
+      omega (arith, is, units-lengths (a .g) (take (a .n) (a .t4)), added q),
     )
 
 pub list-kept-spec : {M : Type 1} → statement M
@@ -125,4 +152,6 @@ list-kept-spec =
     add-i
     loop-less
     loop-again
-    returns-4)
+    returns-4
+    units-in-requires
+    returns-5)

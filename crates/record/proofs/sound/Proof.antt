@@ -1,5 +1,5 @@
 -- `record::sound` is right because settings that fail are a rule that is broken, a sequence that fails is one, and so are weights past the limit; past them the
--- pool is left, which is as it may be where the shares lie one behind the other by their ranges' lengths (`soundDevice-lined`). Settings that pass make the walk
+-- pool is left, which is as it may be where the shares lie one behind the other by as many units as they have at most (`soundDevice-lined`). Settings that pass make the walk
 -- safe: 1 to 8 controllers, granularities up to 20.
 use Prim.Native.Nat.{_≤_}
 use mathlib.Core.Path.{_≡_, sym, ap, _∙_}
