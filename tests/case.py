@@ -70,14 +70,15 @@ def read_example(listing):
 
 REPORT = re.compile(rb"0 susp [01] more [01] gran [0-9]+ runs ([0-9]+)")
 YIELD = re.compile(rb"0 whole [1-9][0-9]*")
+TAKEN = re.compile(rb"0 taken ([0-9]+) closing [01]")
 
 
 def answer_length(first_line):
-    """How many lines the answer has that begins with this one: a report adds a line a descriptor, and a part that yields
-    a state adds one with its bytes."""
-    report = REPORT.fullmatch(first_line)
-    if report:
-        return 1 + int(report.group(1))
+    """How many lines the answer has that begins with this one: a report adds a line a descriptor, a take a line an entry,
+    and a part that yields a state one with its bytes."""
+    counted = REPORT.fullmatch(first_line) or TAKEN.fullmatch(first_line)
+    if counted:
+        return 1 + int(counted.group(1))
     return 2 if YIELD.fullmatch(first_line) else 1
 
 

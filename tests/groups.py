@@ -11,6 +11,7 @@ from programs import ROOT, Hang, Trouble, arguments, both_programs, ends_unheard
 
 SESSIONS_A_RUN = 500
 SHOWN_A_GROUP = 2  # the first differences of a group; more would say the same
+LINES_SHOWN = 20  # of an answer; a take may have 129
 SHORT_CHUNKS = [[1], [2, 3, 5, 7, 11, 13], [1023], [1024, 1]]
 
 
@@ -167,11 +168,20 @@ def show(found):
 
 def show_answers(name, one, other_name, other):
     if one == other:
-        for answer in one:
-            print(f"        {shown(answer)}")
+        for text in some_of(one, 1):
+            print(f"        {text}")
         return
+    place = compare.first_difference(one, other)
     for who, answers in ((name, one), (other_name, other)):
-        print(f"      * {who}: {' / '.join(map(shown, answers)) or '(nothing)'}")
+        print(f"      * {who}: {' / '.join(some_of(answers, place)) or '(nothing)'}")
+
+
+def some_of(answers, place):
+    """An answer's lines in print. Of a long one the first, and a few from this place on."""
+    if len(answers) <= LINES_SHOWN:
+        return list(map(shown, answers))
+    few = [shown(answers[0]), *(["(..)"] if place > 1 else []), *map(shown, answers[max(1, place):max(1, place) + LINES_SHOWN // 2])]
+    return [*few, f"(.. {len(answers)} lines)"]
 
 
 def shown(line):

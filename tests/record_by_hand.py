@@ -1,10 +1,11 @@
 """Cases of tests/records by hand, with the answers that documents 01 and 02 ask for."""
 
-import copy
 import itertools
 
 from parts import FIRST, LAST, MIDDLE, ONLY, WORD, header, state
-from record_case import ALL_ONES, MEMORY, MOST_ROWS, NOT_SAID, Case, Controller, Record, batch, part, rotated, structure
+from queues import CLOSING, Kept
+from record_case import ALL_ONES, MEMORY, MOST_ROWS, NOT_SAID, QUEUE_FILL, QUEUE_FRONT, Case, Controller, Record
+from record_case import batch, make, numbers, part, post, rotated, structure, take
 
 MIXED = 0x8E5A0F3C7001C0D1  # a mark word with set and clear bits in every byte; rotated by 1 to 63 it is another
 WRONG_WORDS = (0, 1, 64, 255, 257, 512)  # "1 expects 256 words" (document 02, W7)
@@ -17,12 +18,13 @@ WRONG_AREAS = (0, 1, 48, 4095, 4097, 4200)  # "in one lent area of that size (el
 def base():
     """Controller 5 tracks 4 units from page 16 on and 2 from page 0 on; 6 is not tracked; 7 is suspended and tracks 3
     units of granularity 8. So 3 of the limit's 16 are taken, and 9 of the pool's 16,384 units: bits 0 to 5, and 8192 to
-    8194."""
+    8194. 5's queue has four places, of which the last and the first are filled, and its totals lie on both sides of 2^32; 6
+    has none; 7's has two places, is full and stopped."""
     record = Record()
     record.manager, record.least, record.greatest, record.rule, record.limit = 1, 0, 8, 0, 16
     record.count, record.identifiers = 3, [5, 6, 7, 0, 0, 0, 0, 0]
-    record.controllers[0] = Controller((0, 2), [(65536, 4), (0, 2)])
-    record.controllers[2] = Controller((8, 1), [(1048576, 3)], suspended=1, base=BASES[2])
+    record.controllers[0] = Controller((0, 2), [(65536, 4), (0, 2)], queue=Kept(4, 1, WORD - 1, 3))
+    record.controllers[2] = Controller((8, 1), [(1048576, 3)], suspended=1, base=BASES[2], queue=Kept(2, 2, 0, 1, 1))
     return record
 
 
@@ -36,6 +38,9 @@ def base_with_rubbish():
         if place >= 3:
             one.tracking, one.suspended = (255, 255), place % 2
         one.base = {1: 60000, 3: 3, 4: 65535, 5: 16384, 7: 8193}.get(place, one.base)
+    unsound = [Kept(0), Kept(2, 2, 0), Kept(2, 0, 1, 1, 1), Kept(2, 0, 0, 2), Kept(65535, 7, 8, 65535)]
+    for one, queue in zip(record.controllers[3:], unsound):
+        one.queue = queue
     return record
 
 
@@ -82,11 +87,11 @@ def settings(record, **values):
 
 @change
 def identifiers(record, *used, count=None):
-    """These identifiers; the controllers that come into use by that are off and running."""
+    """These identifiers; the controllers that come into use by that are off and running and have no queue."""
     record.identifiers[:len(used)] = used
     record.count = len(used) if count is None else count
     for one in record.controllers[3:len(used)]:
-        one.tracking, one.suspended = None, 0
+        one.tracking, one.suspended, one.queue = None, 0, None
 
 
 @change
@@ -135,6 +140,12 @@ def suspended(record, *flags):
 def opened(record, owner, end):
     """A sequence is open (document 02, W6)."""
     record.sequence = (owner, end)
+
+
+@change
+def queue(record, *kept, place=0):
+    """The controller in this place (5 unless said) has a queue with this size, totals, place and stop; with none said, none."""
+    record.controllers[place].queue = Kept(*kept) if kept else None
 
 
 @change
@@ -202,6 +213,9 @@ BASE_CALLS = {
     "resume": dict(id=7),
     "batch": batch((5, 69632, 1), (5, 65536, 1)),
     "part": part(FIRST, 0, b"\1\2\3\4"),
+    "make": make(96),
+    "post": post(b"\xbb" * 32),
+    "take": take(10, 100),
 }
 
 SOUND, UNSOUND, BROKEN = (0, 0), (0, 1), (16, 1)
@@ -211,7 +225,8 @@ SOUND, UNSOUND, BROKEN = (0, 0), (0, 1), (16, 1)
 # ranges would pass 7, 9, 10 and 11, and the counts together are within the limit." And from document 02, W2: "Overlap is
 # now allowed", and 11 "counts different units"; W3: 9 is 18 to 21. Of an unsound record no row is told. W6: "An open one is
 # unsound if its owner isn't suspended or its end isn't whole dwords, 4 to 4,096 bytes." W7: "1 covers shares that overlap
-# or leave these words and, in place of 11, tracked units above 16,384 in all."
+# or leave these words and, in place of 11, tracked units above 16,384 in all." W8: "A fill above the queue's size, a place
+# outside it, or a full queue not stopped, is unsound."
 RECORDS = [
     ("base", both(), SOUND),
     ("closed device", closed(), BROKEN),
@@ -494,6 +509,68 @@ RECORDS = [
     ("7's sequence open, limit 129", both(settings(limit=129), opened(7, 16)), BROKEN),
     ("7's sequence open, first length 0", both(tracked(0, (65536, 0)), opened(7, 16)), UNSOUND),
     ("7's sequence open, limit 2", both(settings(limit=2), opened(7, 16)), UNSOUND),
+    # a queue (W8): a fill of 0 to the size, and full only where stopped; posts and takes lend four places
+    ("no queue", queue(), SOUND, {"post": 29, "take": 29}),
+    *[(f"a queue of 4, {fill} filled", queue(4, fill), SOUND) for fill in range(4)],
+    *[(f"a queue of 4, {fill} filled, stopped", queue(4, fill, 0, 0, 1), SOUND, {"post": 30}) for fill in range(5)],
+    *[(f"a queue of 4, {fill} filled", queue(4, fill), UNSOUND)
+      for fill in (4, 5, 255, 256, 258, 2**16, 2**16 + 2, 2**31, 2**31 + 2, WORD - 2, WORD - 1)],
+    *[(f"a queue of 4, {fill} filled, stopped", queue(4, fill, 0, 0, 1), UNSOUND)
+      for fill in (5, 6, 256, 260, 2**16, 2**16 + 4, 2**31, WORD - 4, WORD - 1)],
+    # the totals run freely, and pass 2^32
+    *[(f"a queue of 4, posted {posted}, taken {taken}", queue(4, posted, taken), SOUND) for posted, taken in (
+        (0, 0), (3, 3), (WORD - 1, WORD - 1), (0, WORD - 1), (2, WORD - 1), (0, WORD - 3), (2**31, 2**31 - 3), (2**31 + 1, 2**31),
+        (WORD - 1, WORD - 4), (2**16, 2**16 - 1), (256, 255))],
+    *[(f"a queue of 4, posted {posted}, taken {taken}", queue(4, posted, taken), UNSOUND) for posted, taken in (
+        (0, 1), (3, 4), (WORD - 2, WORD - 1), (3, WORD - 1), (0, WORD - 4), (4, WORD - 1), (2**31, 0), (0, 2**31), (WORD - 1, 0),
+        (WORD - 1, WORD - 5), (2**31 + 1, 2**31 - 3))],
+    *[(f"a queue of 4, posted {posted}, taken {taken}, stopped", queue(4, posted, taken, 0, 1), SOUND, {"post": 30})
+      for posted, taken in ((3, WORD - 1), (0, WORD - 4), (2**31 + 1, 2**31 - 3), (WORD - 1, WORD - 1), (0, WORD - 1))],
+    *[(f"a queue of 4, posted {posted}, taken {taken}, stopped", queue(4, posted, taken, 0, 1), UNSOUND)
+      for posted, taken in ((0, 1), (4, WORD - 1), (0, WORD - 5), (WORD - 1, 0))],
+    # a place inside
+    *[(f"a queue of 4, place {place}", queue(4, 2, 0, place), SOUND) for place in range(4)],
+    *[(f"a queue of 4, empty, place {place}", queue(4, 9, 9, place), SOUND) for place in range(4)],
+    *[(f"a queue of 4, place {place}", queue(4, 2, 0, place), UNSOUND) for place in (4, 5, 6, 8, 255, 256, 257, 259, 32768, 65535)],
+    *[(f"a queue of 4, empty, place {place}", queue(4, 0, 0, place), UNSOUND) for place in (4, 256, 65535)],
+    *[(f"a queue of 4, full and stopped, place {place}", queue(4, 4, 0, place, 1), UNSOUND) for place in (4, 65535)],
+    # worked: two places
+    ("a queue of 2, full and running", queue(2, 2, 0), UNSOUND),
+    ("a queue of 2, full and stopped", queue(2, 2, 0, 0, 1), SOUND, {"post": 28, "take": 28}),
+    ("a queue of 2, posted 0, taken 1", queue(2, 0, 1), UNSOUND),
+    ("a queue of 2, place 2", queue(2, 0, 0, 2), UNSOUND),
+    ("a queue of 2, empty and stopped", queue(2, 0, 0, 0, 1), SOUND, {"post": 28, "take": 28}),
+    # of the size no more is asked: none has no place inside, and others that no area has are sound
+    *[(f"a queue of no places, stopped {stopped}", queue(0, 0, 0, 0, stopped), UNSOUND) for stopped in (0, 1)],
+    ("a queue of no places, place 65535", queue(0, 0, 0, 65535), UNSOUND),
+    *[(f"a queue of {size}, empty", queue(size), SOUND, {"post": 28, "take": 28})
+      for size in (1, 2, 3, 5, 1023, 1024, 1025, 2048, 2050, 2052, 32768, 65535)],
+    *[(f"a queue of {size}, full and stopped", queue(size, size, 0, size - 1, 1), SOUND, {"post": 28, "take": 28})
+      for size in (1, 2, 3, 5, 1023, 1024, 1025, 2048, 2052, 65535)],
+    *[(f"a queue of {size}, full and running", queue(size, size, 0, size - 1), UNSOUND) for size in (1, 2, 3, 1023, 1024, 1025, 65535)],
+    *[(f"a queue of {size}, one too many", queue(size, size + 1, 0, 0, 1), UNSOUND) for size in (1, 2, 3, 1023, 1024, 1025, 65535)],
+    *[(f"a queue of {size}, place {size}", queue(size, 0, 0, size), UNSOUND) for size in (1, 2, 3, 1023, 1024, 1025, 65535)],
+    # every controller in use, and no other
+    *[(f"6's queue: {name}", queue(*kept, place=1), answers) for name, kept, answers in (
+        ("a place filled", (4, 1, 0, 3), SOUND), ("full and stopped", (4, 4, 0, 3, 1), SOUND),
+        ("full and running", (4, 4, 0, 3), UNSOUND), ("place 4", (4, 1, 0, 4), UNSOUND), ("posted 0, taken 1", (4, 0, 1), UNSOUND))],
+    *[(f"7's queue: {name}", queue(*kept, place=2), answers) for name, kept, answers in (
+        ("none", (), SOUND), ("full and stopped", (4, 4, 0, 3, 1), SOUND), ("full and running", (2, 2, 0, 1), UNSOUND),
+        ("place 2", (2, 0, 0, 2), UNSOUND), ("no places", (0,), UNSOUND))],
+    *[(f"a queue in place {place} of eight, {said}", both(identifiers(*EIGHT), queue(*kept, place=place)), answers)
+      for place in (3, 6, 7)
+      for said, kept, answers in (("full and stopped", (3, 3, 0, 2, 1), SOUND), ("full and running", (3, 3, 0, 2), UNSOUND))],
+    *[(f"a queue in unused place {place}: {kept}", queue(*kept, place=place), SOUND)
+      for place in (3, 4, 7) for kept in ((0,), (2, 2, 0), (2, 0, 1), (2, 0, 0, 2), (4, 1, 0, 3), (65535, 3, 9, 65535, 1))],
+    ("the last one's queue full and running, unused", both(identifiers(*EIGHT), queue(3, 3, 0, 2, place=7), settings(count=7)), SOUND),
+    # beside other rules
+    ("closed device with a queue", both(closed(), queue(4, 1)), BROKEN),
+    ("a queue full and running, limit 129", both(queue(4, 4), settings(limit=129)), BROKEN),
+    ("a queue full and running, limit 2", both(queue(4, 4), settings(limit=2)), UNSOUND),
+    ("5 off and suspended, its queue full and stopped", both(off(0), suspended(1), queue(4, 4, 0, 0, 1)),
+     SOUND, {"stop": 4, "write": 4, "receive": 5, "post": 30}),
+    ("5 off and suspended, its queue full and running", both(off(0), suspended(1), queue(4, 4)), UNSOUND),
+    ("7's sequence open, 7's queue full and running", both(opened(7, 16), queue(2, 2, 0, place=2)), UNSOUND),
 ]
 
 # Start structures for controller 6 of the base, and what they are answered with, by document 02, W3: "which rule and row,
@@ -583,7 +660,7 @@ EVERY_MARK = {word: ALL_ONES for word in range(64)}  # of 4,096 units from bit 0
 
 def noted(done, new, cut=0):
     """The numbers of a done batch."""
-    return [0, 0, new, 0, 0, 0, 0, done, cut, 0]
+    return numbers(count=new, notes_done=done, cut=cut)
 
 
 # What a batch answers: "the single notes in list order up to the first refused one and answers the number done, the total
@@ -675,12 +752,12 @@ def placed(marks, *bases):
 
 def opens(end, owner=7):
     """A done part that goes on: its numbers, and the sequence that it leaves."""
-    return [0] * 10, {}, (), (owner, end)
+    return numbers(), {}, (), (owner, end)
 
 
 def yields(whole):
     """A done part that ends its sequence: the assembled bytes are counted, and nothing is open."""
-    return [0] * 9 + [whole], {}, (), None
+    return numbers(whole=whole), {}, (), None
 
 
 # What a part of controller 7 answers where nothing is open (document 02, W6). Here too the whole answer is known: of the
@@ -825,6 +902,221 @@ AT_4096 = [
     ("part", part(MIDDLE, 4096, b"", front=FULL), [25]),
     ("part", part(LAST, 4092, b"", front=FULL), [26]),
     ("part", part(FIRST, 0, bytes(4), front=FULL), *opens(4)),
+]
+
+# ---- Queue calls (document 02, W8). Here too the whole answer is known: of the area a post changes one place, of the buffer a
+# take its front, and of the record each its own queue.
+
+A, B, C = b"\xa1" * 32, b"\xb2" * 32, b"\xc3" * 32  # entries; none stands in a lent area
+LARGE = 1024 * 32
+SIZES = (0, 1, 2, 16, 30, 31, 32, 33, 34, 48, 62, 63, 64, 65, 66, 94, 95, 96, 97, 98, 126, 127, 128, 129, 130, 160, 1024, 2048,
+         4096, 4104, 4200, 4224, 8192, 16384, 32704, 32735, 32736, 32737, 32766, 32767, 32768, 32769, 32770, 32784, 32799, 32800)
+
+
+def lent(*places):
+    """What these places of a queue's area hold, one after another: its first 64 bytes are 0 to 63, and in place p from 2 on
+    all are 40h + p, cut to 8 bits."""
+    return b"".join(QUEUE_FRONT[32 * place:32 * place + 32] or b"%c" % ((QUEUE_FILL + place) % 256) * 32 for place in places)
+
+
+def makes(places):
+    """A done make: an empty queue with totals 0, and no byte of the area is another."""
+    return numbers(), {}, (), NOT_SAID, (), Kept(places)
+
+
+def stores(place, entry, *kept):
+    """A done post: the entry in this place, and the queue that is left."""
+    return numbers(), {}, (), NOT_SAID, (), Kept(*kept), {place: entry}
+
+
+def closes(place, *kept):
+    """A post that finds one free place: the closing entry goes there."""
+    return numbers(stopped=1), {}, (), NOT_SAID, (), Kept(*kept), {place: CLOSING}
+
+
+def takes(entries, *kept, closing=0):
+    """A done take: these bytes, and the queue that is left."""
+    return numbers(taken=len(entries) // 32, closing=closing), {}, (), NOT_SAID, (), Kept(*kept), {}, entries
+
+
+# On the base: 5 has a queue of four places, with the last and the first filled, 6 none, and 7 a stopped one of two places.
+QUEUES = [
+    # "until the queue is made anew, empty, with totals 0", whatever there was.
+    *[("make", make(size, id=id), *makes(size // 32)) for id in (5, 6, 7) for size in (64, 96, 128, 4096, 32736, LARGE)],
+    *[("make", make(size, id=id), [28]) for id in (5, 6, 7) for size in SIZES if size % 32 or not 64 <= size <= LARGE],
+    *[("make", make(size, id=id), [2]) for id in (0, 1, 9, 5 + 256, 65535) for size in (0, 63, 64, 128, 32800)],
+    # A post to the second place; the entry may be anything.
+    *[("post", post(entry), *stores(1, entry, 4, 2, WORD - 1, 3)) for entry in (A, bytes(32), CLOSING, bytes(range(32)), lent(1), lent(3))],
+    *[("post", post(A, size=size), [28]) for size in SIZES if size != 128],
+    *[("post", post(entry, id=id, size=size), [2])
+      for id in (0, 1, 9, 5 + 256, 65535) for size in (0, 63, 64, 128, 32800) for entry in (A, b"")],
+    *[("post", post(entry, id=6, size=size), [29]) for size in (64, 96, 128, LARGE) for entry in (A, b"", A[:31], A + b"\0")],
+    *[("post", post(entry, id=6, size=size), [28]) for size in (0, 32, 63, 65, 127, 32767, 32800) for entry in (A, b"")],
+    *[("post", post((A * 32)[:length]), [8]) for length in (0, 1, 16, 30, 31, 33, 34, 63, 64, 96, 256 + 32, 1024)],
+    ("post", post(A, id=7, size=64), [30]),
+    *[("post", post((A * 32)[:length], id=7, size=64), [8]) for length in (0, 31, 33, 64, 1024)],
+    *[("post", post(entry, id=7, size=size), [28]) for size in (0, 63, 65, 96, 128, LARGE) for entry in (A, b"")],
+    # A take of what is asked for, of both that are queued, of what fits. The rest of the buffer is as it was.
+    *[("take", take(0, buffer), *takes(b"", 4, 1, WORD - 1, 3)) for buffer in (0, 31, 32, 64, 1024)],
+    *[("take", take(asked, buffer), *takes(b"", 4, 1, WORD - 1, 3)) for asked in (1, 2, WORD - 1) for buffer in (0, 1, 16, 31)],
+    *[("take", take(1, buffer), *takes(lent(3), 4, 1, 0, 0)) for buffer in (32, 33, 63, 64, 65, 100, 1024)],
+    *[("take", take(asked, buffer), *takes(lent(3), 4, 1, 0, 0)) for asked in (2, 3, WORD - 1) for buffer in (32, 33, 63)],
+    *[("take", take(asked, buffer), *takes(lent(3, 0), 4, 1, 1, 1))
+      for asked in (2, 3, 10, 255, 256, 257, 65536, 65537, 2**31, 2**31 + 1, WORD - 1) for buffer in (64, 65, 95, 96, 100, 1024)],
+    ("take", take(2, bytes(range(70))), *takes(lent(3, 0), 4, 1, 1, 1)),
+    *[("take", take(1, 32, size=size), [28]) for size in SIZES if size != 128],
+    *[("take", take(1, 32, id=id, size=size), [2]) for id in (0, 1, 9, 5 + 256, 65535) for size in (0, 63, 64, 128, 32800)],
+    *[("take", take(asked, buffer, id=6, size=size), [29]) for size in (64, 96, 128, LARGE) for asked, buffer in ((0, 0), (1, 32))],
+    *[("take", take(1, 32, id=6, size=size), [28]) for size in (0, 32, 63, 65, 127, 32767, 32800)],
+    # 7's: from its second place on, and behind it the closing one in the first.
+    ("take", take(1, 64, id=7, size=64), *takes(lent(1), 2, 2, 1, 0, 1)),
+    ("take", take(2, 63, id=7, size=64), *takes(lent(1), 2, 2, 1, 0, 1)),
+    ("take", take(2, 64, id=7, size=64), *takes(lent(1, 0), 2, 2, 2, 1, 1, closing=1)),
+    ("take", take(9, 100, id=7, size=64), *takes(lent(1, 0), 2, 2, 2, 1, 1, closing=1)),
+    ("take", take(0, 64, id=7, size=64), *takes(b"", 2, 2, 0, 1, 1)),
+    ("take", take(2, 31, id=7, size=64), *takes(b"", 2, 2, 0, 1, 1)),
+    # Marks are as they were, and so is what is not shown of the area; past its end there is nothing to show.
+    ("make", dict(mark=MIXED, **make(64)), *makes(2)),
+    ("post", dict(mark=MIXED, **post(A)), *stores(1, A, 4, 2, WORD - 1, 3)),
+    ("take", dict(mark=MIXED, **take(2, 64)), *takes(lent(3, 0), 4, 1, 1, 1)),
+    *[("post", post(A, shown=shown), *stores(1, A, 4, 2, WORD - 1, 3)) for shown in (1, 31, 32, 33, 63, 64, 127, 128, 129, 4200, 65535)],
+    *[("make", make(LARGE, shown=shown), *makes(1024)) for shown in (0, 1, 4200, 28567, 28568, 28569, 32767, 32768, 65535)],
+    # What only other calls take is not looked at, nor by others what only these take.
+    *[(call, dict(address=2, bytes=ALL_ONES, type=255, records=1025, indicator=4, low=2, high=1, count=WORD - 1, **fields), *after)
+      for call, fields, *after in (
+          ("make", make(64), *makes(2)),
+          ("post", post(A), *stores(1, A, 4, 2, WORD - 1, 3)),
+          ("take", take(2, 64), *takes(lent(3, 0), 4, 1, 1, 1)))],
+    *[("make", dict(make(64), asked=asked), *makes(2)) for asked in (1, WORD - 1)],
+    *[("post", dict(post(A), asked=asked), *stores(1, A, 4, 2, WORD - 1, 3)) for asked in (1, WORD - 1)],
+    ("part", dict(asked=1, shown=100, **part(ONLY, 0, bytes(48))), *yields(48)),
+    *[("stop", dict(id=5, asked=WORD - 1, shown=shown), [0]) for shown in (1, 65535)],
+    ("batch", dict(asked=1, shown=1, **batch((5, 69632, 1))), noted(1, 1), {0: 2}),
+]
+
+# Worked numbers: sound records with such a queue of 5, and calls on them.
+WORKED_QUEUES = [
+    # 64 bytes: one entry, then the closing one, then 30 until it is made anew.
+    ((2,), [("post", post(A, size=64), *stores(0, A, 2, 1))]),
+    ((2, 1), [("post", post(B, size=64, front=A), *closes(1, 2, 2, 0, 0, 1))]),
+    ((2, 2, 0, 0, 1), [
+        ("post", post(C, size=64), [30]),
+        ("post", post(C[:31], size=64), [8]),
+        ("take", take(10, 100, size=64, front=A + CLOSING), *takes(A + CLOSING, 2, 2, 2, 0, 1, closing=1)),
+        ("make", make(64), *makes(2)),
+    ]),
+    ((2, 2, 2, 0, 1), [
+        ("take", take(10, 100, size=64), *takes(b"", 2, 2, 2, 0, 1)),
+        ("post", post(C, size=64), [30]),
+        ("make", make(64), *makes(2)),
+    ]),
+    # 96 bytes: a posted entry of FFh is not the closing one.
+    ((3,), [("post", post(CLOSING, size=96), *stores(0, CLOSING, 3, 1)), ("post", post(A, size=64), [28])]),
+    ((3, 1), [("take", take(1, 32, size=96, front=CLOSING), *takes(CLOSING, 3, 1, 1, 1))]),
+    ((3, 2), [("take", take(2, 64, size=96, front=CLOSING * 2), *takes(CLOSING * 2, 3, 2, 2, 2))]),
+    # 128 bytes: three are stored, and the fourth post closes.
+    ((4, 2), [("post", post(C), *stores(2, C, 4, 3))]),
+    ((4, 3), [("post", post(A), *closes(3, 4, 4, 0, 0, 1))]),
+    ((4, 4, 0, 0, 1), [
+        ("take", take(3, 128), *takes(lent(0, 1, 2), 4, 4, 3, 3, 1)),
+        ("take", take(4, 128), *takes(lent(0, 1, 2, 3), 4, 4, 4, 0, 1, closing=1)),
+        ("take", take(4, 127), *takes(lent(0, 1, 2), 4, 4, 3, 3, 1)),
+    ]),
+    ((4, 4, 3, 3, 1), [
+        ("take", take(1, 32), *takes(lent(3), 4, 4, 4, 0, 1, closing=1)),
+        ("take", take(0, 32), *takes(b"", 4, 4, 3, 3, 1)),
+    ]),
+    # The totals lie on both sides of 2^32: a fill of 3.
+    ((4, 2, WORD - 1, 1), [
+        ("post", post(A), *closes(0, 4, 3, WORD - 1, 1, 1)),
+        ("take", take(2, 64), *takes(lent(1, 2), 4, 2, 1, 3)),
+        ("take", take(9, 100), *takes(lent(1, 2, 3), 4, 2, 2, 0)),
+    ]),
+    # Three places, and 2^32 is no multiple of 3: the place is kept, and not reckoned from the totals.
+    ((3, WORD - 1, WORD - 1), [
+        ("post", post(A, size=96), *stores(0, A, 3, 0, WORD - 1)),
+        ("take", take(1, 32, size=96), *takes(b"", 3, WORD - 1, WORD - 1)),
+    ]),
+    ((3, 0, WORD - 1), [
+        ("take", take(1, 32, size=96, front=A), *takes(A, 3, 0, 0, 1)),
+        ("post", post(B, size=96, front=A), *stores(1, B, 3, 1, WORD - 1)),
+    ]),
+    ((3, 0, 0, 1), [("post", post(B, size=96), *stores(1, B, 3, 1, 0, 1))]),
+    ((3, 0, 0, 2), [("post", post(B, size=96), *stores(2, B, 3, 1, 0, 2))]),
+    ((3, 1, 0, 2), [("post", post(B, size=96), *stores(0, B, 3, 2, 0, 2))]),
+    ((3, 2, 0, 2), [("post", post(B, size=96), *closes(1, 3, 3, 0, 2, 1)), ("take", take(2, 64, size=96), *takes(lent(2, 0), 3, 2, 2, 1))]),
+    # Posts that pass 2^32.
+    ((5, WORD - 1, WORD - 3, 4), [
+        ("post", post(A, size=160), *stores(1, A, 5, 0, WORD - 3, 4)),
+        ("take", take(9, 160, size=160), *takes(lent(4, 0), 5, WORD - 1, WORD - 1, 1)),
+    ]),
+    ((5, WORD - 1, WORD - 5, 3), [("post", post(A, size=160), *closes(2, 5, 0, WORD - 5, 3, 1))]),
+    ((2, WORD - 1, WORD - 2, 1), [("post", post(A, size=64), *closes(0, 2, 0, WORD - 2, 1, 1))]),
+    ((2, WORD - 1, WORD - 1, 1), [("post", post(A, size=64), *stores(1, A, 2, 0, WORD - 1, 1))]),
+    # Takes that pass it, or come up to it.
+    ((5, 1, WORD - 3, 4), [
+        ("take", take(1, 160, size=160), *takes(lent(4), 5, 1, WORD - 2, 0)),
+        ("take", take(2, 160, size=160), *takes(lent(4, 0), 5, 1, WORD - 1, 1)),
+        ("take", take(3, 160, size=160), *takes(lent(4, 0, 1), 5, 1, 0, 2)),
+        ("take", take(4, 160, size=160), *takes(lent(4, 0, 1, 2), 5, 1, 1, 3)),
+        ("take", take(5, 160, size=160), *takes(lent(4, 0, 1, 2), 5, 1, 1, 3)),
+        ("post", post(A, size=160), *closes(3, 5, 2, WORD - 3, 4, 1)),
+    ]),
+    ((6, 2, WORD - 4, 5, 1), [
+        ("take", take(5, 192, size=192), *takes(lent(5, 0, 1, 2, 3), 6, 2, 1, 4, 1)),
+        ("take", take(6, 192, size=192), *takes(lent(5, 0, 1, 2, 3, 4), 6, 2, 2, 5, 1, closing=1)),
+        ("post", post(A, size=192), [30]),
+    ]),
+    ((6, 2, 1, 4, 1), [("take", take(6, 192, size=192), *takes(lent(4), 6, 2, 2, 5, 1, closing=1))]),
+    ((7, WORD - 1, WORD - 7, 6), [("post", post(A, size=224), *closes(5, 7, 0, WORD - 7, 6, 1))]),
+    ((8, WORD - 1, WORD - 7, 6), [("post", post(A, size=256), *stores(4, A, 8, 0, WORD - 7, 6))]),
+    # Stopped with less than all, or nothing, queued: the newest queued one is the closing one.
+    ((4, 2, 0, 3, 1), [
+        ("take", take(1, 32), *takes(lent(3), 4, 2, 1, 0, 1)),
+        ("take", take(2, 64), *takes(lent(3, 0), 4, 2, 2, 1, 1, closing=1)),
+        ("post", post(A), [30]),
+    ]),
+    ((4, 0, 0, 2, 1), [("take", take(9, 64), *takes(b"", 4, 0, 0, 2, 1)), ("post", post(A), [30]), ("make", make(128), *makes(4))]),
+    # Sizes that no area has: posts and takes meet 28 whatever they lend, and a make is done. 32 times 2,050 is 64 in 16 bits.
+    *[(kept, [
+        *[("post", post(A, size=size), [28]) for size in (0, 32, 64, 96, 128, LARGE, 32800)],
+        *[("take", take(1, 32, size=size), [28]) for size in (0, 32, 64, 96, 128, LARGE, 32800)],
+        ("make", make(64), *makes(2)),
+        ("make", make(63), [28]),
+    ]) for kept in ((1,), (1, 1, 0, 0, 1), (1, 5, 5, 0, 1), (1025,), (1025, 1025, 0, 1024, 1), (2050,), (2051, 3, 0, 2050),
+                    (65535, 65535, 0, 65534, 1))],
+    # As many places as may be. The window of the answer is put about the place.
+    ((1024, 0, WORD - 1023, 1), [
+        ("post", post(A, size=LARGE), *closes(0, 1024, 1, WORD - 1023, 1, 1)),
+        ("take", take(1024, 1024, size=LARGE), *takes(lent(*range(1, 33)), 1024, 0, WORD - 991, 33)),
+    ]),
+    ((1024, WORD - 1, WORD - 1, 1023), [
+        ("post", post(A, size=LARGE, shown=shown), *stores(1023, A, 1024, 0, WORD - 1, 1023)) for shown in (0, 28568, 32736)]),
+    ((1024, 20, 0, 1010), [
+        ("take", take(20, 1024, size=LARGE), *takes(lent(*range(1010, 1024), *range(6)), 1024, 20, 20, 6)),
+        ("take", take(14, 1024, size=LARGE), *takes(lent(*range(1010, 1024)), 1024, 20, 14, 0)),
+        ("post", post(A, size=LARGE), *stores(6, A, 1024, 21, 0, 1010)),
+    ]),
+    ((1024, 1024, 0, 700, 1), [
+        ("take", take(WORD - 1, 1000, size=LARGE), *takes(lent(*range(700, 731)), 1024, 1024, 31, 731, 1))]),
+    ((1024, 1024, 1000, 676, 1), [
+        ("take", take(WORD - 1, 1000, size=LARGE), *takes(lent(*range(676, 700)), 1024, 1024, 1024, 700, 1, closing=1))]),
+    # A post into the midst of 1,024 places, and every byte of the area.
+    ((1024, 100, 0, 500), [
+        ("post", post(A, size=LARGE, shown=shown), *stores(600, A, 1024, 101, 0, 500)) for shown in range(0, LARGE, 4200)]),
+    ((1000, WORD - 1, WORD - 1, 999), [("post", post(A, size=32000, shown=30000), *stores(999, A, 1000, 0, WORD - 1, 999))]),
+]
+
+# Eight controllers with a queue each, of 2 to 9 places, with one place filled, the last. Calls change the called one's.
+EIGHT_QUEUES = both(identifiers(*EIGHT), *[queue(place + 2, place + 1, place, place + 1, place=place) for place in range(8)])
+CALLS_TO_EIGHT = [
+    one for place, id in enumerate(EIGHT) for one in (
+        ("make", make(64, id=id), *makes(2)),
+        ("post", post(A, id=id, size=64 + 32 * place),
+         *(stores(0, A, place + 2, place + 2, place, place + 1) if place else closes(0, 2, 2, 0, 1, 1))),
+        ("take", take(2, 64, id=id, size=64 + 32 * place), *takes(lent(place + 1), place + 2, place + 1, place + 1, 0)),
+        ("post", post(A, id=id, size=96 + 32 * place), [28]),
+    )
 ]
 
 # Sound records, by their change to the base, and calls on them: the call, its fields, the first numbers of the answer
@@ -1018,6 +1310,18 @@ ORDERS = [
     ("parts, 5's sequence open at 16", both(suspended(1, 0, 1), opened(5, 16)), ANOTHERS),
     ("parts, 7's sequence open at 4,092", opened(7, 4092), AT_4092),
     ("parts, 7's sequence open at 4,096", opened(7, 4096), AT_4096),
+    ("queues", both(), QUEUES),
+    ("queues, 7's sequence open at 16", opened(7, 16), [
+        ("make", make(64, id=7), *makes(2)),
+        ("post", post(A), *stores(1, A, 4, 2, WORD - 1, 3)),
+        ("take", take(2, 64, id=7, size=64), *takes(lent(1, 0), 2, 2, 2, 1, 1, closing=1)),
+    ]),
+    *[(f"{Kept(*kept)}", queue(*kept), calls) for kept, calls in WORKED_QUEUES],
+    # Tracked or not, running or suspended.
+    *[(f"{Kept(4, 2)} of a controller that is {said}", both(change_it, queue(4, 2)), [
+        ("make", make(64), *makes(2)), ("post", post(A), *stores(2, A, 4, 3)), ("take", take(2, 64), *takes(lent(0, 1), 4, 2, 2, 2))])
+      for said, change_it in (("off", off(0)), ("suspended", suspended(1)), ("off and suspended", both(off(0), suspended(1))))],
+    ("queues of eight", EIGHT_QUEUES, CALLS_TO_EIGHT),
     ("4,096 units", tracked(0, (0, 4096)), [
         ("write", dict(id=5, address=0, bytes=ALL_ONES), [0, 0, 4096]),
         ("receive", dict(id=5, data=b"\xaa" * 32, mark=ALL_ONES), [0, 0, 0, 0, 0, 0, 1]),
@@ -1361,6 +1665,9 @@ def cases():
         yield from moves(build, said)
         yield from orders_of_a_part(build, said)
         yield from divided_headers(build, said)
+        yield from orders_of_queue_calls(build, said)
+    yield from small_queues()
+    yield from several_sizes()
 
 
 def every_call(build, said):
@@ -1385,7 +1692,7 @@ def orders(build, said):
     """Each call as it is; then on a record whose last controller in use is unsound in row 1, and with a word too few."""
     for name, change_it, calls in ORDERS:
         record = changed(build, change_it)
-        unsound = copy.deepcopy(record)
+        unsound = record.copied()
         unsound.controllers[record.count - 1].track(8, (1048576, 1), (1048577, 1))
         for call, fields, known, *after in calls:
             yield named(Case(record, call, **fields), f"{name}, {call}{said}", known, *after)
@@ -1436,10 +1743,65 @@ def divided_headers(build, said):
             yield named(Case(record, "part", mark=MIXED, **fields), f"60 bytes divided at {end}, byte {byte}{said}", *known)
 
 
+def orders_of_queue_calls(build, said):
+    """Every set of rules that can be broken at once by a queue call: the first of 1, 2, 28, 29, 8, 30 answers. 5 and 7 have four
+    places, and 7's are stopped; 6 has no queue; 1 is the manager, and 9 stands in an unused place."""
+    record = changed(build, both(queue(4, 2), queue(4, 2, 0, 3, 1, place=2)))
+    calls = [("make", b"")] + [(call, (A * 2)[:length]) for call in ("post", "take") for length in (32, 0, 31, 33, 64)]
+    for (call, data), id, size, words in itertools.product(calls, (5, 6, 7, 9, 1), (128, 127, 129, 96, 32, 0, 32800), (256, 255)):
+        tests = [
+            (1, words == 256),
+            (2, id in (5, 6, 7)),
+            (28, size == 128 or size == 96 and (call == "make" or id == 6)),
+            (29, call == "make" or id != 6),
+            (8, call != "post" or len(data) == 32),
+            (30, call != "post" or id != 7),
+        ]
+        known = [next((number for number, passes in tests if not passes), 0)]
+        lends = make(size, id=id) if call == "make" else post(data, id=id, size=size) if call == "post" else take(1, data, id=id, size=size)
+        yield Case(record, call, words=words, **lends).named(f"{call} of {id}, area {size}, {len(data)} bytes, {words} words{said}", *known)
+
+
+def small_queues():
+    """Queues of 2 to 5 places, from each place on, with each fill, running and stopped: a post, and takes of each number. The
+    totals pass 2^32 in some. Unused places are full of rubbish."""
+    for size, stopped in itertools.product(range(2, 6), (0, 1)):
+        for place, fill in itertools.product(range(size), range(size + stopped)):
+            taken = (WORD - 3 + place) % WORD
+            posted = (taken + fill) % WORD
+            record = changed(base_with_rubbish, queue(size, posted, taken, place, stopped))
+            name = str(Kept(size, posted, taken, place, stopped))
+            free, after = (place + fill) % size, (posted + 1) % WORD
+            known = closes(free, size, after, taken, place, 1) if fill == size - 1 else stores(free, A, size, after, taken, place)
+            known = ([30],) if stopped else known
+            yield named(Case(record, "post", **post(A, size=32 * size)), f"{name}, post", *known)
+            for asked in range(size + 2):
+                for buffer in sorted({32 * asked, max(0, 32 * fill - 1), 170}):
+                    count = min(asked, fill, buffer // 32)
+                    entries = lent(*((place + one) % size for one in range(count)))
+                    kept = (size, posted, (taken + count) % WORD, (place + count) % size, stopped)
+                    known = takes(entries, *kept, closing=int(stopped and count == fill and count > 0))
+                    yield named(Case(record, "take", **take(asked, buffer, size=32 * size)), f"{name}, take {asked} into {buffer}", *known)
+
+
+def several_sizes():
+    """Posts and takes of queues of more places, from some of them on, nearly empty and nearly full."""
+    for size in (6, 31, 32, 33, 64, 130, 131, 132, 133, 255, 256, 257, 511, 512, 513, 1023, 1024):
+        for place, fill in itertools.product((0, 1, size // 2, size - 1), (0, 1, size // 2, size - 2, size - 1)):
+            record = changed(base_with_rubbish, queue(size, fill + 7, 7, place))
+            name, free = str(Kept(size, fill + 7, 7, place)), (place + fill) % size
+            known = closes(free, size, fill + 8, 7, place, 1) if fill == size - 1 else stores(free, A, size, fill + 8, 7, place)
+            yield named(Case(record, "post", **post(A, size=32 * size, shown=max(0, 32 * free - 2000))), f"{name}, post", *known)
+            count = min(fill, 31)
+            entries = lent(*((place + one) % size for one in range(count)))
+            known = takes(entries, size, fill + 7, 7 + count, (place + count) % size)
+            yield named(Case(record, "take", **take(WORD - 1, 1000, size=32 * size)), f"{name}, take", *known)
+
+
 def named(case, name, known, *after):
-    """The case with its name and what is known: the first numbers, and of some calls mark words, runs, the sequence and
-    bases."""
-    return case.named(name, *known, **dict(zip(("marks", "runs", "sequence", "bases"), after)))
+    """The case with its name and what is known: the first numbers, and of some calls mark words, runs, the sequence, bases,
+    the queue, what is stored in its area, and what is taken."""
+    return case.named(name, *known, **dict(zip(("marks", "runs", "sequence", "bases", "queue", "stored", "taken"), after)))
 
 
 def changed(build, change_it):

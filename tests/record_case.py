@@ -1,15 +1,19 @@
 """A case of tests/records and its answer, in the form of RECORDS.md."""
 
 import copy
+import functools
 import struct
 
 import pool
 from parts import WORD
+from queues import ENTRY, Kept, after_post, after_take, kept_refusal
 
-CALLS = ["fresh", "start", "stop", "write", "receive", "suspend", "resume", "batch", "part"]
-CASE_BYTES = 2944
+CALLS = ["fresh", "start", "stop", "write", "receive", "suspend", "resume", "batch", "part", "make", "post", "take"]
+QUEUE_CALLS = CALLS[9:]
+CASE_BYTES = 3056
 MOST_WORDS, MOST_DATA, MOST_AREA = 512, 1024, 4200  # that a case may lend; a part may have more data, zeros past the 1,024
-FRONT_BYTES = 64  # of the state area, told one by one
+MOST_QUEUE_AREA = 32_800  # that a queue call may be lent; an answer shows 4,200 bytes of it
+FRONT_BYTES = 64  # of an area, told one by one
 ROW = struct.Struct("<HQQ")  # of a batch: id, address, bytes
 MOST_ROWS = MOST_DATA // ROW.size
 MEMORY = 2**64
@@ -24,13 +28,14 @@ def rotated(mark, bits):
 # ---- A case
 
 class Controller:
-    """Tracking is None (off) or (granularity, count). The base is its share's first bit. The 16 ranges are pairs of start
-    and length in units."""
+    """Tracking is None (off) or (granularity, count). The base is its share's first bit. The queue is None or a `Kept`. The
+    16 ranges are pairs of start and length in units."""
 
-    def __init__(self, tracking=None, ranges=(), suspended=0, base=0):
+    def __init__(self, tracking=None, ranges=(), suspended=0, base=0, queue=None):
         self.tracking = tracking
         self.suspended = suspended
         self.base = base
+        self.queue = queue
         self.ranges = (list(ranges) + [(0, 0)] * 16)[:16]
 
     def track(self, granularity, *ranges):
@@ -41,7 +46,8 @@ class Controller:
     def packed(self):
         granularity, count = self.tracking or (0, 0)
         head = (self.tracking is not None, granularity, count, self.suspended, self.base)
-        return struct.pack("<4BH" + "QI" * 16, *head, *[number for pair in self.ranges for number in pair])
+        queue = (self.queue is not None, *(self.queue or Kept(0)))
+        return struct.pack("<4BHBHIIHB" + "QI" * 16, *head, *queue, *[number for pair in self.ranges for number in pair])
 
     def readable(self):
         tracking = "on, granularity {}, count {}".format(*self.tracking) if self.tracking else "off"
@@ -49,7 +55,8 @@ class Controller:
         listed = " ".join(map(str, self.ranges[:used])) or "none"
         unused = "rubbish" if any(map(any, self.ranges[used:])) else "zeros"
         running = "suspended" if self.suspended else "running"
-        return f"{tracking}, {running}; base {self.base}, {pool.units(self)} units; ranges {listed}, then {unused}"
+        queue = f"{self.queue}, fill {self.queue.fill()}" if self.queue else "no queue"
+        return f"{tracking}, {running}; base {self.base}, {pool.units(self)} units; {queue}; ranges {listed}, then {unused}"
 
 
 class Record:
@@ -61,6 +68,14 @@ class Record:
         self.identifiers = [0] * 8
         self.controllers = [Controller() for _ in range(8)]
         self.sequence = None
+
+    def copied(self):
+        """Another record with the same in it, of which each part may be changed."""
+        other = copy.copy(self)
+        other.identifiers, other.controllers = list(self.identifiers), list(map(copy.copy, self.controllers))
+        for one in other.controllers:
+            one.ranges = list(one.ranges)
+        return other
 
     def packed(self):
         settings = (self.manager, self.least, self.greatest, self.rule, self.limit, self.count, *self.identifiers)
@@ -81,20 +96,22 @@ def packed_sequence(sequence):
 
 
 CLOSED = Record().packed()
-SEQUENCE_BYTES = len(packed_sequence(None))  # the last of a record
 
 
 NOT_SAID = "not said"
 
 
 class Case:
-    """A record, lent marks, bytes and state area, and one call. `known` are the answer's first numbers, as far as known by
-    hand, the row 0 unless said; of some done calls also mark words, runs, the sequence that is left and bases are known."""
+    """A record, lent marks, bytes and an area, and one call. `known` are the answer's first numbers, as far as known by
+    hand, the row 0 unless said; of some done calls also mark words, runs, the sequence that is left and bases are known, and
+    of a queue call the queue that is left, what is stored in the area and what is put into the buffer."""
 
     share_damaged = False  # a random case whose record was damaged in a share's place
+    queue_damaged = False  # in a queue
+    sound = None           # whether record and words of a random case are, where that is known
 
     def __init__(self, record, call, id=0, address=0, bytes=0, type=0, data=b"", records=0, words=pool.WORDS, mark=0,
-                 indicator=0, low=0, high=0, count=0, area=0, fill=0, front=b""):
+                 indicator=0, low=0, high=0, count=0, area=0, fill=0, front=b"", asked=0, shown=0):
         self.record = record
         self.call = call
         self.id, self.address, self.bytes, self.type = id, address, bytes, type
@@ -102,12 +119,13 @@ class Case:
         self.words, self.mark = words, mark
         self.indicator, self.low, self.high, self.count = indicator, low, high, count
         self.area, self.fill, self.front = area, fill, front.ljust(FRONT_BYTES, b"%c" % fill)
+        self.asked, self.shown = asked, shown
 
-    def named(self, name, *known, marks=None, runs=(), sequence=NOT_SAID, bases=()):
+    def named(self, name, *known, marks=None, runs=(), sequence=NOT_SAID, bases=(), queue=NOT_SAID, stored=None, taken=b""):
         """The marks are by the number of their word; the runs are pairs of address and length in units; the bases are those of
-        the first controllers, in their order."""
+        the first controllers, in their order. Bytes are stored at places of the area, and taken to the buffer's front."""
         self.name, self.known_marks, self.known_runs, self.known_sequence = name, marks or {}, runs, sequence
-        self.known_bases = bases
+        self.known_bases, self.known_queue, self.known_stored, self.known_taken = bases, queue, stored or {}, taken
         self.known = (*known, 0) if len(known) == 1 else known
         return self
 
@@ -115,15 +133,21 @@ class Case:
         call = (self.words, self.mark, CALLS.index(self.call), self.id, self.address, self.bytes, self.type)
         fields = struct.pack("<HQBHQQBH", *call, len(self.data)) + in_room(self.data, MOST_DATA) + struct.pack("<H", self.records)
         part = struct.pack("<BIIIHB", self.indicator, self.low, self.high, self.count, self.area, self.fill) + self.front
-        return (self.record.packed() + fields + part).ljust(CASE_BYTES, b"\0")
+        return (self.record.packed() + fields + part + struct.pack("<IH", self.asked, self.shown)).ljust(CASE_BYTES, b"\0")
 
     def lent_words(self):
         """The lent marks. Words near each other differ, save for 0 and all ones, so that one that moved can be told."""
         return ([rotated(self.mark, bits) for bits in range(64)] * (MOST_WORDS // 64))[:self.words]
 
     def lent_area(self):
-        """The state area: the front, and behind it one byte again and again. Only a part is lent one."""
-        return (self.front + b"%c" % self.fill * MOST_AREA)[:self.area]
+        """A part's state area: the front, and behind it one byte again and again. A queue call's own area: the front, which
+        is two places, and behind it places of one byte, each another. No other call is lent one."""
+        behind = places_behind(self.fill) if self.call in QUEUE_CALLS else b"%c" % self.fill * MOST_AREA
+        return (self.front + behind)[:self.area]
+
+    def shown_of(self, area):
+        """What an answer has room for of an area: a part's whole, a queue call's from a byte on that the case names."""
+        return in_room(area[self.shown if self.call in QUEUE_CALLS else 0:], MOST_AREA)
 
     def readable(self):
         yield f"case: {self.name}"
@@ -136,13 +160,23 @@ class Case:
         if self.call == "part":
             yield (f"part: indicator {self.indicator}, low {self.low}, high {self.high}, count {self.count}; "
                    f"state area of {self.area} bytes: {self.front.hex()}, then {self.fill:#x}")
+        if self.call in QUEUE_CALLS:
+            yield (f"queue: asked {self.asked}; area of {self.area} bytes, shown from {self.shown} on: {self.front.hex()}, "
+                   f"then at byte k {self.fill:#x} and k / 32")
         if self.known:
             numbers = ", ".join(f"{name} {number}" for name, number in zip(NUMBERS, self.known))
             marks = "".join(f", mark word {word} {mark:#x}" for word, mark in self.known_marks.items())
             runs = "".join(f", run {one}" for one in self.known_runs)
             sequence = "" if self.known_sequence == NOT_SAID else f", sequence {self.known_sequence}"
             bases = f", bases {list(self.known_bases)}" if self.known_bases else ""
-            yield f"documents 01 and 02 ask for: {numbers}{marks}{runs}{sequence}{bases}"
+            queue = "" if self.known_queue == NOT_SAID else f", {self.known_queue}"
+            yield f"documents 01 and 02 ask for: {numbers}{marks}{runs}{sequence}{bases}{queue}"
+
+
+@functools.lru_cache(maxsize=None)
+def places_behind(fill):
+    """A queue's area behind its first two places: the third is 32 times a byte 2 greater than this one, the next 3, and so on."""
+    return b"".join(b"%c" % ((fill + place) % 256) * ENTRY for place in range(2, MOST_QUEUE_AREA // ENTRY))
 
 
 def in_room(lent, room):
@@ -169,10 +203,31 @@ def part(indicator, offset, data, id=7, count=None, area=4096, fill=0xEE, front=
             "area": area, "fill": fill, "front": front}
 
 
+QUEUE_FRONT = bytes(range(FRONT_BYTES))  # two places that differ in each byte
+QUEUE_FILL = 0x40                        # so the third place is 32 times 42h, the fourth 43h, and so on
+
+
+def make(size, id=5, fill=QUEUE_FILL, front=QUEUE_FRONT, shown=0):
+    """The fields of a call that makes a queue, of controller 5 unless said, in an area of so many bytes."""
+    return {"id": id, "area": size, "fill": fill, "front": front, "shown": shown}
+
+
+def post(entry, size=128, **lent):
+    """The fields of a post, of controller 5 unless said, with an area of four places unless said."""
+    return {"data": entry, **make(size, **lent)}
+
+
+def take(asked, buffer, size=128, **lent):
+    """The fields of a take with a buffer of so many bytes, or of these. The same holds."""
+    buffer = b"\xaa" * buffer if isinstance(buffer, int) else buffer
+    return {"asked": asked, "data": buffer, **make(size, **lent)}
+
+
 # ---- An answer
 
-NUMBERS = ["refusal", "row", "count", "suspended", "more", "granularity", "runs", "notes done", "cut", "whole"]
-PACKED_NUMBERS = struct.Struct("<BBQBBBQQBQ")
+NUMBERS = ["refusal", "row", "count", "suspended", "more", "granularity", "runs", "notes done", "cut", "whole",
+           "stopped", "taken", "closing"]
+PACKED_NUMBERS = struct.Struct("<BBQBBBQQBQBQB")
 ROW_RULES = (19, 20, 21)  # a start that is refused with one of these answers its row; every other row is 0
 OWN_NUMBERS = {  # behind the row, of a done call; all others are 0
     "write": {"count"}, "batch": {"count", "notes done", "cut"}, "receive": {"suspended", "more", "granularity", "runs"},
@@ -187,6 +242,8 @@ def record_fields():
         for name in ("tracking", "granularity", "count of ranges", "suspended"):
             yield f"controller {place}: {name}", 1
         yield f"controller {place}: base", 2
+        for name, width in (("queue", 1), ("size", 2), ("posted", 4), ("taken", 4), ("place", 2), ("stopped", 1)):
+            yield f"controller {place}: {name}", width
         for row in range(16):
             yield f"controller {place}: start of range {row}", 8
             yield f"controller {place}: length of range {row}", 4
@@ -195,27 +252,31 @@ def record_fields():
 
 def answer_fields():
     """Name and width of each field of an answer, in their order."""
-    yield from zip(NUMBERS, [1, 1, 8, 1, 1, 1, 8, 8, 1, 8])
+    yield from zip(NUMBERS, [1, 1, 8, 1, 1, 1, 8, 8, 1, 8, 1, 8, 1])
     at = 0
     for name, width in record_fields():
         yield f"record, byte {at}, {name}", width
         at += width
     yield from ((f"mark word {word}", 8) for word in range(MOST_WORDS))
     yield from ((f"lent byte {byte}", 1) for byte in range(MOST_DATA))
-    yield from ((f"byte {byte} of the state area", 1) for byte in range(MOST_AREA))
+    yield from ((f"byte {byte} of what is shown of the area", 1) for byte in range(MOST_AREA))
 
 
 ANSWER_BYTES = sum(width for _, width in answer_fields())
 AREA_AT = ANSWER_BYTES - MOST_AREA
 DATA_AT = AREA_AT - MOST_DATA
 MARKS_AT = DATA_AT - 8 * MOST_WORDS
-SEQUENCE_AT = MARKS_AT - SEQUENCE_BYTES
 RECORD_AT = PACKED_NUMBERS.size
 
 
 def numbers_of(answer):
-    """An answer's first numbers, in the order of NUMBERS."""
-    return PACKED_NUMBERS.unpack_from(answer)
+    """An answer's first numbers, by their names."""
+    return dict(zip(NUMBERS, PACKED_NUMBERS.unpack_from(answer)))
+
+
+def numbers(**named):
+    """All first numbers of a done call, in their order: those that are named, and zeros."""
+    return [named.get(name.replace(" ", "_"), 0) for name in NUMBERS]
 
 
 def differences(one, other):
@@ -231,20 +292,23 @@ def differences(one, other):
 def asked_for(case, answer):
     """The answer that the documents ask for; of a random case as far as its number alone tells. Of a refused call all is
     known: the number, the row, zeros, and what was given (of a fresh the closed device). So it is of a batch by hand whose
-    numbers are all known: what was given, save the mark words named; and of a done part, save its own bytes of the area and
-    the sequence. Of another done call the first numbers are known, the record and all marks, but for the bits that a write,
-    a batch or a report may change, at times some mark words, runs and bases, and the rest is taken to be as answered."""
-    known = case.known or as_answered(case.call, *answer[:2])
+    numbers are all known: what was given, save the mark words named; of a done part, save its own bytes of the area and the
+    sequence; and of a done queue call, save its queue, an entry's place of the area and the front of its buffer. Of another
+    done call the first numbers are known, the record and all marks, but for the bits that a write, a batch or a report may
+    change, at times some mark words, runs and bases, and the rest is taken to be as answered."""
+    known = case.known or as_answered(case, *answer[:2])
     if known[0] or case.call == "batch" and len(known) == len(NUMBERS):
-        return given(case, known, case.record.sequence)
+        return given(case, known)
     if case.call == "part":
-        return given(case, known if len(known) == len(NUMBERS) else finished(case), sequence_left(case))
+        return given(case, known if len(known) == len(NUMBERS) else finished(case), sequence=sequence_left(case), area=assembled(case))
+    if case.call in QUEUE_CALLS:
+        return queue_answer(case, known)
     asked = bytearray(answer)
     record, words, count = left(case, struct.unpack_from(f"<{pool.WORDS}Q", answer, MARKS_AT))
-    answered = {**dict(zip(NUMBERS, numbers_of(answer))), "count": count}
+    answered = {**numbers_of(answer), "count": count}
     own = OWN_NUMBERS.get(case.call, ())
-    numbers = [answered[name] if name in own else 0 for name in NUMBERS]
-    PACKED_NUMBERS.pack_into(asked, 0, *known, *numbers[len(known):])
+    counted = [answered[name] if name in own else 0 for name in NUMBERS]
+    PACKED_NUMBERS.pack_into(asked, 0, *known, *counted[len(known):])
     asked[RECORD_AT:MARKS_AT] = record.packed()
     asked[MARKS_AT:DATA_AT] = struct.pack(f"<{pool.WORDS}Q", *words).ljust(8 * MOST_WORDS, b"\0")
     if case.call != "receive":
@@ -255,19 +319,19 @@ def asked_for(case, answer):
     for row, (address, length) in enumerate(case.known_runs):
         struct.pack_into("<QII", asked, DATA_AT + 16 + 16 * row, address, length, 0)
     for place, base in enumerate(case.known_bases):
-        struct.pack_into("<H", asked, RECORD_AT + 35 + 198 * place, base)
+        struct.pack_into("<H", asked, RECORD_AT + 35 + 212 * place, base)
     return bytes(asked)
 
 
 # ---- What a done call leaves
 
 def left(case, answered):
-    """The record, the mark words and the count that a done call leaves, other than a part. Of the marks only a write, a
+    """The record, the mark words and the count that a done call leaves, other than a part and a queue's. Of the marks only a write, a
     batch and a report have some that are taken from the answer: bits of their controllers' shares, of which notes set some
     that were clear, as many as they count, and a report clears some that were set."""
     if case.call == "fresh":
         return fresh(case.record), [0] * pool.WORDS, 0
-    record, count = copy.deepcopy(case.record), 0
+    record, count = case.record.copied(), 0
     record.sequence = sequence_left(case)
     one = called(record, case.id)
     marks, answered = pool.as_number(case.lent_words()), pool.as_number(answered)
@@ -277,7 +341,7 @@ def left(case, answered):
         marks = pool.packed(record, one, marks)
     if case.call == "stop":
         marks &= ~pool.mask(one)
-        one.__init__()
+        one.__init__(queue=one.queue)
     if case.call == "suspend":
         one.suspended |= case.type
     if case.call == "resume":
@@ -317,18 +381,17 @@ def data_listed(data):
     return data[3], list(struct.iter_unpack("<QI", data[8:8 + 12 * min(count, 16)]))
 
 
-def given(case, known, sequence):
-    """These numbers, then zeros, and all that was given, save the mark words that are known to change, this sequence, and a
-    done part's own bytes of the area."""
-    numbers = PACKED_NUMBERS.pack(*known, *[0] * (len(NUMBERS) - len(known)))
-    record = CLOSED if case.call == "fresh" else case.record.packed()[:-SEQUENCE_BYTES] + packed_sequence(sequence)
+def given(case, known, record=None, data=None, area=None, **changes):
+    """These numbers, then zeros, and all that was given: but for another record, lent bytes or area where these are said, a
+    sequence, and the mark words that are known to change."""
+    record = copy.copy(record or case.record)
+    record.sequence = changes.get("sequence", record.sequence)
+    counted = PACKED_NUMBERS.pack(*known, *[0] * (len(NUMBERS) - len(known)))
     words = [case.known_marks.get(word, mark) for word, mark in enumerate(case.lent_words())]
     marks = struct.pack(f"<{case.words}Q", *words).ljust(8 * MOST_WORDS, b"\0")
-    area = case.lent_area()
-    if case.call == "part" and not known[0]:
-        begin, end = borders(case)
-        area = area[:begin] + case.data + area[end:]
-    return numbers + record + marks + in_room(case.data, MOST_DATA) + in_room(area, MOST_AREA)
+    lent = in_room(case.data if data is None else data, MOST_DATA)
+    area = case.shown_of(case.lent_area() if area is None else area)
+    return counted + (CLOSED if case.call == "fresh" else record.packed()) + marks + lent + area
 
 
 def borders(case):
@@ -339,7 +402,13 @@ def borders(case):
 
 def finished(case):
     """The numbers of a done part: a last or an only one has assembled all bytes up to its end."""
-    return [0] * (len(NUMBERS) - 1) + [borders(case)[1] if case.indicator in (2, 3) else 0]
+    return numbers(whole=borders(case)[1] if case.indicator in (2, 3) else 0)
+
+
+def assembled(case):
+    """The state area after a done part: its own bytes are in their place."""
+    begin, end = borders(case)
+    return case.lent_area()[:begin] + case.data + case.lent_area()[end:]
 
 
 def sequence_left(case):
@@ -352,6 +421,54 @@ def sequence_left(case):
     return None if case.call == "fresh" or dropped else case.record.sequence
 
 
-def as_answered(call, refusal, row):
-    """The number, and the row where there may be one."""
-    return refusal, row if call == "start" and refusal in ROW_RULES else 0
+def as_answered(case, refusal, row):
+    """The number of a random case's answer, and the row where there may be one. The number is known where the record or the
+    words are known to be unsound, and of a queue call wherever it isn't 1 for another reason."""
+    if case.sound is False and case.call != "fresh":
+        return 1, 0
+    if case.call in QUEUE_CALLS and (case.sound or refusal != 1):
+        return refusal_of_queue_call(case), 0
+    return refusal, row if case.call == "start" and refusal in ROW_RULES else 0
+
+
+# ---- Queue calls
+
+def refusal_of_queue_call(case):
+    """What a queue call is answered with on a sound record, with 256 words."""
+    known = case.id in case.record.identifiers[:min(case.record.count, 8)]
+    return kept_refusal(case.call, called(case.record, case.id).queue, case.lent_area(), case.data) if known else 2
+
+
+def queue_answer(case, known):
+    """The answer to a done queue call: by hand where it is said what is left, else by the model in queues.py."""
+    said = case.known_queue != NOT_SAID
+    counted, queue, area, data = (known, *left_by_hand(case)) if said else left_by_model(case)
+    record = case.record.copied()
+    called(record, case.id).queue = queue
+    return given(case, counted, record=record, area=area, data=data)
+
+
+def left_by_hand(case):
+    """The queue, the area and the lent bytes after a done queue call, as they are said."""
+    area = bytearray(case.lent_area())
+    for place, entry in case.known_stored.items():
+        area[ENTRY * place:ENTRY * (place + 1)] = entry
+    return case.known_queue, bytes(area), case.known_taken + case.data[len(case.known_taken):]
+
+
+def left_by_model(case):
+    """The numbers, the queue, the area and the lent bytes after a done queue call."""
+    queue, area = called(case.record, case.id).queue, case.lent_area()
+    if case.call == "make":
+        return numbers(), Kept(len(area) // ENTRY), area, case.data
+    if case.call == "post":
+        queue, area = after_post(queue, area, case.data)
+        return numbers(stopped=queue.stopped), queue, area, case.data
+    queue, buffer, count, closing = after_take(queue, area, case.asked, case.data)
+    return numbers(taken=count, closing=closing), queue, area, buffer
+
+
+def passes_two_to_32(case, answered):
+    """Whether a done post or take makes a total pass 2^32."""
+    queue = called(case.record, case.id).queue
+    return case.call == "post" and queue.posted == WORD - 1 or case.call == "take" and queue.taken + answered["taken"] >= WORD

@@ -6,9 +6,11 @@ import pool
 from bad_rows import with_bad_rows
 from batches import MOST_TAKEN, bad_note
 from overlap import beside_another, different_units
-from parts import FIRST, HEADER, LAST, MIDDLE, MOST_PART, MOST_STATE, ONLY, Part, header, spoiled
+from parts import FIRST, HEADER, LAST, MIDDLE, MOST_PART, MOST_STATE, ONLY, WORD, Part, header, spoiled
+from queues import ENTRY, MOST_PLACES, WRONG_ENTRIES, WRONG_SIZES, Kept, any_entry
 from record_by_hand import WRONG_AREAS, WRONG_WORDS
-from record_case import ALL_ONES, CALLS, FRONT_BYTES, MEMORY, MOST_DATA, MOST_ROWS, Case, Record, batch, part, structure
+from record_case import ALL_ONES, CALLS, FRONT_BYTES, MEMORY, MOST_DATA, MOST_ROWS, Case, Record
+from record_case import batch, make, part, post, structure, take
 
 
 def cases(seed, count):
@@ -23,14 +25,15 @@ class Maker:
     def __init__(self, seed):
         self.random = random.Random(seed)
         self.place = 0  # the called controller's
-        self.share_damaged = False
+        self.share_damaged = self.queue_damaged = False
+        self.sound = True  # None where that isn't known
 
     def chance(self, share):
         return self.random.random() < share
 
     def case(self):
-        # A start has the most ways to be refused, and a part nearly as many.
-        call = self.random.choice(CALLS + ["start"] * 3 + ["part"])
+        # A start has the most ways to be refused, and a part nearly as many; posts and takes differ in what they find.
+        call = self.random.choice(CALLS + ["start"] * 3 + ["part", "post", "take"])
         self.record = self.sound_record()
         if self.chance(0.5):
             # A fresh looks at the settings alone.
@@ -39,7 +42,8 @@ class Maker:
         fields = {"id": self.called, "mark": self.mark(), "words": self.words()}
         fields.update(getattr(self, call + "_fields", dict)())
         case = Case(self.record, call, **fields)
-        case.share_damaged = self.share_damaged
+        case.share_damaged, case.queue_damaged = self.share_damaged, self.queue_damaged
+        case.sound = False if case.words != pool.WORDS else self.sound
         return case
 
     # Sound records
@@ -66,6 +70,8 @@ class Maker:
                 granularity = pick.randint(record.least, record.greatest)
                 one.track(granularity, *self.ranges(granularity))
             one.suspended = int(self.chance(0.25))
+            if self.chance(0.6):
+                one.queue = self.queue() if place < record.count or self.chance(0.3) else self.any_queue()
         self.lay_shares()
         # Often little or nothing of the limit is left.
         record.limit = min(128, self.taken() + pick.choice([0, 0, 1, 2, 16, 128, 128, 128]))
@@ -73,6 +79,25 @@ class Maker:
         if suspended and self.chance(0.6):
             record.sequence = (record.identifiers[pick.choice(suspended)], self.end())
         return record
+
+    def queue(self):
+        """A sound one, small mostly: at times nearly full, full, or stopped and on its way to empty. Its totals are often about to
+        pass 2^32, or have just done so. Rarely it has a size that no area has."""
+        pick = self.random
+        size = pick.choice([2, 2, 3, 3, 4, 5, 6, 7, 8, 16, 31, 33, 100, 132, 1023, 1024])
+        if self.chance(0.04):
+            size = pick.choice([1, 1025, 2048, 2050, 65535])
+        fill = pick.choice([0, 0, 1, 2, size - 2, size - 1, size - 1, size - 1, size, pick.randrange(size)]) % (size + 1)
+        taken = pick.choice([0, 1, WORD - 1, WORD - 2, WORD - fill, WORD - fill - 1, 2**31, pick.getrandbits(32)]) % WORD
+        place = pick.choice([0, size - 1, size - 2, size // 2, pick.randrange(size)]) % size
+        stopped = 1 if fill == size else int(self.chance(0.25))
+        return Kept(size, (taken + fill) % WORD, taken, place, stopped)
+
+    def any_queue(self):
+        """One that nothing is asked of."""
+        pick = self.random
+        totals = [self.number(32) % WORD for _ in range(2)]
+        return Kept(pick.choice([0, 1, 2, 65535]), *totals, self.number(16) % 2**16, pick.choice([0, 1]))
 
     def end(self):
         """Where a sequence may have ended: within the header, about its end, about the area's end, or anywhere."""
@@ -173,9 +198,10 @@ class Maker:
         used, pick = self.record.controllers[:self.record.count], self.random
         tracked_ones = [one for one in used if one.tracking]
         self.one = pick.choice(tracked_ones or used)
-        damages = [self.damage_settings, self.damage_tracking, self.damage_sequence]
+        damages = [self.damage_settings, self.damage_tracking, self.damage_sequence, self.damage_queue]
         if tracked_ones:
-            damages += [self.damage_tracking, self.damage_limit] + [self.damage_range] * 4 + [self.damage_share] * 3
+            damages += [self.damage_tracking, self.damage_limit, self.damage_queue] + [self.damage_range] * 4 + [self.damage_share] * 3
+        self.sound = None
         pick.choice(damages)()
 
     def damage_limit(self):
@@ -236,6 +262,25 @@ class Maker:
             (owner, end),
         ])
 
+    def damage_queue(self):
+        """A queue with one number at its border, just past it or anywhere; whether it is sound then is known."""
+        pick, one = self.random, self.random.choice(pool.used(self.record))
+        self.queue_damaged = True
+        queue = one.queue or self.queue()
+        size, posted, taken, place, stopped = queue
+        fills = [size, size + 1, size - 1, size + 256, size + 2**16, WORD - 1, 2**31]
+        one.queue = Kept(*pick.choice([
+            *[(size, (taken + fill) % WORD, taken, place, stopped) for fill in fills],
+            (size, (taken + size) % WORD, taken, place, 0),
+            (size, (taken + size) % WORD, taken, place, 0),
+            (size, posted, (posted + 1) % WORD, place, stopped),
+            (size, taken, posted, place, stopped),
+            *[(size, posted, taken, other % 2**16, stopped) for other in (size, size, size + 1, size - 1, place + 256, 65535)],
+            *[(other % 2**16, posted, taken, place, stopped) for other in (0, place, place + 1, queue.fill(), queue.fill() + 1)],
+            (size, posted, taken, place, 1 - stopped),
+        ]))
+        self.sound = all(other.queue.is_sound() for other in pool.used(self.record) if other.queue)
+
     def damage_range(self):
         pick, one = self.random, self.one
         granularity, count = one.tracking
@@ -271,6 +316,8 @@ class Maker:
             "receive": lambda one: one.tracking,
             "resume": lambda one: one.suspended,
             "part": lambda one: one.suspended,
+            "post": lambda one: one.queue and not one.queue.stopped,
+            "take": lambda one: one.queue and one.queue.fill(),
         }.get(call)
         liked = self.used_places(wanted) if wanted else []
         self.place = self.random.choice(liked if liked and self.chance(0.9) else self.used_places())
@@ -424,3 +471,39 @@ class Maker:
         if self.chance(0.1):
             head[pick.choice([0, 1, 2, 15, 16, 18, 31, 32, 40, 47])] ^= 1 << pick.randrange(8)
         return bytes(head) + pick.randbytes(max(0, length - HEADER))
+
+    def make_fields(self):
+        pick = self.random
+        places = pick.choice([2, 2, 3, 4, 5, 100, 132, MOST_PLACES - 1, MOST_PLACES, pick.randint(2, MOST_PLACES)])
+        size = pick.choice([*WRONG_SIZES, pick.randrange(32_801)]) if self.chance(0.3) else ENTRY * places
+        return {**make(size, id=self.called), **self.area_of(size, 0)}
+
+    def post_fields(self):
+        """An entry for the called controller's queue, as it should be mostly: at times of a wrong length, or with another area."""
+        pick, queue, size = self.random, self.record.controllers[self.place].queue, self.size_lent()
+        entry = pick.randbytes(pick.choice([*WRONG_ENTRIES, MOST_DATA])) if self.chance(0.08) else any_entry(pick)
+        return {**post(entry, id=self.called, size=size), **self.area_of(size, queue.place + queue.fill() if queue else 0)}
+
+    def take_fields(self):
+        """Fewer than are queued, all or more; into a buffer that holds fewer, all or more."""
+        pick, queue, size = self.random, self.record.controllers[self.place].queue, self.size_lent()
+        fill = queue.fill() if queue else 0
+        asked = pick.choice([0, 1, 1, 2, max(0, fill - 1), fill, fill, fill + 1, 2**16, WORD - 1, WORD - 1]) % WORD
+        room = ENTRY * pick.choice([1, 2, 3, min(fill, 40), min(fill, 40), min(fill, 40) + 1, 32, 32]) + pick.choice([-1, 0, 0, 0, 1, 31])
+        buffer = pick.randbytes(pick.choice([max(0, min(room, MOST_DATA))] * 8 + [0, 31, MOST_DATA]))
+        return {**take(asked, buffer, id=self.called, size=size), **self.area_of(size, queue.place if queue else 0)}
+
+    def size_lent(self):
+        """The bytes of the called controller's queue, mostly; where there is none, any."""
+        pick, queue = self.random, self.record.controllers[self.place].queue
+        if queue is None or queue.size > MOST_PLACES or self.chance(0.06):
+            return pick.choice([*WRONG_SIZES, *[64, 96, 128, ENTRY * MOST_PLACES] * 4])
+        return ENTRY * queue.size
+
+    def area_of(self, size, place):
+        """What a queue's area of so many bytes holds, and the byte from which it is shown: about this place, counted round, or
+        anywhere."""
+        pick = self.random
+        about = ENTRY * place % max(1, size) - pick.choice([0, 31, 32, 2000, 4168, 4199, 4200])
+        shown = max(0, pick.choice([about, about, about, 0, 0, size, pick.randrange(size + 1)]))
+        return {"fill": pick.randrange(256), "front": pick.choice([pick.randbytes(FRONT_BYTES), b"\xff" * FRONT_BYTES]), "shown": shown}

@@ -1,9 +1,10 @@
-"""Shelf listings from a seed: the sessions of seeded.py with batches and bursts (document 02, W4) and with parts of states
-(W6) among their lines.
+"""Shelf listings from a seed: the sessions of seeded.py with batches and bursts (document 02, W4), with parts of states (W6)
+and with queues (W8) among their lines.
 
 A batch is aimed as single writes are, at the edges of ranges and units, by one controller or a few; often one of its notes
 will be refused, in a random place. Parts come in sequences, mostly sensible ones of small states, with other lines, spoiled
-parts and other controllers' between them. Listing K of seed N is always the same. A later request adds its lines to `kinds`.
+parts and other controllers' between them. Queues are small, mostly, so that they go round and close; a few posts or a few
+takes come at a time. Listing K of seed N is always the same. A later request adds its lines to `kinds`.
 """
 
 import random
@@ -11,13 +12,17 @@ import random
 import damaged
 from batches import MOST_BURST, MOST_BYTES, MOST_LISTED, MOST_TAKEN, bad_note, batch_line, burst_line, line_of_bytes
 from case import Case
-from parts import any_state, next_part, part_line, spoiled
+from parts import WORD, any_state, next_part, part_line, spoiled
+from queues import CLOSING, ENTRY, MOST_BUFFER, MOST_PLACES, MOST_SIZE, WRONG_ENTRIES, WRONG_SIZES
+from queues import Queue, any_entry, make_line, places_of, post_line, take_line
 from seeded import Maker, lines_of
 
 FEW = [0, 1, 1, 2, 2, 3, 3, 4, 5, 8, 8, 13, 20, 40]
 ABOUT_THE_MOST = [MOST_TAKEN - 1, MOST_TAKEN, MOST_TAKEN, MOST_TAKEN + 1, MOST_TAKEN + 1, MOST_LISTED, MOST_LISTED + 1]
-WORDS = [b"batch", b"burst", b"part", b"write", b"batches"]
-NUMBERS = [b"%d" % (most + more) for most in (MOST_TAKEN, MOST_LISTED, MOST_BURST) for more in (-1, 0, 1)] + [b"-", b"00000000", b"0000000A"]
+WORDS = [b"batch", b"burst", b"part", b"queue", b"post", b"take", b"write", b"batches"]
+MOSTS = (MOST_TAKEN, MOST_LISTED, MOST_BURST, ENTRY, 2 * ENTRY, MOST_PLACES * ENTRY, MOST_SIZE, MOST_BUFFER)
+NUMBERS = [b"%d" % (most + more) for most in MOSTS for more in (-1, 0, 1)]
+NUMBERS += [b"-", b"00000000", b"0000000A", CLOSING.hex().encode(), CLOSING.hex().upper().encode(), CLOSING.hex().encode()[2:]]
 
 
 def cases(seed, count):
@@ -55,10 +60,19 @@ class ShelfMaker(Maker):
     def __init__(self, dice):
         super().__init__(dice)
         self.owner, self.state, self.sent = None, b"", 0  # guess: whose state is on its way, and how many bytes were sent
+        self.queues = {}                                  # guess: identifier -> queue
+        self.logging = dice.choice([4, 20, 20, 60])       # how often lines of queues come
+
+    def dev(self):
+        self.queues = {}
+        return super().dev()
 
     def kinds(self):
         batches = [(self.batch, 30 if self.tracked else 3), (self.burst, 8 if self.tracked else 2)]
-        return super().kinds() + batches + [(self.parts, 30 if self.owner in self.suspended else 10 if self.tracked else 16)]
+        parts = [(self.parts, 30 if self.owner in self.suspended else 10 if self.tracked else 16)]
+        missing = len(self.identifiers) - len(self.queues)
+        queues = [(self.make, max(1, self.logging // 3 if missing else 0)), (self.posts, self.logging), (self.takes, self.logging)]
+        return super().kinds() + batches + parts + (queues if self.queues else queues[:1] + [(self.posts, 1), (self.takes, 1)])
 
     # ---- batch
 
@@ -135,3 +149,49 @@ class ShelfMaker(Maker):
         if good.indicator > 1:  # a last or an only one: nothing is on its way
             self.owner = None
         return good
+
+    # ---- queue, post, take
+
+    def make(self):
+        """A queue of few places, mostly, for one that has none or whose own is stopped; rarely of a wrong size."""
+        dice = self.dice
+        done = {name for name, queue in self.queues.items() if not queue.stopped}
+        name = self.identifier(set(self.identifiers) - done if dice.random() < 0.9 else self.identifiers)
+        size = dice.choice(WRONG_SIZES) if dice.random() < 0.06 else ENTRY * dice.choice([2, 2, 3, 3, 4, 5, 6, 8, 16, 33, 1023, 1024])
+        if name in self.identifiers and places_of(size):
+            self.queues[name] = Queue(places_of(size))
+        return make_line(name, size).encode()
+
+    def posts(self):
+        """A few entries of one controller; rarely of a wrong length."""
+        name, size = self.logged(lambda queue: not queue.stopped)
+        queue, lines = self.queues.get(name), []
+        for _ in range(self.dice.choice([1, 1, 2, 3, 4, 6])):
+            good = self.dice.random() < 0.95
+            entry = any_entry(self.dice) if good else self.dice.randbytes(self.dice.choice(WRONG_ENTRIES))
+            if good and queue and not queue.stopped and ENTRY * queue.places == size:
+                queue.post(entry)
+            lines.append(post_line(name, size, entry).encode())
+        return lines
+
+    def takes(self):
+        """A take or a few of one controller: for less than is queued, for all, or for more; with room for some, or for none."""
+        dice, (name, size) = self.dice, self.logged(lambda queue: queue.queued)
+        queue, lines = self.queues.get(name), []
+        for _ in range(dice.choice([1, 1, 1, 2, 3])):
+            queued = len(queue.queued) if queue else 0
+            asked = dice.choice([0, 1, 1, 2, 3, max(0, queued - 1), queued, queued + 1, 128, WORD - 1])
+            room = dice.choice([1, 1, 2, 3, queued, queued, queued + 1, 128])
+            buffer = max(0, min(MOST_BUFFER, ENTRY * room + dice.choice([-1, 0, 0, 0, 1, 31])))
+            if queue and ENTRY * queue.places == size:
+                queue.take(asked, buffer)
+            lines.append(take_line(name, size, asked, buffer).encode())
+        return lines
+
+    def logged(self, wanted):
+        """A controller whose queue is wanted, mostly, and its size; rarely another size."""
+        dice = self.dice
+        liked = {name for name, queue in self.queues.items() if wanted(queue)}
+        name = self.identifier(liked if liked and dice.random() < 0.85 else set(self.queues))
+        size = ENTRY * self.queues[name].places if name in self.queues else dice.choice([64, 96])
+        return name, dice.choice([*WRONG_SIZES, 64, 96, 128, size + ENTRY, 32_768]) if dice.random() < 0.03 else size

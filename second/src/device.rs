@@ -7,6 +7,7 @@
 
 use std::collections::{BTreeMap, BTreeSet};
 
+use crate::queue::{made, posted, taken};
 use crate::report::{report_bytes, room, Descriptor, Report, LEAST_BUFFER};
 use crate::rules::*;
 use crate::state::{part_refusal, Part};
@@ -34,6 +35,13 @@ pub struct Batch {
     pub done: usize,
     pub count: usize,
     pub refusal: Option<Refusal>,
+}
+
+/// What a done take answers (W8): how many entries it took, and "whether its last entry is the closing one".
+#[derive(Clone, Copy, Debug, PartialEq, Eq)]
+pub struct Take {
+    pub entries: usize,
+    pub closing: bool,
 }
 
 /// The device record, and the pending units of each controller by its identifier. The default is the closed device,
@@ -287,6 +295,37 @@ impl Device {
         }
     }
 
+    /// Make a queue (W8): 1, 2, 28. It is "made anew, empty, with totals 0", whatever queue there was. The lent area is that
+    /// queue's from then on, and none of its bytes changes.
+    pub fn make_queue(&mut self, id: u64, area: &[u8]) -> Result<(), Refusal> {
+        let controller = self.controller_mut(id)?;
+        controller.queue = Some(made(area)?);
+        Ok(())
+    }
+
+    /// Post (W8): 1, 2, 28, 29, 8, 30. Answers whether it has stopped the queue: the entry isn't stored then, and the
+    /// closing one is.
+    pub fn post(&mut self, id: u64, area: &mut [u8], entry: &[u8]) -> Result<bool, Refusal> {
+        let controller = self.controller_mut(id)?;
+        let after = posted(controller.queue, area, entry)?;
+        controller.queue = Some(after.queue);
+        for (place, byte) in area.iter_mut().zip(&after.area) {
+            *place = *byte;
+        }
+        Ok(after.queue.stopped)
+    }
+
+    /// Take (W8): 1, 2, 28, 29. The entries stand in the buffer one behind another. "The rest of its buffer is unchanged."
+    pub fn take(&mut self, id: u64, area: &[u8], asked: u64, buffer: &mut [u8]) -> Result<Take, Refusal> {
+        let controller = self.controller_mut(id)?;
+        let after = taken(controller.queue, area, asked, buffer.len())?;
+        controller.queue = Some(after.queue);
+        for (place, byte) in buffer.iter_mut().zip(&after.bytes()) {
+            *place = *byte;
+        }
+        Ok(Take { entries: after.entries.len(), closing: after.closing() })
+    }
+
     /// With what each call begins: 1, "device record is unsound".
     fn asked_sound(&self) -> Result<(), Refusal> {
         if sound(&self.record) {
@@ -386,6 +425,7 @@ fn runs(pending: &BTreeSet<Unit>, unit: u128) -> Vec<Run> {
 mod tests {
     use super::*;
     use crate::structure::structure_bytes;
+    use crate::tests::Random;
 
     /// Manager 1, granularities 0 to 8, rule off, limit 16, controllers 5 and 6.
     fn device() -> Device {
@@ -453,6 +493,9 @@ mod tests {
         assert_eq!(device.suspend(0, 9), Err(1));
         assert_eq!(device.resume(0), Err(1));
         assert_eq!(device.set_state(&mut [0; 4096], &part(3, 0, &[0; 48])), Err(1));
+        assert_eq!(device.make_queue(0, &[0; 64]), Err(1));
+        assert_eq!(device.post(0, &mut [0; 64], &[0; 32]), Err(1));
+        assert_eq!(device.take(0, &[0; 64], 1, &mut [0; 32]), Err(1));
         assert_eq!(device, Device::default());
     }
 
@@ -473,6 +516,9 @@ mod tests {
             assert_eq!(device.suspend(*id, 2), Err(1));
             assert_eq!(device.resume(*id), Err(1));
             assert_eq!(device.set_state(&mut [0; 4096], &Part { id: *id, ..part(4, 2, &[0; 3]) }), Err(1));
+            assert_eq!(device.make_queue(*id, &[]), Err(1));
+            assert_eq!(device.post(*id, &mut [], &[]), Err(1));
+            assert_eq!(device.take(*id, &[], 0, &mut []), Err(1));
         }
         assert_eq!(device, before);
     }
@@ -932,6 +978,334 @@ mod tests {
             assert_eq!(device.batch(&[]), Err(1));
             assert_eq!(device, before);
         }
+    }
+
+    /// A lent area, and the device above with a queue of so many places of controller 5 in it.
+    fn queued(places: usize) -> (Device, Vec<u8>) {
+        let mut device = device();
+        let area = vec![0xEE; 32 * places];
+        assert_eq!(device.make_queue(5, &area), Ok(()));
+        assert_eq!(area, vec![0xEE; 32 * places]);
+        (device, area)
+    }
+
+    fn queue_of_5(device: &Device) -> Queue {
+        device.record.controllers[0].queue.unwrap()
+    }
+
+    /// Sets the queue of controller 5, which isn't stopped.
+    fn set_queue(device: &mut Device, size: u64, posted: u64, taken: u64, place: u64) {
+        device.record.controllers[0].queue = Some(Queue { size, posted, taken, place, stopped: false });
+    }
+
+    /// This post is refused so, and changes neither device nor area.
+    fn assert_post_refused(device: &Device, id: u64, area: &[u8], entry: &[u8], refusal: Refusal) {
+        let mut after = device.clone();
+        let mut area_after = area.to_vec();
+        assert_eq!(after.post(id, &mut area_after, entry), Err(refusal));
+        assert_eq!((&after, area_after.as_slice()), (device, area));
+    }
+
+    /// This take is refused so, and changes neither device nor buffer.
+    fn assert_take_refused(device: &Device, id: u64, area: &[u8], asked: u64, bytes: usize, refusal: Refusal) {
+        let mut after = device.clone();
+        let mut buffer = vec![170; bytes];
+        assert_eq!(after.take(id, area, asked, &mut buffer), Err(refusal));
+        assert_eq!((&after, buffer), (device, vec![170; bytes]));
+    }
+
+    /// A take into so many stale bytes yields these entries, of one byte each, and leaves the rest of the buffer.
+    fn assert_taken(device: &mut Device, area: &[u8], asked: u64, bytes: usize, expected: &[u8], closing: bool) {
+        let mut buffer = vec![170; bytes];
+        let before = area.to_vec();
+        let answer = device.take(5, area, asked, &mut buffer);
+        assert_eq!(answer, Ok(Take { entries: expected.len(), closing }));
+        let mut whole: Vec<u8> = expected.iter().flat_map(|byte| vec![*byte; 32]).collect();
+        whole.resize(bytes, 170);
+        assert_eq!((buffer, area), (whole, before.as_slice()));
+    }
+
+    #[test]
+    fn worked_queue_of_two_places() {
+        let (mut device, mut area) = queued(2);
+        let (a, b, c) = ([1; 32], [2; 32], [3; 32]);
+        assert_eq!(device.post(5, &mut area, &a), Ok(false));
+        assert_eq!(area, [[1; 32], [0xEE; 32]].concat());
+        assert_eq!(device.post(5, &mut area, &b), Ok(true));
+        assert_eq!(area, [[1; 32], [255; 32]].concat());
+        assert_post_refused(&device, 5, &area, &c, 30);
+        assert_post_refused(&device, 5, &area, &[3; 31], 8);
+        assert_taken(&mut device, &area, 10, 100, &[1, 255], true);
+        assert_taken(&mut device, &area, 10, 100, &[], false);
+        assert_post_refused(&device, 5, &area, &c, 30);
+        assert_eq!(queue_of_5(&device), Queue { size: 2, posted: 2, taken: 2, place: 0, stopped: true });
+        assert_eq!(device.make_queue(5, &area), Ok(()));
+        assert_eq!(queue_of_5(&device), Queue { size: 2, ..Queue::default() });
+        assert_eq!(device.post(5, &mut area, &c), Ok(false));
+        assert_eq!(area, [[3; 32], [255; 32]].concat());
+    }
+
+    #[test]
+    fn worked_posted_entry_of_ffh() {
+        let (mut device, mut area) = queued(3);
+        assert_eq!(device.post(5, &mut area, &[255; 32]), Ok(false));
+        assert_taken(&mut device, &area, 1, 32, &[255], false);
+        // The last one stored before the closing one is of FFh, and the one that isn't stored.
+        assert_eq!(device.post(5, &mut area, &[1; 32]), Ok(false));
+        assert_eq!(device.post(5, &mut area, &[255; 32]), Ok(false));
+        assert_eq!(device.post(5, &mut area, &[255; 32]), Ok(true));
+        assert_taken(&mut device, &area, 2, 999, &[1, 255], false);
+        assert_taken(&mut device, &area, 2, 999, &[255], true);
+    }
+
+    #[test]
+    fn worked_queue_of_four_places() {
+        let (mut device, mut area) = queued(4);
+        for byte in 1..4 {
+            assert_eq!(device.post(5, &mut area, &[byte; 32]), Ok(false));
+        }
+        assert_eq!(device.post(5, &mut area, &[4; 32]), Ok(true));
+        assert_taken(&mut device, &area, 3, 128, &[1, 2, 3], false);
+        assert_taken(&mut device, &area, 1, 128, &[255], true);
+    }
+
+    #[test]
+    fn worked_buffers() {
+        let (mut device, mut area) = queued(4);
+        for byte in 1..4 {
+            assert_eq!(device.post(5, &mut area, &[byte; 32]), Ok(false));
+        }
+        let before = device.clone();
+        assert_taken(&mut device, &area, 9, 31, &[], false);
+        assert_taken(&mut device, &area, 9, 0, &[], false);
+        assert_taken(&mut device, &area, 0, 999, &[], false);
+        assert_eq!(device, before);
+        assert_taken(&mut device, &area, 9, 63, &[1], false);
+        assert_taken(&mut device, &area, 9, 64, &[2, 3], false);
+        assert_taken(&mut device, &area, 9, 64, &[], false);
+    }
+
+    #[test]
+    fn worked_totals_past_2_32() {
+        // Fill 3 of 4, from place 1 on: the post goes to place 0 and closes.
+        let (mut device, mut area) = queued(4);
+        set_queue(&mut device, 4, 2, 4294967295, 1);
+        assert_eq!(device.post(5, &mut area, &[1; 32]), Ok(true));
+        assert_eq!(area, [[255; 32], [0xEE; 32], [0xEE; 32], [0xEE; 32]].concat());
+        assert_eq!(queue_of_5(&device), Queue { size: 4, posted: 3, taken: 4294967295, place: 1, stopped: true });
+        // Three places, which 2^32 isn't a multiple of.
+        let (mut device, mut area) = queued(3);
+        set_queue(&mut device, 3, 4294967295, 4294967295, 0);
+        assert_eq!(device.post(5, &mut area, &[1; 32]), Ok(false));
+        assert_eq!(area, [[1; 32], [0xEE; 32], [0xEE; 32]].concat());
+        assert_eq!(queue_of_5(&device), Queue { size: 3, posted: 0, taken: 4294967295, place: 0, stopped: false });
+        assert_taken(&mut device, &area, 1, 32, &[1], false);
+        assert_eq!(queue_of_5(&device), Queue { size: 3, posted: 0, taken: 0, place: 1, stopped: false });
+        assert_eq!(device.post(5, &mut area, &[2; 32]), Ok(false));
+        assert_eq!(area, [[1; 32], [2; 32], [0xEE; 32]].concat());
+    }
+
+    #[test]
+    fn worked_areas() {
+        for bytes in [0, 1, 32, 63, 65, 95, 97, 32767, 32769, 32800].iter() {
+            let mut device = device();
+            assert_eq!(device.make_queue(5, &vec![0; *bytes]), Err(28));
+            assert_eq!(device, self::device());
+            // Never made, and made with 96.
+            for device in [device, queued(3).0].iter() {
+                assert_post_refused(device, 5, &vec![7; *bytes], &[1; 32], 28);
+                assert_take_refused(device, 5, &vec![7; *bytes], 1, 32, 28);
+            }
+        }
+        for bytes in [64, 96, 32736, 32768].iter() {
+            let mut device = device();
+            assert_post_refused(&device, 5, &vec![7; *bytes], &[1; 32], 29);
+            assert_take_refused(&device, 5, &vec![7; *bytes], 1, 32, 29);
+            assert_eq!(device.make_queue(5, &vec![0; *bytes]), Ok(()));
+            assert_eq!(queue_of_5(&device), Queue { size: *bytes as u64 / 32, ..Queue::default() });
+        }
+        let (device, _) = queued(3);
+        for bytes in [64, 128, 32768].iter() {
+            assert_post_refused(&device, 5, &vec![7; *bytes], &[1; 32], 28);
+            assert_take_refused(&device, 5, &vec![7; *bytes], 1, 32, 28);
+        }
+    }
+
+    #[test]
+    fn order_of_posts_and_takes() {
+        let (mut device, mut area) = queued(2);
+        device.post(5, &mut area, &[1; 32]).unwrap();
+        device.post(5, &mut area, &[1; 32]).unwrap();
+        // Stopped: all that is wrong, then ever less.
+        assert_post_refused(&device, 9, &[0; 65], &[1; 31], 2);
+        assert_post_refused(&device, 1, &[0; 65], &[1; 31], 2);
+        assert_post_refused(&device, 5, &[0; 65], &[1; 31], 28);
+        assert_post_refused(&device, 5, &[0; 96], &[1; 31], 28);
+        assert_post_refused(&device, 5, &area, &[1; 31], 8);
+        assert_post_refused(&device, 5, &area, &[], 8);
+        assert_post_refused(&device, 5, &area, &[1; 64], 8);
+        assert_post_refused(&device, 5, &area, &[1; 32], 30);
+        // 6 has no queue.
+        assert_post_refused(&device, 6, &[0; 65], &[1; 31], 28);
+        assert_post_refused(&device, 6, &[0; 64], &[1; 31], 29);
+        assert_take_refused(&device, 9, &[0; 65], 1, 0, 2);
+        assert_take_refused(&device, 1, &[0; 65], 1, 0, 2);
+        assert_take_refused(&device, 5, &[0; 65], 0, 0, 28);
+        assert_take_refused(&device, 6, &[0; 65], 0, 0, 28);
+        assert_take_refused(&device, 6, &[0; 64], 0, 0, 29);
+        let mut after = device.clone();
+        assert_eq!(after.make_queue(9, &[0; 65]), Err(2));
+        assert_eq!(after.make_queue(1, &[0; 64]), Err(2));
+        assert_eq!(after.make_queue(5, &[0; 65]), Err(28));
+        assert_eq!(after, device);
+    }
+
+    #[test]
+    fn a_queue_makes_a_record_unsound() {
+        let (device, area) = queued(2);
+        for (posted, taken, place) in [(2, 0, 0), (0, 1, 0), (0, 0, 2), (7, 3, 1)].iter() {
+            let mut device = device.clone();
+            set_queue(&mut device, 2, *posted, *taken, *place);
+            let before = device.clone();
+            for id in [5, 6, 9].iter() {
+                assert_post_refused(&device, *id, &area, &[1; 32], 1);
+                assert_take_refused(&device, *id, &area, 1, 32, 1);
+                assert_eq!(device.make_queue(*id, &area), Err(1));
+                assert_eq!(device.write(&note(*id, 0, 0)), Err(1));
+            }
+            assert_eq!(device.batch(&[]), Err(1));
+            assert_eq!(device, before);
+        }
+    }
+
+    #[test]
+    fn other_calls_leave_the_queue() {
+        let (mut device, mut area) = queued(4);
+        device.post(5, &mut area, &[1; 32]).unwrap();
+        device.post(5, &mut area, &[2; 32]).unwrap();
+        assert_taken(&mut device, &area, 1, 32, &[1], false);
+        let queue = queue_of_5(&device);
+        assert_eq!(queue, Queue { size: 4, posted: 2, taken: 1, place: 1, stopped: false });
+        let mut state = vec![0; 4096];
+        device.start(5, &one_range()).unwrap();
+        assert_eq!(queue_of_5(&device), queue);
+        device.write(&note(5, 65536, 1)).unwrap();
+        device.batch(&[note(5, 69632, 1)]).unwrap();
+        device.receive(5, &mut [0; 64]).unwrap();
+        assert_eq!(queue_of_5(&device), queue);
+        device.stop(5).unwrap();
+        assert_eq!(queue_of_5(&device), queue);
+        assert_eq!(device.record.controllers[0], Controller { queue: Some(queue), ..Controller::default() });
+        device.suspend(5, 1).unwrap();
+        device.set_state(&mut state, &part(1, 0, &[0; 16])).unwrap();
+        // A suspended controller's queue is as any other, and leaves the sequence.
+        assert_eq!(device.post(5, &mut area, &[3; 32]), Ok(false));
+        assert_taken(&mut device, &area, 1, 32, &[2], false);
+        assert_eq!(device.record.sequence, Sequence::Open { owner: 5, end: 16 });
+        device.resume(5).unwrap();
+        assert_eq!(queue_of_5(&device), Queue { size: 4, posted: 3, taken: 2, place: 2, stopped: false });
+        assert_eq!(device.record.controllers[1].queue, None);
+        // A fresh device has none.
+        assert_eq!(Device::fresh(&device.record.settings).unwrap().record.controllers[0].queue, None);
+    }
+
+    #[test]
+    fn queues_leave_all_else() {
+        // 5 is tracked with a unit pending, 6 suspended; each has its own queue.
+        let mut device = device();
+        device.start(5, &one_range()).unwrap();
+        device.write(&note(5, 65536, 1)).unwrap();
+        device.suspend(6, 1).unwrap();
+        let before = device.clone();
+        let (mut area_of_5, mut area_of_6) = (vec![5; 64], vec![6; 96]);
+        device.make_queue(5, &area_of_5).unwrap();
+        device.make_queue(6, &area_of_6).unwrap();
+        device.post(5, &mut area_of_5, &[1; 32]).unwrap();
+        device.post(6, &mut area_of_6, &[2; 32]).unwrap();
+        device.post(6, &mut area_of_6, &[3; 32]).unwrap();
+        device.post(5, &mut area_of_5, &[4; 32]).unwrap();
+        let mut buffer = [0; 96];
+        assert_eq!(device.take(6, &area_of_6, 9, &mut buffer), Ok(Take { entries: 2, closing: false }));
+        assert_eq!(buffer.to_vec(), [[2; 32], [3; 32], [0; 32]].concat());
+        assert_taken(&mut device, &area_of_5, 9, 96, &[1, 255], true);
+        device.record.controllers[0].queue = None;
+        device.record.controllers[1].queue = None;
+        assert_eq!(device, before);
+    }
+
+    /// READINGS 8.13: "the entries taken since the last make, joined, and those queued now, are the entries stored since
+    /// then in order, then the closing one if stopped". Here what is stored is kept as a list of its own, from the calls
+    /// alone. The same calls from totals just below 2^32 on have the same answers.
+    #[test]
+    fn each_entry_once_and_in_order() {
+        let mut random = Random(9);
+        let (mut closed, mut passed) = (0, 0);
+        for _ in 0..400 {
+            let places = [2, 3, 4, 5, 7, 8, 30][random.below(7)];
+            let (mut device, mut area) = queued(places);
+            let (mut later, mut later_area) = queued(places);
+            let total = 4294967296 - 1 - random.below(60) as u64;
+            let mut made_anew = false;
+            set_queue(&mut later, places as u64, total, total, random.below(places) as u64);
+            // The entries stored and not taken, and whether the last of them is the closing one.
+            let (mut stored, mut stopped): (Vec<Vec<u8>>, bool) = (Vec::new(), false);
+            for _ in 0..100 {
+                if random.below(3) == 0 {
+                    let (asked, bytes) = (random.below(places + 2), random.below(32 * places + 40));
+                    let least = asked.min(bytes / 32).min(stored.len());
+                    let closing = least > 0 && least == stored.len() && stopped;
+                    let mut expected: Vec<u8> = stored.drain(..least).flatten().collect();
+                    expected.resize(bytes, 170);
+                    for (device, area) in [(&mut device, &area), (&mut later, &later_area)] {
+                        let mut buffer = vec![170; bytes];
+                        let answer = device.take(5, area, asked as u64, &mut buffer);
+                        assert_eq!((answer, &buffer), (Ok(Take { entries: least, closing }), &expected));
+                    }
+                } else if stopped && random.below(8) == 0 {
+                    device.make_queue(5, &area).unwrap();
+                    later.make_queue(5, &later_area).unwrap();
+                    stored.clear();
+                    stopped = false;
+                    made_anew = true;
+                } else {
+                    // Some are of FFh.
+                    let entry = vec![if random.below(4) == 0 { 255 } else { random.below(256) as u8 }; 32];
+                    let answer = device.post(5, &mut area, &entry);
+                    assert_eq!(later.post(5, &mut later_area, &entry), answer);
+                    let closes = stored.len() + 1 == places;
+                    assert_eq!(answer, if stopped { Err(30) } else { Ok(closes) });
+                    if !stopped {
+                        stored.push(if closes { vec![255; 32] } else { entry });
+                        stopped = closes;
+                        closed += u64::from(closes);
+                    }
+                }
+                assert_eq!(queue_of_5(&device).fill(), stored.len() as u64);
+                assert_eq!(queue_of_5(&later).fill(), stored.len() as u64);
+                passed += u64::from(!made_anew && queue_of_5(&later).taken < 4294960000);
+            }
+        }
+        assert!(closed > 100 && passed > 100, "{} {}", closed, passed);
+    }
+
+    #[test]
+    fn a_queue_of_1024_places() {
+        let (mut device, mut area) = queued(1024);
+        set_queue(&mut device, 1024, 4294967000, 4294967000, 1000);
+        for number in 0..1023u64 {
+            assert_eq!(device.post(5, &mut area, &number.to_le_bytes().repeat(4)), Ok(false));
+        }
+        assert_eq!(queue_of_5(&device).posted, 727);
+        assert_eq!(device.post(5, &mut area, &[0; 32]), Ok(true));
+        assert_post_refused(&device, 5, &area, &[0; 32], 30);
+        let mut buffer = vec![170; 32768];
+        assert_eq!(device.take(5, &area, 1023, &mut buffer), Ok(Take { entries: 1023, closing: false }));
+        for (number, entry) in buffer.chunks(32).take(1023).enumerate() {
+            assert_eq!(entry, (number as u64).to_le_bytes().repeat(4));
+        }
+        assert_eq!(buffer[32736..], [170; 32]);
+        assert_taken(&mut device, &area, 4294967295, 40, &[255], true);
+        assert_eq!(queue_of_5(&device), Queue { size: 1024, posted: 728, taken: 728, place: 1000, stopped: true });
     }
 
     #[test]

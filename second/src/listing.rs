@@ -14,7 +14,7 @@ const BITS_64: u64 = 18446744073709551615;
 /// "rule (0 or 1)"
 const GREATEST_RULE: u64 = 1;
 /// "buffer (at most 4096)"
-const GREATEST_BUFFER: u64 = 4096;
+pub const GREATEST_BUFFER: u64 = 4096;
 
 /// A well-formed line.
 #[derive(Clone, Debug, PartialEq, Eq)]

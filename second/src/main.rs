@@ -8,6 +8,7 @@ mod device;
 mod lines;
 mod listing;
 mod little_endian;
+mod queue;
 mod records;
 mod report;
 mod reports;

@@ -1,6 +1,6 @@
 //! The rules of document 01 that speak of plain numbers: settings, granularities, ranges and whose a unit is (with
-//! change requests W2 and W3 of document 02), the pool of units (W7), touching, and when a device record is sound (with
-//! W6 and W7). Nothing here knows of a session.
+//! change requests W2 and W3 of document 02), the pool of units (W7), touching, a queue's fill (W8), and when a device
+//! record is sound (with W6, W7 and W8). Nothing here knows of a session.
 //!
 //! Arithmetic on addresses is done in 128 bits and stops at the greatest number there (saturates) instead of
 //! wrapping. No number that passes the rules comes near it; one that stops there is far past 2^64 and so is
@@ -34,6 +34,9 @@ pub const OFFSET: Refusal = 24;
 pub const PART_FORM: Refusal = 25;
 pub const OUT_OF_SEQUENCE: Refusal = 26;
 pub const STATE: Refusal = 27;
+pub const QUEUE_AREA: Refusal = 28;
+pub const NO_QUEUE: Refusal = 29;
+pub const LOGGING_STOPPED: Refusal = 30;
 
 /// "tracks, for up to 8 migratable controllers".
 pub const MOST_CONTROLLERS: usize = 8;
@@ -55,6 +58,8 @@ pub const GREATEST_LIMIT: u64 = 128;
 pub const GREATEST_IDENTIFIER: u64 = 65535;
 /// 2^64, the first address past the end of memory.
 pub const END_OF_MEMORY: u128 = 18_446_744_073_709_551_616;
+/// W8: "free-running 32-bit totals": as many values they have, and behind the last one comes 0 again.
+pub const TOTALS: u64 = 4_294_967_296;
 
 /// The settings, as plain numbers that may be nonsense. Of the identifiers the first `number` are used.
 #[derive(Clone, Debug, Default, PartialEq, Eq)]
@@ -95,13 +100,26 @@ pub enum Tracking {
     },
 }
 
+/// What the record has of a controller's user-data queue (W8): its size in places, the totals "of entries posted and
+/// taken", the place of the oldest entry that is queued, and whether logging has stopped. The entries are in a lent area.
+#[derive(Clone, Copy, Debug, Default, PartialEq, Eq)]
+pub struct Queue {
+    pub size: u64,
+    pub posted: u64,
+    pub taken: u64,
+    pub place: u64,
+    pub stopped: bool,
+}
+
 /// "Separately it is running or suspended." Of the ranges the first `count` are used, and none where it is off. W7: "The
-/// device record tells where each share lies": the base is the share's first bit, and not used where it is off.
+/// device record tells where each share lies": the base is the share's first bit, and not used where it is off. W8: "one
+/// queue per controller", tracked or not, once it is made.
 #[derive(Clone, Debug, Default, PartialEq, Eq)]
 pub struct Controller {
     pub tracking: Tracking,
     pub suspended: bool,
     pub base: u64,
+    pub queue: Option<Queue>,
     pub ranges: [Range; MOST_RANGES],
 }
 
@@ -147,6 +165,16 @@ impl Controller {
             }
         }
         used
+    }
+}
+
+impl Queue {
+    /// How many entries are queued. The totals "pass 2^32 in service and must still give the right fill": no entry is
+    /// taken before it is posted, so where posted reads as less than taken, it has passed 2^32 once more often.
+    pub fn fill(&self) -> u64 {
+        let (posted, taken) = (self.posted % TOTALS, self.taken % TOTALS);
+        let passed = if posted < taken { posted + TOTALS } else { posted };
+        passed - taken
     }
 }
 
@@ -410,10 +438,21 @@ pub fn sequence_broken(record: &Record) -> bool {
     !suspended.contains(&owner) || !ends.any(|whole| whole as u64 == end)
 }
 
+/// W8: "A fill above the queue's size, a place outside it, or a full queue not stopped, is unsound." That is asked of the
+/// places that are free: fewer than none, or none. READINGS 8.8: a size that no area has is not by itself unsound.
+pub fn queue_broken(queue: &Queue) -> bool {
+    let filled_wrong = match queue.size.checked_sub(queue.fill()) {
+        None => true,
+        Some(0) => !queue.stopped,
+        Some(_) => false,
+    };
+    filled_wrong || !(0..queue.size).contains(&queue.place)
+}
+
 /// Refusal 1, its first half: "A record is sound exactly if its settings would pass 16, each tracked controller's
 /// granularity and ranges would pass 7, 9, 10 and 11, and the counts together are within the limit. Unused places
 /// aren't looked at". W3: "9 becomes 18 ..., 19 ..., 20 ..., 21"; here it is all one which of them, and which row. W6
-/// adds the open sequence, and W7 puts the shares in the place of 11.
+/// adds the open sequence, W7 puts the shares in the place of 11, and W8 adds each queue.
 pub fn sound(record: &Record) -> bool {
     let settings = &record.settings;
     if settings_broken(settings) {
@@ -428,6 +467,9 @@ pub fn sound(record: &Record) -> bool {
             {
                 return false;
             }
+        }
+        if controller.queue.iter().any(queue_broken) {
+            return false;
         }
     }
     counts_together(record) <= u128::from(settings.limit) && !pool_broken(record) && !sequence_broken(record)
@@ -1099,6 +1141,7 @@ mod tests {
         for place in 2..8 {
             record.controllers[place].tracking = on(u64::MAX, u64::MAX);
             record.controllers[place].suspended = true;
+            record.controllers[place].queue = Some(queue(0, 9, 3, u64::MAX));
             record.controllers[place].ranges[0] = range(3, 0);
         }
         assert!(sound(&record));
@@ -1176,6 +1219,129 @@ mod tests {
         assert!(!sound(&record));
     }
 
+    /// A queue of so many places that isn't stopped, with these totals and the oldest entry in this place.
+    fn queue(size: u64, posted: u64, taken: u64, place: u64) -> Queue {
+        Queue { size, posted, taken, place, stopped: false }
+    }
+
+    fn stopped(queue: Queue) -> Queue {
+        Queue { stopped: true, ..queue }
+    }
+
+    /// Whether the record above is sound with this queue of controller 6.
+    fn sound_with(queue: Queue) -> bool {
+        let mut record = record();
+        record.controllers[1].queue = Some(queue);
+        sound(&record)
+    }
+
+    const LAST_TOTAL: u64 = 4294967295;
+
+    #[test]
+    fn fills_by_hand() {
+        for (posted, taken, fill) in [
+            (0, 0, 0),
+            (1, 0, 1),
+            (1024, 0, 1024),
+            (1024, 1023, 1),
+            (LAST_TOTAL, LAST_TOTAL, 0),
+            (LAST_TOTAL, 0, LAST_TOTAL),
+            // Past 2^32: READINGS W8's 2 and 2^32 - 1, and more.
+            (2, LAST_TOTAL, 3),
+            (0, LAST_TOTAL, 1),
+            (0, 1, LAST_TOTAL),
+            (5, 4294966277, 1024),
+            (2147483648, 2147483648, 0),
+            (0, 2147483648, 2147483648),
+            (2147483647, 2147483648, LAST_TOTAL),
+        ]
+        .iter()
+        {
+            assert_eq!(queue(4, *posted, *taken, 0).fill(), *fill, "{} {}", posted, taken);
+        }
+        assert_eq!(queue(4, u64::MAX, u64::MAX - 3, 0).fill(), 3);
+        assert_eq!(queue(4, 0, u64::MAX, 0).fill(), 1);
+    }
+
+    #[test]
+    fn worked_queues() {
+        // READINGS W8.
+        assert!(!sound_with(queue(2, 2, 0, 0)));
+        assert!(sound_with(stopped(queue(2, 2, 0, 0))));
+        assert!(!sound_with(queue(2, 0, 1, 0)));
+        assert!(!sound_with(stopped(queue(2, 0, 1, 0))));
+        assert!(!sound_with(queue(2, 0, 0, 2)));
+        assert!(sound_with(stopped(queue(2, 0, 0, 0))));
+        assert!(sound_with(queue(4, 2, LAST_TOTAL, 1)));
+        assert!(sound_with(queue(3, LAST_TOTAL, LAST_TOTAL, 0)));
+    }
+
+    #[test]
+    fn fills_at_and_past_the_size() {
+        // From totals 0 and from totals that pass 2^32 on the way.
+        for taken in [0, 1, 4294966000, LAST_TOTAL].iter() {
+            for size in [1, 2, 3, 4, 1000, 1024, 1025, 65535].iter() {
+                let filled = |fill| queue(*size, (*taken + fill) % 4294967296, *taken, size - 1);
+                assert!(sound_with(filled(0)));
+                assert!(sound_with(filled(size - 1)));
+                assert!(!sound_with(filled(*size)));
+                assert!(!sound_with(filled(size + 1)));
+                assert!(!sound_with(filled(LAST_TOTAL)));
+                for fill in 0..3 {
+                    assert_eq!(sound_with(stopped(filled(size - 1 + fill))), fill < 2, "{} {}", size, fill);
+                }
+                assert!(!sound_with(stopped(filled(LAST_TOTAL))));
+            }
+        }
+    }
+
+    #[test]
+    fn places_of_a_queue() {
+        for size in [1, 2, 3, 1024, 65535].iter() {
+            for place in [0, size - 1].iter() {
+                assert!(sound_with(queue(*size, 7, 7, *place)), "{} {}", size, place);
+                assert!(sound_with(stopped(queue(*size, 7, 7, *place))), "{} {}", size, place);
+            }
+            for place in [*size, size + 1, 65536, u64::MAX].iter() {
+                assert!(!sound_with(queue(*size, 7, 7, *place)), "{} {}", size, place);
+                assert!(!sound_with(stopped(queue(*size, 7, 7, *place))), "{} {}", size, place);
+            }
+        }
+        // No place is inside a queue of none, and stopped or not is all one.
+        assert!(!sound_with(queue(0, 0, 0, 0)));
+        assert!(!sound_with(stopped(queue(0, 0, 0, 0))));
+    }
+
+    #[test]
+    fn queues_of_each_controller() {
+        let bad = queue(2, 0, 0, 2);
+        for place in 0..8 {
+            let mut record = record();
+            record.controllers[place].queue = Some(bad);
+            // Controllers 5 and 6 are in use; the others stand in unused places.
+            assert_eq!(sound(&record), place >= 2, "{}", place);
+            // Tracked and suspended have nothing to do with it.
+            record.controllers[0].suspended = true;
+            record.controllers[1].tracking = on(0, 1);
+            record.controllers[1].ranges[0] = range(0, 1);
+            assert_eq!(sound(&record), place >= 2, "{}", place);
+        }
+        let mut record = record();
+        record.settings.number = 8;
+        record.settings.identifiers = [5, 6, 7, 8, 9, 10, 11, 12];
+        for controller in record.controllers.iter_mut() {
+            controller.queue = Some(stopped(queue(3, 1, 4294967294, 2)));
+        }
+        assert!(sound(&record));
+        for place in 0..8 {
+            let mut other = record.clone();
+            other.controllers[place].queue = Some(bad);
+            assert!(!sound(&other), "{}", place);
+            other.controllers[place].queue = None;
+            assert!(sound(&other), "{}", place);
+        }
+    }
+
     #[test]
     fn full_device_is_sound() {
         let mut record = record();
@@ -1218,6 +1384,7 @@ mod tests {
         for controller in record.controllers.iter_mut() {
             controller.tracking = on(u64::MAX, u64::MAX);
             controller.base = u64::MAX;
+            controller.queue = Some(queue(u64::MAX, u64::MAX, u64::MAX, u64::MAX));
             controller.ranges = [range(u64::MAX, u64::MAX); 16];
         }
         assert!(!sound(&record));
@@ -1230,5 +1397,8 @@ mod tests {
         assert!(pool_broken(&record));
         assert!(!pool_broken(&Record::default()));
         assert!(limit_passed(&record, usize::MAX));
+        assert!(queue_broken(&queue(u64::MAX, u64::MAX, u64::MAX, u64::MAX)));
+        assert!(!queue_broken(&queue(u64::MAX, u64::MAX, 0, u64::MAX - 1)));
+        assert!(queue_broken(&queue(0, 0, 0, 0)));
     }
 }

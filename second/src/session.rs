@@ -9,8 +9,8 @@ use crate::report::read_report;
 use crate::rules::Reason;
 use crate::structure::structure_bytes;
 
-/// What lies in a `recv` line's buffer before the call; no answer may depend on it.
-const STALE: u8 = 0xA5;
+/// What lies in the buffer of a `recv` or `take` line before the call; no answer may depend on it.
+pub const STALE: u8 = 0xA5;
 
 /// "Before a done `dev`, calls answer 1": the session begins with the closed device.
 #[derive(Clone, Debug, Default, PartialEq, Eq)]

@@ -143,7 +143,7 @@ fn read_line(line: &[u8]) -> Burst {
         return bad();
     }
     let end = fields::field_end(line, 0);
-    if fields::same(&line[..end], b"batch") {
+    if fields::begins(line, b"batch") {
         return batch_line(line, end);
     }
     burst_line(line, end)
@@ -153,11 +153,10 @@ fn read_line(line: &[u8]) -> Burst {
 
 // Whether a line begins with one of these words.
 pub fn asks(line: &[u8]) -> bool {
-    let end = fields::field_end(line, 0);
-    if fields::same(&line[..end], b"batch") {
+    if fields::begins(line, b"batch") {
         return true;
     }
-    fields::same(&line[..end], b"burst")
+    fields::begins(line, b"burst")
 }
 
 // Puts a batch's answer: a refused one's number alone.
@@ -182,7 +181,7 @@ pub fn answer(
 ) -> Waiting {
     let burst = read_line(line);
     if !burst.ok {
-        return output::put_bytes(out, waiting, b"bad\n");
+        return playing::put_bad(out, waiting);
     }
     let list = burst.list;
     let batched = tracker::batch_of(d, marks, list, burst.count);

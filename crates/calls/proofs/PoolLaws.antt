@@ -51,7 +51,7 @@ set-front [] ys i x h = absurd (omega arith)
 set-front (y ∷ xs) ys zero x h = refl
 set-front (y ∷ xs) ys (suc i) x h = ap (λ l. y ∷ l) (set-front xs ys i x (omega arith))
 
-take-set : {A : Type 0} (xs : List A) (n i : ℕ) (x : A) → take n (set xs i x) ≡ set (take n xs) i x
+pub take-set : {A : Type 0} (xs : List A) (n i : ℕ) (x : A) → take n (set xs i x) ≡ set (take n xs) i x
 take-set [] zero i x = refl
 take-set [] (suc n) i x = refl
 take-set (y ∷ xs) zero i x = refl
@@ -131,13 +131,14 @@ module _ (d : Device) (eight : length (d .controllers) ≡ 8) (most : d .setting
 
   -- packing leaves of a controller all but its place, and of a share its size
   pub packed-alike : (j : ℕ) (k : Controller) → (packedAt (sizesOf d) j k .suspended ≡ k .suspended) × (packedAt (sizesOf d) j k .tracking ≡ k .tracking) × (packedAt (sizesOf d) j k .ranges ≡ k .ranges)
+      × (packedAt (sizesOf d) j k .queue ≡ k .queue)
   packed-alike j k = go (eqb (getD (sizesOf d) j 0) 0)
     where
       go : (b : Bool)
           → (cond b k (withBase k (newBase (sizesOf d) j)) .suspended ≡ k .suspended) × (cond b k (withBase k (newBase (sizesOf d) j)) .tracking ≡ k .tracking)
-          × (cond b k (withBase k (newBase (sizesOf d) j)) .ranges ≡ k .ranges)
-      go true = (refl, refl, refl)
-      go false = (refl, refl, refl)
+          × (cond b k (withBase k (newBase (sizesOf d) j)) .ranges ≡ k .ranges) × (cond b k (withBase k (newBase (sizesOf d) j)) .queue ≡ k .queue)
+      go true = (refl, refl, refl, refl)
+      go false = (refl, refl, refl, refl)
 
   pub packed-size : (j : ℕ) → j < 8 → getD (sharesOf (packedDevice d)) j noShare .size ≡ getD (sharesOf d) j noShare .size
   packed-size j h = go (leb (d .settings .count) j) refl

@@ -1,6 +1,6 @@
 -- What each call answers and leaves, as a total function of what it is given: any record, any words, any bytes. The refusals are the tables of
 -- `rules` (Order.antt), and what is done is done by the rules' own functions on the controller's units and marks.
-use Prim.Native.Nat.{ℕ, suc, _+_}
+use Prim.Native.Nat.{ℕ, suc, _+_, _*_, _/_}
 use mathlib.Core.Bool.{Bool, false, _||_, cond}
 use mathlib.Core.List.{List, [], _∷_, map}
 use mathlib.Core.Option.{Option, none, some}
@@ -17,7 +17,9 @@ use Rattle.rules.specs.Settings.{placeOf}
 use Rattle.rules.specs.Units.{Unit, Write, units, mark, newly}
 use Rattle.rules.specs.StartData.{granularityOf, countOf, rangesOf, placed}
 use Rattle.rules.specs.Report.{Report, room, reportOn, marksLeft, reportBytes}
-use Rattle.rules.specs.Order.{freshOrder, startOrder, stopOrder, writeOrder, batchOrder, receiveOrder, suspendOrder, resumeOrder, Part, offsetOf, isLast, joinedWith, partOrder}
+use Rattle.rules.specs.Queue.{entryBytes, closingEntry, joined, totalAfter, fillOf, closesAt, takenOf, closesWith}
+use Rattle.rules.specs.Order.{freshOrder, startOrder, stopOrder, writeOrder, batchOrder, receiveOrder, suspendOrder, resumeOrder, Part, offsetOf, isLast, joinedWith, partOrder, make, post, queueOrder}
+use Rattle.rules.specs.Order as order
 use Rattle.rules.specs.Device.{heldUnits, heldOf, sharesOf, freshOf}
 use Rattle.rules.specs.Machine.{noReport}
 use Rattle.rules.specs.declared.Range.{Range}
@@ -26,9 +28,13 @@ use Rattle.rules.specs.declared.Tracking.the-variants.{Off, On}
 use Rattle.rules.specs.declared.Share.{Share}
 use Rattle.rules.specs.declared.Sequence.{Sequence}
 use Rattle.rules.specs.declared.Sequence.the-variants.{Nothing, Open}
+use Rattle.rules.specs.declared.Ring.{Ring}
+use Rattle.rules.specs.declared.Queue.{Queue}
+use Rattle.rules.specs.declared.Queue.the-variants as queue
 use Rattle.rules.specs.declared.Controller.{Controller}
 use Rattle.rules.specs.declared.Settings.{Settings}
 use Rattle.rules.specs.declared.Device.{Device}
+use Rattle.ring.specs.Ring.{placeAfter, queued}
 use Rattle.record.specs.Record.{soundWith, controllerAt, withController, withSequence, seenIn, ownedBy, frontIn, arrivingIn}
 use Rattle.calls.specs.declared.Changed.{Changed}
 use Rattle.calls.specs.declared.Started.{Started}
@@ -37,6 +43,8 @@ use Rattle.calls.specs.declared.WriteRecord.{WriteRecord}
 use Rattle.calls.specs.declared.Batched.{Batched}
 use Rattle.calls.specs.declared.Received.{Received}
 use Rattle.calls.specs.declared.StateSet.{StateSet}
+use Rattle.calls.specs.declared.Posted.{Posted}
+use Rattle.calls.specs.declared.Taken.{Taken}
 
 -- ---- a controller's marks
 
@@ -63,7 +71,7 @@ sizesOf d = map (λ (a : Share). a .size) (sharesOf d)
 
 -- the same controller with its share elsewhere
 abbrev pub withBase : Controller → ℕ → Controller
-withBase c base = record { tracking = c .tracking; base = base; suspended = c .suspended; ranges = c .ranges }
+withBase c base = record { tracking = c .tracking; base = base; suspended = c .suspended; ranges = c .ranges; queue = c .queue }
 
 -- controllers from place i on whose shares, of these sizes, are packed: one that has none is as it was
 abbrev pub packedFrom : List ℕ → ℕ → List Controller → List Controller
@@ -104,7 +112,7 @@ freshChange s ws =
 
 -- a start records granularity, count and ranges, with zeros in the other places, and packs the shares, its own clear among them
 abbrev pub started : Controller → List ℕ → Controller
-started c x = record { tracking = On (granularityOf x) (countOf x); base = 0; suspended = c .suspended; ranges = placed (rangesOf x) }
+started c x = record { tracking = On (granularityOf x) (countOf x); base = 0; suspended = c .suspended; ranges = placed (rangesOf x); queue = c .queue }
 
 abbrev pub startDone : Device → List ℕ → List ℕ → Option ℕ → Change Started
 startDone d ws x none = startedWith 0 0 d ws
@@ -120,7 +128,7 @@ startChange d ws id x = startAt d ws x (placeOf (d .settings) id)
 
 -- a stop forgets the ranges and clears the share; no other moves
 abbrev pub stopped : Controller → Controller
-stopped c = record { tracking = Off; base = 0; suspended = c .suspended; ranges = placed [] }
+stopped c = record { tracking = Off; base = 0; suspended = c .suspended; ranges = placed []; queue = c .queue }
 
 abbrev pub stopDone : Device → List ℕ → Option ℕ → Change Changed
 stopDone d ws none = changed 0 d ws
@@ -136,7 +144,7 @@ stopChange d ws id = stopAt d ws (placeOf (d .settings) id)
 
 -- a suspend changes the flag alone
 abbrev pub flagged : Controller → Bool → Controller
-flagged c b = record { tracking = c .tracking; base = c .base; suspended = b; ranges = c .ranges }
+flagged c b = record { tracking = c .tracking; base = c .base; suspended = b; ranges = c .ranges; queue = c .queue }
 
 abbrev pub flagDone : Device → Option ℕ → Bool → Changed
 flagDone d none b = record { number = 0; device = d }
@@ -279,3 +287,91 @@ partAt d words area id p i = verdict (partOrder (seenIn d words i) (arrivingIn (
 
 unfoldable pub partChange : Device → ℕ → List ℕ → ℕ → Part → Arrival
 partChange d words area id p = partAt d words area id p (placeOf (d .settings) id)
+
+-- ---- a controller's queue (W8)
+
+-- a record in which the controller at a place has another queue
+abbrev pub queuing : Controller → Queue → Controller
+queuing c q = record { tracking = c .tracking; base = c .base; suspended = c .suspended; ranges = c .ranges; queue = q }
+
+abbrev pub withQueue : Device → ℕ → Queue → Device
+withQueue d i q = withController d i (queuing (controllerAt d (some i)) q)
+
+-- a make: an empty queue, with totals 0, as large as the area
+abbrev pub madeRing : ℕ → Ring
+madeRing bytes = record { size = bytes / entryBytes; posted = 0; taken = 0; place = 0; stopped = false }
+
+abbrev pub makeDone : Device → ℕ → Option ℕ → Changed
+makeDone d bytes none = record { number = 0; device = d }
+makeDone d bytes (some i) = record { number = 0; device = withQueue d i (queue.Is (madeRing bytes)) }
+
+abbrev pub makeAt : Device → ℕ → ℕ → Option ℕ → Changed
+makeAt d words bytes p = verdict (queueOrder (seenIn d words p) bytes make) (makeDone d bytes p) (λ n i. record { number = n; device = d })
+
+unfoldable pub makeChange : Device → ℕ → ℕ → ℕ → Changed
+makeChange d words id bytes = makeAt d words bytes (placeOf (d .settings) id)
+
+-- how many entries a ring has queued, and these, in an area
+abbrev pub fillIn : Ring → ℕ
+fillIn r = fillOf (r .posted) (r .taken)
+
+abbrev pub queuedIn : List ℕ → Ring → List (List ℕ)
+queuedIn area r = queued area (r .size) (r .place) (fillIn r)
+
+-- a ring with one entry more, which was the closing one or not, and one without its m oldest entries
+abbrev pub ringPosted : Ring → Bool → Ring
+ringPosted r closed = record { size = r .size; posted = totalAfter (r .posted) 1; taken = r .taken; place = r .place; stopped = closed }
+
+abbrev pub ringTaken : Ring → ℕ → Ring
+ringTaken r m =
+    record { size = r .size; posted = r .posted; taken = totalAfter (r .taken) m; place = placeAfter (r .size) (r .place) m; stopped = r .stopped }
+
+-- what a post answers, and the area that it leaves: the entry, or the closing one, behind those that are queued
+pub record Posting : Type 0 where
+  pub answer : Posted
+  pub area : List ℕ
+
+abbrev pub posting : ℕ → Bool → Device → List ℕ → Posting
+posting n stopped d area = record { answer = record { number = n; stopped = stopped; device = d }; area = area }
+
+abbrev pub postIn : Device → ℕ → List ℕ → List ℕ → Queue → Posting
+postIn d i area e queue.Nothing = posting 0 false d area
+postIn d i area e (queue.Is r) =
+    let last = closesAt (r .size) (fillIn r) in
+    posting 0 last (withQueue d i (queue.Is (ringPosted r last)))
+    (put area (entryBytes * placeAfter (r .size) (r .place) (fillIn r)) (cond last closingEntry e))
+
+abbrev pub postDone : Device → List ℕ → List ℕ → Option ℕ → Posting
+postDone d area e none = posting 0 false d area
+postDone d area e (some i) = postIn d i area e (controllerAt d (some i) .queue)
+
+abbrev pub postAt : Device → ℕ → List ℕ → List ℕ → Option ℕ → Posting
+postAt d words area e p = verdict (queueOrder (seenIn d words p) (length area) (post e)) (postDone d area e p) (λ n i. posting n false d area)
+
+unfoldable pub postChange : Device → ℕ → List ℕ → ℕ → List ℕ → Posting
+postChange d words area id e = postAt d words area e (placeOf (d .settings) id)
+
+-- what a take answers, and the buffer that it leaves: the oldest entries at its front
+pub record Taking : Type 0 where
+  pub answer : Taken
+  pub buffer : List ℕ
+
+abbrev pub taking : ℕ → ℕ → Bool → Device → List ℕ → Taking
+taking n count closing d x = record { answer = record { number = n; count = count; closing = closing; device = d }; buffer = x }
+
+abbrev pub takeIn : Device → ℕ → List ℕ → ℕ → List ℕ → Queue → Taking
+takeIn d i area asked x queue.Nothing = taking 0 0 false d x
+takeIn d i area asked x (queue.Is r) =
+    let es = takenOf asked (length x) (queuedIn area r) in
+    let m = length es in
+    taking 0 m (closesWith (r .stopped) m (fillIn r)) (withQueue d i (queue.Is (ringTaken r m))) (put x 0 (joined es))
+
+abbrev pub takeDone : Device → List ℕ → ℕ → List ℕ → Option ℕ → Taking
+takeDone d area asked x none = taking 0 0 false d x
+takeDone d area asked x (some i) = takeIn d i area asked x (controllerAt d (some i) .queue)
+
+abbrev pub takeAt : Device → ℕ → List ℕ → ℕ → List ℕ → Option ℕ → Taking
+takeAt d words area asked x p = verdict (queueOrder (seenIn d words p) (length area) (order.take asked x)) (takeDone d area asked x p) (λ n i. taking n 0 false d x)
+
+unfoldable pub takeChange : Device → ℕ → List ℕ → ℕ → ℕ → List ℕ → Taking
+takeChange d words area id asked x = takeAt d words area asked x (placeOf (d .settings) id)

@@ -61,6 +61,21 @@ pub struct StateSet {
     pub device: Device,
 }
 
+// The answer to a post to a queue: its number, whether it found only one place free, so that logging has stopped, and the record as it is afterwards.
+pub struct Posted {
+    pub number: u8,
+    pub stopped: bool,
+    pub device: Device,
+}
+
+// The answer to a take from a queue: its number, how many entries were taken, whether the last of them is the closing one, and the record as it is afterwards.
+pub struct Taken {
+    pub number: u8,
+    pub count: usize,
+    pub closing: bool,
+    pub device: Device,
+}
+
 // The ranges of a controller: all sixteen places.
 pub fn ranges_of(c: Controller) -> [Range; 16]
     ensures { λ r. ⌜ (r ≡ c .ranges) × (length r ≡ 16) ⌝ }

@@ -14,6 +14,8 @@ use Rattle.rules.specs.Units.{Write}
 use Rattle.rules.specs.Order.{freshOrder, startOrder, Part, offsetOf, isLast, joinedWith}
 use Rattle.rules.specs.Device.{closedDevice, freshOf}
 use Rattle.rules.specs.declared.Sequence.the-variants.{Nothing, Open}
+use Rattle.rules.specs.declared.Queue.{Queue}
+use Rattle.rules.specs.declared.Queue.the-variants as made
 use Rattle.rules.specs.declared.Settings.{Settings}
 use Rattle.rules.specs.declared.Device.{Device}
 use Rattle.rules.specs.declared.Range.{Range}
@@ -22,7 +24,7 @@ use Rattle.rules.specs.declared.Tracking.the-variants.{Off, On}
 use Rattle.rules.proofs.RefusalLaws.{verdict-has, verdict-map}
 use Rattle.record.specs.Record.{controllerAt, withSequence, seenIn, frontIn}
 use Rattle.calls.specs.declared.Started.{Started}
-use Rattle.calls.specs.Calls.{freshChange, Change, startedWith, startDone, startChange, stopDone, flagDone, resumeDone, noteIn, writeDone, receiveIn, receiveDone, arrival, partDone}
+use Rattle.calls.specs.Calls.{freshChange, Change, startedWith, startDone, startChange, stopDone, flagDone, resumeDone, noteIn, writeDone, receiveIn, receiveDone, arrival, partDone, makeDone, postIn, postDone, takeIn, takeDone}
 use Rattle.demands.specs.Demand1.{Answers}
 
 -- what a table's call answers: the first test's number, and refused what is had of every refusal
@@ -76,6 +78,27 @@ part-zero d area id p = go (isLast p) (length (joinedWith (frontIn id (d .sequen
     go : (b : Bool) (n : ℕ) (x : List ℕ) → (cond b (arrival 0 n (withSequence d Nothing) x) (arrival 0 0 (withSequence d (Open id n)) x)) .answer .number ≡ 0
     go true n x = refl
     go false n x = refl
+
+-- W8: so has a done call to a queue
+pub make-zero : (d : Device) (bytes : ℕ) (p : Option ℕ) → makeDone d bytes p .number ≡ 0
+make-zero d bytes none = refl
+make-zero d bytes (some i) = refl
+
+pub post-zero : (d : Device) (area e : List ℕ) (p : Option ℕ) → postDone d area e p .answer .number ≡ 0
+post-zero d area e none = refl
+post-zero d area e (some i) = go (controllerAt d (some i) .queue)
+  where
+    go : (q : Queue) → postIn d i area e q .answer .number ≡ 0
+    go made.Nothing = refl
+    go (made.Is r) = refl
+
+pub take-zero : (d : Device) (area : List ℕ) (asked : ℕ) (x : List ℕ) (p : Option ℕ) → takeDone d area asked x p .answer .number ≡ 0
+take-zero d area asked x none = refl
+take-zero d area asked x (some i) = go (controllerAt d (some i) .queue)
+  where
+    go : (q : Queue) → takeIn d i area asked x q .answer .number ≡ 0
+    go made.Nothing = refl
+    go (made.Is r) = refl
 
 note-zero : (ws : List ℕ) (base : ℕ) (t : Tracking) (rs : List Range) (w : Write) → noteIn ws base t rs w .answer .number ≡ 0
 note-zero ws base Off rs w = refl

@@ -42,7 +42,7 @@ abbrev summed : ℕ → ℕ → List Event → Batched
 summed k c es = record { number = 0; done = k + doneIn es; count = c + newlyIn es; refusal = lastNumber es }
 
 pub record Are (l : Left) (k c : ℕ) (rs : List WriteRecord) (r : Change Batched) : Type 0 where
-  pub leaves : record { device = l .device; marks = r .marks; area = l .area } ≡ leftAfter l (tried l rs)
+  pub leaves : record { device = l .device; marks = r .marks; area = l .area; queues = l .queues } ≡ leftAfter l (tried l rs)
   pub says : r .answer ≡ summed k c (answersTo l (tried l rs))
 
 -- answers that are alike
@@ -58,21 +58,21 @@ summed-next : (k c x : ℕ) (note : Call) (es : List Event) → summed (k + 1) (
 summed-next k c x note es = alike _ _ _ _ _ _ (omega arith) (omega arith) (sym (last-after note x es))
 
 -- the notes of a list, after k done and c units
-notes-are : (d : Device) (area : List ℕ) (rs : List WriteRecord) (m : List ℕ) (k c : ℕ) → Are (record { device = d; marks = m; area = area }) k c rs (notesFrom d m k c rs)
+notes-are : (d : Device) (area : List ℕ) (qs : ℕ → List ℕ) (rs : List WriteRecord) (m : List ℕ) (k c : ℕ) → Are (record { device = d; marks = m; area = area; queues = qs }) k c rs (notesFrom d m k c rs)
 unfolding run
-notes-are d area [] m k c = record { leaves = refl; says = alike _ _ _ _ _ _ (omega arith) (omega arith) refl }
-notes-are d area (r ∷ rs) m k c =
+notes-are d area qs [] m k c = record { leaves = refl; says = alike _ _ _ _ _ _ (omega arith) (omega arith) refl }
+notes-are d area qs (r ∷ rs) m k c =
     go (eqb (writeNote d m (r .id) (writeIn r) .answer .number) 0) refl
-    (notes-are d area rs (writeNote d m (r .id) (writeIn r) .marks) (k + 1) (c + writeNote d m (r .id) (writeIn r) .answer .count))
+    (notes-are d area qs rs (writeNote d m (r .id) (writeIn r) .marks) (k + 1) (c + writeNote d m (r .id) (writeIn r) .answer .count))
   where
     go : (b : Bool) → eqb (writeNote d m (r .id) (writeIn r) .answer .number) 0 ≡ b
         → let n = writeNote d m (r .id) (writeIn r) in
         let rest = notesFrom d (n .marks) (k + 1) (c + n .answer .count) rs in
-        Are (record { device = d; marks = n .marks; area = area }) (k + 1) (c + n .answer .count) rs rest
-        → Are (record { device = d; marks = m; area = area }) k c (r ∷ rs) (cond b rest (batched 0 k c (n .answer .number) (n .marks)))
+        Are (record { device = d; marks = n .marks; area = area; queues = qs }) (k + 1) (c + n .answer .count) rs rest
+        → Are (record { device = d; marks = m; area = area; queues = qs }) k c (r ∷ rs) (cond b rest (batched 0 k c (n .answer .number) (n .marks)))
     go true e ih =
         let n = writeNote d m (r .id) (writeIn r) in
-        let l : Left = record { device = d; marks = n .marks; area = area } in
+        let l : Left = record { device = d; marks = n .marks; area = area; queues = qs } in
         record {
           leaves = rw e (ih .leaves);
           says = rw e (ih .says ∙ summed-next k c (n .answer .count) (noteOf r) (answersTo l (tried l rs)));
@@ -86,7 +86,7 @@ module _ (l : Left) (rs : List WriteRecord) where
   order = batchOrder (soundWith (l .device) (length (l .marks))) (length rs)
 
   are : Are l 0 0 rs (notesFrom (l .device) (l .marks) 0 0 rs)
-  are = notes-are (l .device) (l .area) rs (l .marks) 0 0
+  are = notes-are (l .device) (l .area) (l .queues) rs (l .marks) 0 0
 
   from-zero : (es : List Event) → summed 0 0 es ≡ record { number = 0; done = doneIn es; count = newlyIn es; refusal = lastNumber es }
   from-zero es = alike _ _ _ _ _ _ (omega arith) (omega arith) refl
@@ -122,16 +122,16 @@ shifted d rs m k c =
     ap₂ {A = Batched} (λ (a : Batched) (w : List ℕ). record { answer = a; marks = w }) (some .says ∙ sym told) (ap (λ (q : Left). q .marks) (some .leaves ∙ sym (zero .leaves)))
   where
     l : Left
-    l = record { device = d; marks = m; area = [] }
+    l = record { device = d; marks = m; area = []; queues = λ i. [] }
 
     es : List Event
     es = answersTo l (tried l rs)
 
     some : Are l k c rs (notesFrom d m k c rs)
-    some = notes-are d [] rs m k c
+    some = notes-are d [] (λ i. []) rs m k c
 
     zero : Are l 0 0 rs (notesFrom d m 0 0 rs)
-    zero = notes-are d [] rs m 0 0
+    zero = notes-are d [] (λ i. []) rs m 0 0
 
     told : record { number = notesFrom d m 0 0 rs .answer .number; done = k + notesFrom d m 0 0 rs .answer .done; count = c + notesFrom d m 0 0 rs .answer .count; refusal = notesFrom d m 0 0 rs .answer .refusal } ≡ summed k c es
     told =
@@ -168,7 +168,7 @@ module _ (d : Device) (ws : List ℕ) where
       go false b c = λ z. absurd (omega (arith, z))
 
   batch-other : (rs : List WriteRecord) → soundWith d (length ws) ≡ true → batchChange d ws rs .answer .number ≢ 1
-  batch-other rs e = λ z. go (leb (length rs) mostNotes) (sym (is-notes (record { device = d; marks = ws; area = [] }) rs .answers .first ∙ rw e) ∙ z)
+  batch-other rs e = λ z. go (leb (length rs) mostNotes) (sym (is-notes (record { device = d; marks = ws; area = []; queues = λ i. [] }) rs .answers .first ∙ rw e) ∙ z)
     where
       go : (a : Bool) → _≢_ {A = ℕ} (cond a 0 22) 1
       go true = λ z. absurd (omega (arith, z))
@@ -179,13 +179,13 @@ module _ (d : Device) (ws : List ℕ) where
     where
       go : (b : Bool) → soundWith d (length ws) ≡ b → (batchChange d ws rs .answer .number ≡ 1) ↔ (writeNote d ws id w .answer .number ≡ 1)
       go true e = (λ z. absurd (batch-other rs e z), λ z. absurd (note-other id w e z))
-      go false e = (λ z. note-one id w e, λ z. is-notes (record { device = d; marks = ws; area = [] }) rs .unsound e)
+      go false e = (λ z. note-one id w e, λ z. is-notes (record { device = d; marks = ws; area = []; queues = λ i. [] }) rs .unsound e)
 
   -- a done batch is its notes, on a sound record, and there are few
-  done-is : (rs : List WriteRecord) → batchChange d ws rs .answer .number ≡ 0 → (batchChange d ws rs ≡ notesFrom d ws 0 0 rs) × Passed (order (record { device = d; marks = ws; area = [] }) rs)
+  done-is : (rs : List WriteRecord) → batchChange d ws rs .answer .number ≡ 0 → (batchChange d ws rs ≡ notesFrom d ws 0 0 rs) × Passed (order (record { device = d; marks = ws; area = []; queues = λ i. [] }) rs)
   unfolding batchChange
   done-is rs e =
-      verdict-done (λ (c : Change Batched). c .answer .number) (order (record { device = d; marks = ws; area = [] }) rs) (notesFrom d ws 0 0 rs) (λ n i. batched n 0 0 0 ws) (λ n i. refl)
+      verdict-done (λ (c : Change Batched). c .answer .number) (order (record { device = d; marks = ws; area = []; queues = λ i. [] }) rs) (notesFrom d ws 0 0 rs) (λ n i. batched n 0 0 0 ws) (λ n i. refl)
       (omega arith, (omega arith, tt)) e
 
 passed-is : (d : Device) (ws : List ℕ) (rs : List WriteRecord) → soundWith d (length ws) ≡ true → leb (length rs) mostNotes ≡ true → batchChange d ws rs ≡ notesFrom d ws 0 0 rs
@@ -225,7 +225,7 @@ step-left l (batch rs) = go (batchChange (l .device) (l .marks) rs .answer .numb
         is-notes l rs .leaves e ∙ ap (leftAfter l) (sym calls)
     go (suc n) e =
         let calls : callsOf l (batch rs) ≡ [] = rw (ne-eqb (batchChange (l .device) (l .marks) rs .answer .number) 0 (λ z. absurd (omega (arith, z, e)))) in
-        ap (λ m. record { device = l .device; marks = m; area = l .area }) (is-notes l rs .answers .refused (λ z. absurd (omega (arith, z, e))) .3) ∙ ap (leftAfter l) (sym calls)
+        ap (λ m. record { device = l .device; marks = m; area = l .area; queues = l .queues }) (is-notes l rs .answers .refused (λ z. absurd (omega (arith, z, e))) .3) ∙ ap (leftAfter l) (sym calls)
 
 left-by : (xs : List Step) (l : Left) → leftBy l xs ≡ leftAfter l (expand l xs)
 left-by [] l = refl

@@ -9,15 +9,16 @@ use lib.Dec.{eqb}
 use lib.ListN.{length}
 use borrow.Author.Tests.{eqb-true, eqb-false}
 use Rattle.rules.specs.Settings.{markWords, settingsOk}
-use Rattle.rules.specs.Order.{Op, start, stop, write, receive, suspend, resume, part}
+use Rattle.rules.specs.Order as order
+use Rattle.rules.specs.Order.{Op, start, stop, write, receive, suspend, resume, part, queue, make, post}
 use Rattle.rules.specs.Device.{sharesOk, closedDevice, sound}
-use Rattle.rules.specs.Machine.{Answer, refused, pendingIn, State, closed, opened, fresh, slotOf, Call, step, lent, stored}
+use Rattle.rules.specs.Machine.{Answer, refused, pendingIn, entriesIn, Slot, State, closed, opened, fresh, slotOf, Call, step, lent, stored}
 use Rattle.rules.specs.History.{historyOf}
 use Rattle.rules.specs.Demands.{sessionEnd, sessionHistory, lentBytes}
 use Rattle.rules.specs.Demands as rules-demands
 use Rattle.rules.specs.declared.Settings.{Settings}
 use Rattle.record.specs.Record.{soundWith}
-use Rattle.calls.specs.Calls.{freshChange, startChange, stopChange, writeNote, receiveReceipt, suspendChange, resumeChange, partChange}
+use Rattle.calls.specs.Calls.{freshChange, startChange, stopChange, writeNote, receiveReceipt, suspendChange, resumeChange, partChange, makeChange, postChange, takeChange}
 use Rattle.demands.specs.View.{view, Outcome, runAs, run}
 use Rattle.demands.specs.Sessions.{Left, Given, Sized, begun, outcome, leftAfter, endOf, historyIn, bytesIn}
 use Rattle.demands.specs.Demand2.{Equals}
@@ -39,22 +40,26 @@ closed-unsound : (words : ℕ) → soundWith closedDevice words ≡ false
 unfolding soundWith sound settingsOk
 closed-unsound words = refl
 
-closed-run : (ws area : List ℕ) (id : ℕ) (o : Op) → runAs closedDevice ws area id o ≡ record { answer = refused 1 0; device = closedDevice; marks = ws; area = area; bytes = lent o }
-unfolding startChange stopChange writeNote receiveReceipt suspendChange resumeChange partChange
-closed-run ws area id (start x) = rw (closed-unsound (length ws))
-closed-run ws area id stop = rw (closed-unsound (length ws))
-closed-run ws area id (write w) = rw (closed-unsound (length ws))
-closed-run ws area id (receive x) = rw (closed-unsound (length ws))
-closed-run ws area id (suspend kind) = rw (closed-unsound (length ws))
-closed-run ws area id resume = rw (closed-unsound (length ws))
-closed-run ws area id (part p) = rw (closed-unsound (length ws))
+closed-run : (ws area : List ℕ) (qs : ℕ → List ℕ) (id : ℕ) (o : Op)
+    → runAs closedDevice ws area qs id o ≡ record { answer = refused 1 0; device = closedDevice; marks = ws; area = area; queues = qs; bytes = lent o }
+unfolding startChange stopChange writeNote receiveReceipt suspendChange resumeChange partChange makeChange postChange takeChange
+closed-run ws area qs id (start x) = rw (closed-unsound (length ws))
+closed-run ws area qs id stop = rw (closed-unsound (length ws))
+closed-run ws area qs id (write w) = rw (closed-unsound (length ws))
+closed-run ws area qs id (receive x) = rw (closed-unsound (length ws))
+closed-run ws area qs id (suspend kind) = rw (closed-unsound (length ws))
+closed-run ws area qs id resume = rw (closed-unsound (length ws))
+closed-run ws area qs id (part p) = rw (closed-unsound (length ws))
+closed-run ws area qs id (queue bytes make) = rw (closed-unsound (length ws))
+closed-run ws area qs id (queue bytes (post e)) = rw (closed-unsound (length ws))
+closed-run ws area qs id (queue bytes (order.take asked x)) = rw (closed-unsound (length ws))
 
 abbrev shut : Given → Left
-shut m = record { device = closedDevice; marks = m .marks; area = m .area }
+shut m = record { device = closedDevice; marks = m .marks; area = m .area; queues = m .queues }
 
-closed-outcome : (m : Given) (k : Call) → outcome (shut m) k ≡ record { answer = refused 1 0; device = closedDevice; marks = m .marks; area = m .area; bytes = lent (k .op) }
+closed-outcome : (m : Given) (k : Call) → outcome (shut m) k ≡ record { answer = refused 1 0; device = closedDevice; marks = m .marks; area = m .area; queues = m .queues; bytes = lent (k .op) }
 unfolding run
-closed-outcome m k = closed-run (m .marks) (m .area) (k .id) (k .op)
+closed-outcome m k = closed-run (m .marks) (m .area) (m .queues) (k .id) (k .op)
 
 pub closed-answer : (m : Given) (k : Call) → (outcome (shut m) k .answer ≡ refused 1 0) × (outcome (shut m) k .bytes ≡ lent (k .op))
 closed-answer m k = (ap (λ (o : Outcome). o .answer) (closed-outcome m k), ap (λ (o : Outcome). o .bytes) (closed-outcome m k))
@@ -62,7 +67,7 @@ closed-answer m k = (ap (λ (o : Outcome). o .answer) (closed-outcome m k), ap (
 closed-stays : (ks : List Call) (m : Given) → leftAfter (shut m) ks ≡ shut m
 closed-stays [] m = refl
 closed-stays (k ∷ ks) m =
-    ap (λ (o : Outcome). leftAfter (record { device = o .device; marks = o .marks; area = o .area }) ks) (closed-outcome m k) ∙ closed-stays ks m
+    ap (λ (o : Outcome). leftAfter (record { device = o .device; marks = o .marks; area = o .area; queues = o .queues }) ks) (closed-outcome m k) ∙ closed-stays ks m
 
 pub closed-session : (s : Settings) (m : Given) (ks : List Call) → freshChange s (m .marks) .answer .number ≢ 0 → endOf s m ks ≡ shut m
 closed-session s m ks e = let z = fresh-answers s (m .marks) .refused e in rw (z .0, z .1) (closed-stays ks m)
@@ -78,7 +83,7 @@ closed-same (k ∷ ks) m =
     let t = step-unsound closed k closed-state in
     same-next k ks (shut m) closed (ap (λ (x : Outcome). x .answer) o ∙ sym (ap (λ (x : Answer × State). x .0) t))
     (ap (λ (x : Outcome). x .bytes) o ∙ sym (ap (λ (x : Outcome). stored (k .id) (lent (k .op)) (x .answer)) o))
-    (subst (λ (x : Outcome). Same (record { device = x .device; marks = x .marks; area = x .area }) ((step closed k) .1) ks) (sym o)
+    (subst (λ (x : Outcome). Same (record { device = x .device; marks = x .marks; area = x .area; queues = x .queues }) ((step closed k) .1) ks) (sym o)
     (subst (λ (x : Answer × State). Same (shut m) (x .1) ks) (sym t) (closed-same ks m)))
 
 module _ (s : Settings) (m : Given) (ks : List Call) (sized : Sized s m) where
@@ -103,7 +108,7 @@ module _ (s : Settings) (m : Given) (ks : List Call) (sized : Sized s m) where
     pub history-same : historyIn s m ks a ≡ sessionHistory s (length (m .marks)) ks a
     history-same = ap (historyOf a) (session .told)
 
-    pub slot-same : slotOf (view (endOf s m ks .device) (endOf s m ks .marks) (endOf s m ks .area)) a ≡ slotOf (sessionEnd s (length (m .marks)) ks) a
+    pub slot-same : slotOf (view (endOf s m ks .device) (endOf s m ks .marks) (endOf s m ks .area) (endOf s m ks .queues)) a ≡ slotOf (sessionEnd s (length (m .marks)) ks) a
     slot-same = ap (λ (st : State). slotOf st a) (session .state)
 
     pub bytes-same : bytesIn s m ks a ≡ lentBytes a (sessionHistory s (length (m .marks)) ks a)
@@ -111,4 +116,4 @@ module _ (s : Settings) (m : Given) (ks : List Call) (sized : Sized s m) where
 
     -- what the rules give for other calls that agree with these
     pub equals : (ks′ : List Call) → rules-demands.Agree s (length (m .marks)) a ks ks′ → Equals s a m ks ks′
-    equals ks′ w = record { answers = history-same ∙ w .answers; bytes = bytes-same ∙ w .bytes; units = ap pendingIn slot-same ∙ w .units }
+    equals ks′ w = record { answers = history-same ∙ w .answers; bytes = bytes-same ∙ w .bytes; units = ap pendingIn slot-same ∙ w .units; queued = ap (λ (c : Slot). entriesIn (c .queue)) slot-same ∙ w .queued }

@@ -3,7 +3,7 @@ use mathlib.Core.Path.{refl}
 use mathlib.Core.List.{[], _∷_}
 use mir.Syntax.{w16, w64}
 use mir.Val.{vint, vstruct, ofList}
-use Rattle.demands.specs.Contracts.{AsksNothing, CallsAre, BatchIs, HasRoom, StructuresAre, ReaderIs, Contracts}
+use Rattle.demands.specs.Contracts.{AsksNothing, CallsAre, BatchIs, HasRoom, Lent, StructuresAre, ReaderIs, Contracts}
 
 asks : AsksNothing
 asks =
@@ -17,6 +17,9 @@ asks =
       suspend = λ κs a. tt;
       resume = λ κs a. tt;
       set-state = λ κs a. tt;
+      make-queue = λ κs a. tt;
+      post = λ κs a. tt;
+      take-queue = λ κs a. tt;
       read-header = λ κs a. tt;
       read-ranges = λ κs a. tt;
       read-start = λ κs a. tt;
@@ -48,6 +51,9 @@ calls =
       suspend = λ κs a r e p. p;
       resume = λ κs a r e p. p;
       set-state = λ κs a r e p. p;
+      make-queue = λ κs a r e p. p;
+      post = λ κs a r e p. p;
+      take-queue = λ κs a r e p. p;
     }
 
 batch : BatchIs
@@ -58,6 +64,10 @@ room r i a b = (
   (vint w16 (r .id) ∷ [], (vint w64 (r .address) ∷ [], (vstruct (ofList (vint w64 (r .bytes .0) ∷ [])) ∷ [], tt))),
   (refl, ((refl, i), ((refl, a), (((vint w64 (r .bytes .0) ∷ [], tt), (refl, ((refl, b), tt))), tt)))),
 )
+
+lent : Lent
+lent =
+    record { start = refl; stop = refl; write = refl; receive = refl; suspend = refl; resume = refl; set-state = refl; make-queue = refl; post = refl; take-queue = refl }
 
 structures : StructuresAre
 structures =
@@ -86,4 +96,4 @@ reader =
     }
 
 pub contracts : Contracts
-contracts = record { asks = asks; calls = calls; batch = batch; room = room; wide = refl; structures = structures; reader = reader; line = λ κs a r e p. p }
+contracts = record { asks = asks; calls = calls; batch = batch; room = room; lent = lent; structures = structures; reader = reader; line = λ κs a r e p. p }

@@ -12,7 +12,8 @@ use borrow.Author.Tests.{le-leb, lt-leb, eq-eqb, ne-eqb}
 use Rattle.rules.specs.Refusals.{_else_, refusal}
 use Rattle.rules.specs.Settings.{placeOf, granularityOk}
 use Rattle.rules.specs.StartData.{granularityOf, countOf, headerTests, readTests, startData}
-use Rattle.rules.specs.Order.{start, stop, write, receive, suspend, resume, part, Part, Seen, startOrder, stopOrder, writeOrder, receiveOrder, suspendOrder, resumeOrder, partOrder}
+use Rattle.rules.specs.Order.{start, stop, write, receive, suspend, resume, part, Part, Seen, startOrder, stopOrder, writeOrder, receiveOrder, suspendOrder, resumeOrder, partOrder, queueOrder}
+use Rattle.rules.specs.Order as order
 use Rattle.rules.specs.Machine.{refused, noReport}
 use Rattle.rules.specs.Device.{soundDevice}
 use Rattle.rules.proofs.RefusalLaws.{verdict-has, verdict-refused}
@@ -21,15 +22,15 @@ use Rattle.rules.specs.ReportReader.{reportTests, reportRefusal}
 use Rattle.rules.specs.declared.Settings.{Settings}
 use Rattle.rules.specs.declared.Header.the-variants.{Is, Refused}
 use Rattle.rules.specs.declared.Device.{Device}
-use Rattle.record.specs.Record.{soundWith, controllerAt, seenIn, arrivingIn}
+use Rattle.record.specs.Record.{isOn, soundWith, controllerAt, placesOf, hasStopped, seenIn, arrivingIn}
 use Rattle.start_data.specs.Answer.{Said}
 use Rattle.start_data.proofs.Answers.{headerOf-says, startData-says, startData-none, startWritten-refused}
 use Rattle.report_reader.proofs.AnswerLaws.{refused-answer, index-zero}
-use Rattle.calls.specs.Calls.{Change, changed, startedWith, startDone, startChange, stopDone, stopChange, flagDone, suspendChange, resumeDone, resumeChange, Note, noted, writeDone, writeNote, Receipt, received, receiveDone, receiveReceipt, Arrival, arrival, partDone, partChange}
+use Rattle.calls.specs.Calls.{Change, changed, startedWith, startDone, startChange, stopDone, stopChange, flagDone, suspendChange, resumeDone, resumeChange, Note, noted, writeDone, writeNote, Receipt, received, receiveDone, receiveReceipt, Arrival, arrival, partDone, partChange, makeDone, makeChange, Posting, posting, postDone, postChange, Taking, taking, takeDone, takeChange}
 use Rattle.calls.specs.declared.Changed.{Changed}
 use Rattle.calls.specs.declared.Started.{Started}
 use Rattle.demands.specs.Demand1.{Answers, Demand1}
-use Rattle.demands.proofs.AnswerLaws.{answers, fresh-answers, start-zero, row-is, stop-zero, flag-zero, resume-zero, write-zero, receive-zero, part-zero}
+use Rattle.demands.proofs.AnswerLaws.{answers, fresh-answers, start-zero, row-is, stop-zero, flag-zero, resume-zero, write-zero, receive-zero, part-zero, make-zero, post-zero, take-zero}
 
 -- a start answers by its table
 start-number : (d : Device) (ws : List ℕ) (id : ℕ) (x : List ℕ)
@@ -88,12 +89,25 @@ leaves d words id kind =
     at none = refl
     at (some i) = refl
 
+sees-sound : (d : Device) (words : ℕ) → soundWith d words ≡ (soundDevice d && eqb words 256)
+unfolding soundWith
+sees-sound d words = refl
+
 pub demand-1 : Demand1
-unfolding stopChange writeNote receiveReceipt suspendChange resumeChange partChange
+unfolding stopChange writeNote receiveReceipt suspendChange resumeChange partChange makeChange postChange takeChange
 demand-1 =
     record {
       fresh = fresh-answers;
       fresh-order = λ s words. refl;
+      sees = λ d words i. (sees-sound d words, refl, refl);
+      sees-nobody = λ d words. (sees-sound d words, refl);
+      sees-off = λ d words i e. ap isOn e;
+      sees-on = λ d words i g n e. ap isOn e;
+      stop-order = λ v. refl;
+      write-order = λ v w. refl;
+      receive-order = λ v x. refl;
+      suspend-order = λ v kind. refl;
+      resume-order = λ v. refl;
       start = start-number;
       row = row-is;
       before = eight;
@@ -126,6 +140,23 @@ demand-1 =
           answers Arrival (λ a. a .answer .number) (λ a. (a .answer .whole ≡ 0) × (a .answer .device ≡ d) × (a .area ≡ area))
           (partOrder (seenIn d words (placeOf (d .settings) id)) (arrivingIn (d .sequence) area id) p) (partDone d area id p) (λ n j. arrival n 0 d area)
           (part-zero d area id p) (λ n j. refl) (λ n j. (refl, refl, refl));
+      make = λ d words id bytes.
+          answers Changed (λ c. c .number) (λ c. c .device ≡ d) (queueOrder (seenIn d words (placeOf (d .settings) id)) bytes order.make) (makeDone d bytes (placeOf (d .settings) id))
+          (λ n i. record { number = n; device = d }) (make-zero d bytes (placeOf (d .settings) id)) (λ n i. refl) (λ n i. refl);
+      post = λ d words area id e.
+          answers Posting (λ r. r .answer .number) (λ r. (r .answer .stopped ≡ false) × (r .answer .device ≡ d) × (r .area ≡ area))
+          (queueOrder (seenIn d words (placeOf (d .settings) id)) (length area) (order.post e)) (postDone d area e (placeOf (d .settings) id)) (λ n i. posting n false d area)
+          (post-zero d area e (placeOf (d .settings) id)) (λ n i. refl) (λ n i. (refl, refl, refl));
+      take = λ d words area id asked x.
+          answers Taking (λ r. r .answer .number) (λ r. (r .answer ≡ record { number = r .answer .number; count = 0; closing = false; device = d }) × (r .buffer ≡ x))
+          (queueOrder (seenIn d words (placeOf (d .settings) id)) (length area) (order.take asked x)) (takeDone d area asked x (placeOf (d .settings) id)) (λ n i. taking n 0 false d x)
+          (take-zero d area asked x (placeOf (d .settings) id)) (λ n i. refl) (λ n i. (refl, refl));
+      make-order = λ v bytes. refl;
+      post-order = λ v bytes e. refl;
+      take-order = λ v bytes asked x. refl;
+      size-made = λ n bytes. (refl, refl);
+      sees-none = λ d words i e. (ap placesOf e, ap hasStopped e);
+      sees-queue = λ d words i r e. (ap placesOf e, ap hasStopped e);
       part-lent = lent;
       part-order = λ v a p. refl;
       part-next = λ f p. (refl, refl);

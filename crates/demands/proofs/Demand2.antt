@@ -15,14 +15,14 @@ use Rattle.bits.proofs.Flat.{flat-at, flat-length}
 use Rattle.bits.proofs.Share.{getShare-at, getShare-length}
 use Rattle.little.specs.Little.{put}
 use Rattle.little.proofs.Put.{put-take-front}
-use Rattle.rules.specs.Lists.{join}
+use Rattle.rules.specs.Lists.{join, placeFrom}
 use Rattle.rules.specs.Refusals.{Test, passes}
-use Rattle.rules.specs.Settings.{markWords, mostUnits, placeOf, granularityOk}
+use Rattle.rules.specs.Settings.{markWords, mostUnits, identifiersOf, placeOf, granularityOk}
 use Rattle.rules.specs.Units.{Unit, Write, units, touches, mark, newly}
 use Rattle.rules.specs.Ranges.{powersOk}
 use Rattle.rules.specs.StartData.{granularityOf, countOf, rangesOf, headerTests}
 use Rattle.rules.specs.Report.{descriptor, room, marksLeft, reportedRuns, reportBytes}
-use Rattle.rules.specs.Order.{Op, start, stop, write, receive, Part, Seen, order, startWho, startListed, startOwn, startShared, startOrder, stopOrder, writeOrder, receiveOrder}
+use Rattle.rules.specs.Order.{Op, start, stop, write, receive, Part, Seen, order, startWho, startListed, startOwn, startShared, startOrder, stopOrder, writeOrder, receiveOrder, suspendOrder, resumeOrder, partOrder, isLast, joinedWith, offsetOf}
 use Rattle.rules.specs.Device.{cleaned, freshDevice, freshOf, soundDevice}
 use Rattle.rules.specs.Machine.{off, on, Slot, isSuspended, refused, noReport, State, pendingIn, countsIn, unitsIn, seenAt, slotOf, slotAt, Call, step, fresh, lent}
 use Rattle.rules.specs.History.{Did, pendingBy, PendingBy, tracksBy, suspendedBy, marksBy, slotBy}
@@ -44,7 +44,7 @@ use Rattle.rules.proofs.StateLaws.{placeOf-is, cleaned-place, after-settings, s
 use Rattle.rules.proofs.OrderLaws.{startOrder-passed}
 use Rattle.rules.proofs.SoundLaws.{fresh-opens}
 use Rattle.rules.proofs.Theorems as rules
-use Rattle.record.specs.Record.{soundWith, noController, controllerAt, seenIn, arrivingIn}
+use Rattle.record.specs.Record.{soundWith, noController, controllerAt, seenIn, arrivingIn, frontIn, withSequence}
 use Rattle.ranges.proofs.RangeLaws.{HeldFacts}
 use Rattle.record.proofs.RecordLaws.{soundDevice-facts, soundDevice-held, soundDevice-inside}
 use Rattle.calls.proofs.PoolLaws.{sizesOf-at, sizesOf-share}
@@ -53,20 +53,24 @@ use Rattle.report_reader.proofs.ReadBack.{reads-back}
 use Rattle.calls.specs.declared.Changed.{Changed}
 use Rattle.calls.specs.declared.Started.{Started as StartAnswer}
 use Rattle.calls.specs.declared.StateSet.{StateSet}
-use Rattle.calls.specs.Calls.{marksAt, withMarks, freshChange, Change, changed, startedWith, startDone, startChange, stopDone, stopChange, flagDone, suspendChange, dropped, resumeDone, resumeChange, Note, noted, noteIn, writeDone, writeNote, Receipt, received, reportIn, receiveIn, receiveDone, receiveReceipt, Arrival, partChange}
+use Rattle.calls.specs.Calls.{marksAt, withMarks, freshChange, Change, changed, startedWith, startDone, startChange, stopDone, stopChange, flagDone, suspendChange, dropped, resumeDone, resumeChange, Note, noted, noteIn, writeDone, writeNote, Receipt, received, reportIn, receiveIn, receiveDone, receiveReceipt, Arrival, partChange, partDone, arrival}
 use Rattle.demands.specs.View.{marksOf, slotOf as slotSeen, frontAt, view, run}
 use Rattle.demands.specs.Sessions.{Left, Given, Sized, begun, outcome, next, endOf, historyIn}
-use Rattle.demands.specs.Parts.{wholeBy, IsFinal, Arrives}
+use Rattle.demands.specs.Parts.{wholeBy, IsFinal, arriving, Arrives}
 use Rattle.demands.specs.Soundness.{baseAt}
 use Rattle.demands.specs.Demand2.{pendingOf, Shaped, Steps, bitOf, sizeAt, toldOf, Elsewhere, Kept, flaggedAt, Resumed, Started, Stopped, Wrote, Received, Tracked, Moves, starts, stops, writes, Stands, Keeps, Demand2}
 use Rattle.demands.proofs.MarkLaws.{put-bit, put-elsewhere}
-use Rattle.demands.proofs.ViewLaws.{Listed, Fits, slot-at, seen-same, placeOf-used, front-own}
+use Rattle.demands.proofs.ViewLaws.{Listed, Totalled, Fits, slot-at, seen-same, placeOf-used, front-own}
 use Rattle.demands.proofs.StepLaws.{not-on, is-on, listed-some, order-numbers, call-step}
 use Rattle.demands.proofs.Pool.{packs-start, clears-stop}
 use Rattle.demands.proofs.SessionLaws.{begins, fits-after, left-append, after-append}
 use Rattle.demands.proofs.ClosedLaws.{fresh-done, session, history-same, slot-same, equals}
 use Rattle.demands.proofs.AnswerLaws.{fresh-answers, write-zero}
 use Rattle.demands.proofs.Soundness.{soundness}
+use Rattle.demands.proofs.Queues.{queue-calls, logs}
+use Rattle.rules.proofs.Sessions.{known-session}
+use Rattle.rules.proofs.QueueHistory.{Logged}
+use Rattle.demands.specs.Queues.{Logs}
 use Rattle.demands.proofs.Parts.{arrives, part-unknown}
 
 -- ---- fresh
@@ -85,6 +89,19 @@ is-place s a i eight e =
     let p = placeOf-is s a i e in
     let n : i < s .count = omega (arith, p .0, length-take (s .count) (s .identifiers)) in
     (n, sym (getD-take (s .count) (s .identifiers) i 0 n) ∙ p .1)
+
+is-found : (s : Settings) (a i : ℕ) → length (s .identifiers) ≡ 8 → i < s .count → i < 8 → getD (s .identifiers) i 0 ≡ a → placeOf s a ≢ none
+unfolding placeOf
+is-found s a i eight h k e = go (identifiersOf s) 0 i (omega (arith, h, k, eight, length-take (s .count) (s .identifiers))) (getD-take (s .count) (s .identifiers) i 0 h ∙ e)
+  where
+    go : (xs : List ℕ) (j m : ℕ) → m < length xs → getD xs m 0 ≡ a → placeFrom j xs a ≢ none
+    go [] j m h e = absurd (omega (arith, h))
+    go (x ∷ xs) j zero h e = rw (eq-eqb x a e) (λ z. let q : _≡_ {A = ℕ} 0 1 = cc in absurd (omega arith))
+    go (x ∷ xs) j (suc m) h e = by (eqb x a) (go xs (suc j) m (omega (arith, h)) e)
+      where
+        by : (b : Bool) → placeFrom (suc j) xs a ≢ none → cond b (some j) (placeFrom (suc j) xs a) ≢ none
+        by true f z = let q : _≡_ {A = ℕ} 0 1 = cc in absurd (omega arith)
+        by false f z = f z
 
 -- ---- laws of lists
 
@@ -213,6 +230,9 @@ module _ (s : Settings) (m : Given) (ks : List Call) (sizes : Sized s m) (made :
   abbrev area : List ℕ
   area = endOf s m ks .area
 
+  abbrev qs : ℕ → List ℕ
+  qs = endOf s m ks .queues
+
   fits : Fits d l area
   fits = let f = fresh-done s (m .marks) made in fits-after ks (begun s m) (begins s m sizes (f .0) (f .1) .fits)
 
@@ -238,7 +258,7 @@ module _ (s : Settings) (m : Given) (ks : List Call) (sizes : Sized s m) (made :
     abbrev h : List Did
     h = historyIn s m ks a
 
-    is-told : slotOf (view d l area) a ≡ slotBy h
+    is-told : slotOf (view d l area qs) a ≡ slotBy h
     is-told = slot-same s m ks sizes a ∙ rules.demand-2 .pending s (length (m .marks)) ks a .told ∙ ap slotBy (sym (history-same s m ks sizes a))
 
     place-of : placeOf (d .settings) a ≡ placeOf s a
@@ -259,8 +279,8 @@ module _ (s : Settings) (m : Given) (ks : List Call) (sizes : Sized s m) (made :
       inside : i < 8
       inside = omega (arith, used, soundDevice-facts d sound .count)
 
-      is-slot : slotSeen l c (frontAt (d .settings) (d .sequence) area i) ≡ slotBy h
-      is-slot = sym (slot-at d l area fits i used inside) ∙ sym (ap (slotAt (view d l area)) place) ∙ is-told
+      is-slot : slotSeen l c (frontAt (d .settings) (d .sequence) area i) (qs i) ≡ slotBy h
+      is-slot = sym (slot-at d l area qs fits i used inside) ∙ sym (ap (slotAt (view d l area qs)) place) ∙ is-told
 
       flag-is : c .suspended ≡ suspendedBy false h
       flag-is = ap isSuspended is-slot
@@ -315,8 +335,16 @@ module _ (s : Settings) (m : Given) (ks : List Call) (sizes : Sized s m) (made :
 
       is-arriving : Arrives (endOf s m ks) h a
       is-arriving =
-          arrives d l area fits a i h place sound flag-is
+          arrives d l area qs fits a i h place sound flag-is
           (sym (front-own (d .settings) a i place (d .sequence) area) ∙ ap (λ (z : Slot). z .front) is-slot)
+
+      -- ---- its queue
+
+      is-logging : Logs (endOf s m ks) h a i
+      is-logging =
+          logs (endOf s m ks) h a i (fits .controllers) place sure
+          (subst (Logged h) (ap (λ (z : Slot). z .queue) (sym (slot-same s m ks sizes a) ∙ ap (slotAt (view d l area qs)) place ∙ slot-at d l area qs fits i used inside))
+          (subst (λ (h : List Did). Logged h (slotOf (sessionEnd s (length (m .marks)) ks) a .queue)) (sym (history-same s m ks sizes a)) (known-session s (length (m .marks)) a ks .queue)))
 
       -- ---- what is not refused
 
@@ -335,7 +363,7 @@ module _ (s : Settings) (m : Given) (ks : List Call) (sizes : Sized s m) (made :
       unfolding startChange
       may-start x e idle ok fit few =
           let v = seenIn d (length l) (some i) in
-          let seen = subst (λ q. seenIn d (length l) q ≡ seenAt (view d l area) q) place (seen-same d l area fits a) in
+          let seen = subst (λ q. seenIn d (length l) q ≡ seenAt (view d l area qs) q) place (seen-same d l area qs fits a) in
           let counts : v .counts ≡ countsIn (sessionEnd s (length (m .marks)) ks) = ap (λ (z : Seen). z .counts) seen ∙ ap countsIn (session s m ks sizes .state) in
           let units-held : v .units ≡ unitsIn (sessionEnd s (length (m .marks)) ks) = ap (λ (z : Seen). z .units) seen ∙ ap unitsIn (session s m ks sizes .state) in
           let structure : Passed (headerTests x ++ startListed (d .settings) x) = subst (λ (ts : List Test). Passed (headerTests x ++ ts)) (sym (listed-same x)) (passes-Passed (headerTests x ++ startListed s x) ok) in
@@ -353,7 +381,7 @@ module _ (s : Settings) (m : Given) (ks : List Call) (sizes : Sized s m) (made :
 
       -- ---- suspended, as its calls and answers tell
 
-      is-refused : suspendedBy false h ≡ true → (o : Op) → Moves o → outcome (endOf s m ks) (record { id = a; op = o }) ≡ record { answer = refused 4 0; device = d; marks = l; area = area; bytes = lent o }
+      is-refused : suspendedBy false h ≡ true → (o : Op) → Moves o → outcome (endOf s m ks) (record { id = a; op = o }) ≡ record { answer = refused 4 0; device = d; marks = l; area = area; queues = qs; bytes = lent o }
       unfolding run startChange stopChange writeNote
       is-refused e o (starts x) = rw (place, sure, flag-is, e)
       is-refused e o stops = rw (place, sure, flag-is, e)
@@ -514,11 +542,11 @@ module _ (s : Settings) (m : Given) (ks : List Call) (sizes : Sized s m) (made :
         go (some i) k =
             rw (place i k) (verdict-has Idle (λ n i. noted n 0 l) (λ n i. (refl, refl)) (writeOrder (seenIn d (length l) (some i)) w) (writeDone d l w (some i)) (λ t. rw (is-off i k e) (refl, refl)))
 
-    is-suspended : suspendedBy false h ≡ true → (o : Op) → Moves o → outcome (endOf s m ks) (record { id = a; op = o }) ≡ record { answer = refused 4 0; device = d; marks = l; area = area; bytes = lent o }
+    is-suspended : suspendedBy false h ≡ true → (o : Op) → Moves o → outcome (endOf s m ks) (record { id = a; op = o }) ≡ record { answer = refused 4 0; device = d; marks = l; area = area; queues = qs; bytes = lent o }
     is-suspended e = go (placeOf s a) refl
       where
-        go : (q : Option ℕ) → placeOf s a ≡ q → (o : Op) → Moves o → outcome (endOf s m ks) (record { id = a; op = o }) ≡ record { answer = refused 4 0; device = d; marks = l; area = area; bytes = lent o }
-        go none k = absurd (true≢false (sym e ∙ ap isSuspended (sym is-told ∙ ap (slotAt (view d l area)) (place-of ∙ k))))
+        go : (q : Option ℕ) → placeOf s a ≡ q → (o : Op) → Moves o → outcome (endOf s m ks) (record { id = a; op = o }) ≡ record { answer = refused 4 0; device = d; marks = l; area = area; queues = qs; bytes = lent o }
+        go none k = absurd (true≢false (sym e ∙ ap isSuspended (sym is-told ∙ ap (slotAt (view d l area qs)) (place-of ∙ k))))
         go (some i) k = is-refused i k e
 
     pub is-standing : Stands s (endOf s m ks) h (countsIn (sessionEnd s (length (m .marks)) ks)) (unitsIn (sessionEnd s (length (m .marks)) ks)) a
@@ -535,6 +563,7 @@ module _ (s : Settings) (m : Given) (ks : List Call) (sizes : Sized s m) (made :
           suspends = λ i kind at. is-suspend i at kind;
           resumes = λ i at. is-resume i at;
           parts = λ i at. is-arriving i at;
+          queues = λ i at. is-logging i at;
         }
 
 -- ---- a record that no session made
@@ -545,17 +574,17 @@ All-from P (c ∷ cs) f = (f 0, All-from P cs (λ i. f (suc i)))
 
 shaped-fits : (l : Left) → Shaped l → Fits (l .device) (l .marks) (l .area)
 shaped-fits l s =
-    record { controllers = s .controllers; identifiers = s .identifiers; listed = All-from Listed (l .device .controllers) (s .listed); words = s .words; bytes = s .bytes }
+    record { controllers = s .controllers; identifiers = s .identifiers; listed = All-from Listed (l .device .controllers) (s .listed); totals = All-from Totalled (l .device .controllers) (s .totals); words = s .words; bytes = s .bytes }
 
 is-step : (l : Left) → Shaped l → (k : Call) → Steps l k
 is-step l s k =
-    let w = call-step (l .device) (l .marks) (l .area) (shaped-fits l s) k in
+    let w = call-step (l .device) (l .marks) (l .area) (l .queues) (shaped-fits l s) k in
     record { answer = w .answer; device = w .state; bytes = w .bytes }
 
 -- ---- W7: a call to another
 
 -- a record and marks that agree with the rules' device before and after a call: the units of a controller to which it was not made
-apart : (l l′ : Left) (st : State) (k : Call) (b : ℕ) → view (l .device) (l .marks) (l .area) ≡ st → view (l′ .device) (l′ .marks) (l′ .area) ≡ (step st k) .1 → k .id ≢ b
+apart : (l l′ : Left) (st : State) (k : Call) (b : ℕ) → view (l .device) (l .marks) (l .area) (l .queues) ≡ st → view (l′ .device) (l′ .marks) (l′ .area) (l′ .queues) ≡ (step st k) .1 → k .id ≢ b
     → pendingOf l′ b ≡ pendingOf l b
 apart l l′ st k b before afterwards other =
     ap (λ (x : State). pendingIn (slotOf x b)) afterwards ∙ ap pendingIn (step-other st k b other) ∙ sym (ap (λ (x : State). pendingIn (slotOf x b)) before)
@@ -563,18 +592,58 @@ apart l l′ st k b before afterwards other =
 undisturbed : (s : Settings) (m : Given) (ks : List Call) → Sized s m → (k : Call) (b : ℕ) → k .id ≢ b → pendingOf (next (endOf s m ks) k) b ≡ pendingOf (endOf s m ks) b
 undisturbed s m ks sized k b other =
     apart (endOf s m ks) (next (endOf s m ks) k) (sessionEnd s (length (m .marks)) ks) k b (session s m ks sized .state)
-    (ap (λ (l : Left). view (l .device) (l .marks) (l .area)) (sym (left-append ks (k ∷ []) (begun s m)))
+    (ap (λ (l : Left). view (l .device) (l .marks) (l .area) (l .queues)) (sym (left-append ks (k ∷ []) (begun s m)))
     ∙ session s m (ks ++ k ∷ []) sized .state
     ∙ after-append ks (k ∷ []) (fresh s (length (m .marks))))
     other
 
 unmoved : (l : Left) → Shaped l → (k : Call) (b : ℕ) → k .id ≢ b → pendingOf (next l k) b ≡ pendingOf l b
-unmoved l shaped k b other = apart l (next l k) (view (l .device) (l .marks) (l .area)) k b refl (is-step l shaped k .device) other
+unmoved l shaped k b other = apart l (next l k) (view (l .device) (l .marks) (l .area) (l .queues)) k b refl (is-step l shaped k .device) other
+
+suspends-so : (d : Device) (words a i : ℕ) → placeOf (d .settings) a ≡ some i → (kind : ℕ)
+    → let c = suspendChange d words a kind in
+    c .number ≡ 0 → c .device ≡ flaggedAt d i (controllerAt d (some i) .suspended || eqb kind 1)
+unfolding suspendChange
+suspends-so d words a i place kind z =
+    let r = verdict-done (λ (c : Changed). c .number) (suspendOrder (seenIn d words (some i)) kind) (flagDone d (some i) (controllerAt d (some i) .suspended || eqb kind 1)) (λ n j. record { number = n; device = d })
+    (λ n j. refl) (omega arith, (omega arith, (omega arith, tt))) (rw place at z) in
+    rw place (ap (λ (c : Changed). c .device) (r .0))
+
+resumes-so : (d : Device) (words a i : ℕ) → placeOf (d .settings) a ≡ some i → let c = resumeChange d words a in c .number ≡ 0 → Resumed d a i (c .device)
+unfolding resumeChange
+resumes-so d words a i place z =
+    let r = verdict-done (λ (c : Changed). c .number) (resumeOrder (seenIn d words (some i))) (resumeDone d a (some i)) (λ n j. record { number = n; device = d })
+    (λ n j. refl) (omega arith, (omega arith, (omega arith, tt))) (rw place at z) in
+    rw (place, r .0) (record { flag = refl; drops = λ end e. rw (e, eq-eqb a a refl); keeps = dropped-other a (d .sequence) })
+
+arrives-so : (d : Device) (words : ℕ) (area : List ℕ) (a i : ℕ) → placeOf (d .settings) a ≡ some i → (p : Part)
+    → let r = partChange d words area a p in
+    r .answer .number ≡ 0 → r .answer .device ≡ arriving d (r .answer .device .sequence)
+unfolding partChange
+arrives-so d words area a i place p z =
+    verdict-has (λ (r : Arrival). r .answer .device ≡ arriving d (r .answer .device .sequence)) (λ n j. arrival n 0 d area) (λ n j. refl)
+    (partOrder (seenIn d words (placeOf (d .settings) a)) (arrivingIn (d .sequence) area a) p) (partDone d area a p) (λ q. by (isLast p))
+  where
+    by : (b : Bool)
+        → let joined = joinedWith (frontIn a (d .sequence) area) p in
+        let stored = put area (offsetOf p) (p .bytes) in
+        let r = cond b (arrival 0 (length joined) (withSequence d Nothing) stored) (arrival 0 0 (withSequence d (Open a (length joined))) stored) in
+        r .answer .device ≡ arriving d (r .answer .device .sequence)
+    by true = refl
+    by false = refl
 
 keeps : (l : Left) → Shaped l → (a i : ℕ) → placeOf (l .device .settings) a ≡ some i → Keeps l a i
 keeps l s a i e =
     let fits = shaped-fits l s in
-    record { started = starts-so l fits a i e; stopped = stops-so l fits a i e; written = writes-so l fits a i e; received = receives-so l fits a i e }
+    record {
+      started = starts-so l fits a i e;
+      stopped = stops-so l fits a i e;
+      written = writes-so l fits a i e;
+      received = receives-so l fits a i e;
+      suspended = suspends-so (l .device) (length (l .marks)) a i e;
+      resumed = resumes-so (l .device) (length (l .marks)) a i e;
+      arrived = arrives-so (l .device) (length (l .marks)) (l .area) a i e;
+    }
 
 -- ---- two divisions
 
@@ -621,7 +690,7 @@ pub demand-2 : Demand2
 unfolding put
 demand-2 =
     record {
-      rules = λ s a m ks sized. equals s m ks sized a ks (record { answers = refl; bytes = refl; units = refl });
+      rules = λ s a m ks sized. equals s m ks sized a ks (record { answers = refl; bytes = refl; units = refl; queued = refl });
       steps = is-step;
       fresh = fresh-is;
       zeros = λ s. (refl, refl, refl);
@@ -631,7 +700,9 @@ demand-2 =
       stands = is-standing;
       undisturbed = undisturbed;
       unmoved = unmoved;
+      found = is-found;
       keeps = keeps;
+      queue-calls = λ l shaped a i at. queue-calls (l .device) (length (l .marks)) a i (shaped .controllers) at;
       divided = λ s s′ m m′ ks ks′ ok ok′ e e′ a a′ p p′. divided s m ks ok e a p s′ m′ ks′ ok′ e′ a′ p′;
       runs = rules.demand-2 .runs;
       touches = rules.demand-2 .touches;

@@ -8,7 +8,7 @@ use lib.Dec.{eqb}
 use lib.ListN.{length, getElem?}
 use borrow.Author.Tests.{eqb-true}
 use Rattle.rules.specs.Lists.{member}
-use Rattle.rules.specs.Order.{Op, start, stop, write, receive, suspend, resume, part}
+use Rattle.rules.specs.Order.{Op, start, stop, write, receive, suspend, resume, part, queue}
 use Rattle.rules.specs.Machine.{Call, numberOf}
 use Rattle.rules.specs.History.{Did, only}
 use Rattle.rules.specs.Demands.{sharedRefusals, unhindered}
@@ -28,6 +28,7 @@ agree s a m m′ ks ks′ js js′ e j l r =
       answers = l .answers ∙ rw (e, j) (sym (r .answers));
       bytes = l .bytes ∙ rw (e, j) (sym (r .bytes));
       units = l .units ∙ rw (e, j) (sym (r .units));
+      queued = l .queued ∙ rw (e, j) (sym (r .queued));
     }
 
 is-alone : (s : Settings) (a : ℕ) (m : Given) (ks : List Call) → Sized s m → unhindered (historyIn s m ks a) ≡ true → Equals s a m ks (only a ks)
@@ -46,6 +47,7 @@ free (receive x) n f = refl
 free (suspend kind) n f = refl
 free resume n f = refl
 free (part p) n f = false-intro _ (λ e. or-cases (eqb 23 n) false ⊥ e (λ q. f (subst (Shared (part p)) (eqb-true 23 n q) (sequence p))) (λ z. true≢false (sym z)))
+free (queue bytes k) n f = refl
 
 premise : (h : List Did) → ((i : ℕ) (d : Did) → getElem? h i ≡ some d → Shared (d .op) (numberOf (d .answer)) → ⊥) → unhindered h ≡ true
 premise [] f = refl

@@ -15,6 +15,9 @@ calls =
       suspend = λ κs a r r′ e e′ p q. p ∙ sym q;
       resume = λ κs a r r′ e e′ p q. p ∙ sym q;
       set-state = λ κs a r r′ e e′ p q. (p .0 ∙ sym (q .0), p .1 ∙ sym (q .1));
+      make-queue = λ κs a r r′ e e′ p q. p ∙ sym q;
+      post = λ κs a r r′ e e′ p q. (p .0 ∙ sym (q .0), p .1 ∙ sym (q .1));
+      take-queue = λ κs a r r′ e e′ p q. (p .0 ∙ sym (q .0), p .1 ∙ sym (q .1));
     }
 
 structure : Structure

@@ -1,5 +1,6 @@
 pub mod MarkLaws
 pub mod ViewLaws
+pub mod QueueLaws
 pub mod StepLaws
 pub mod Pool
 pub mod SessionLaws
@@ -9,6 +10,7 @@ pub mod Contracts
 pub mod Demand1
 pub mod Soundness
 pub mod Parts
+pub mod Queues
 pub mod Demand2
 pub mod Structures
 pub mod Reserved

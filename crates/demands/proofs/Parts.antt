@@ -78,7 +78,7 @@ part-unknown d words area id p e = λ z. go (soundWith d words && eqb (length ar
     go true = λ z. absurd (omega (arith, z))
     go false = λ z. absurd (omega (arith, z))
 
-module _ (d : Device) (ws area : List ℕ) (fits : Fits d ws area) (a i : ℕ) (h : List Did) (place : placeOf (d .settings) a ≡ some i) (sure : soundDevice d ≡ true)
+module _ (d : Device) (ws area : List ℕ) (qs : ℕ → List ℕ) (fits : Fits d ws area) (a i : ℕ) (h : List Did) (place : placeOf (d .settings) a ≡ some i) (sure : soundDevice d ≡ true)
     (flag-is : controllerAt d (some i) .suspended ≡ suspendedBy false h) (front-is : frontIn a (d .sequence) area ≡ frontBy h) where
   -- ---- the sequence
 
@@ -280,7 +280,7 @@ module _ (d : Device) (ws area : List ℕ) (fits : Fits d ws area) (a i : ℕ) (
         fitting passed,
       )
 
-  pub arrives : Arrives (record { device = d; marks = ws; area = area }) h a
+  pub arrives : Arrives (record { device = d; marks = ws; area = area; queues = qs }) h a
   arrives =
       record {
         under-way = (open-told, open-said);

@@ -1,27 +1,32 @@
 -- Refusal 1, proved: a record is sound exactly if it is so in plain words, and no calls from a fresh device lead to an unsound one. Assumes nothing.
 use mathlib.Core.Path.{_≡_, refl, sym, ap, ap₂, subst, _∙_}
 use mathlib.Core.Logic.{_≢_, _⊎_, inl, inr}
-use mathlib.Core.Bool.{Bool, true, false, not, _&&_, and-false, true≢false}
+use mathlib.Core.Bool.{Bool, true, false, not, _&&_, _||_, and-false, true≢false}
 use mathlib.Core.List.{List, [], _∷_, map}
 use mathlib.Core.Option.{Option, none, some}
 use Prim.Native.Nat.{ℕ, zero, suc, _+_, _%_, _≤_, _<_}
 use native.Mathlib.Omega.{arith}
-use lib.Dec.{leb, eqb}
+use lib.Dec.{leb, ltb, eqb}
 use lib.ListN.{length, take, getD, length-take}
 use lib.Seq.{getD-take, length-take-le}
-use borrow.Author.Tests.{le-leb, leb-true, leb-false, eq-eqb, ne-eqb, eqb-true}
+use borrow.Author.Tests.{le-leb, leb-true, leb-false, ltb-false, eq-eqb, ne-eqb, eqb-true}
 use Rattle.rules.specs.Settings.{identifiersOf, settingsOk, placeOf}
 use Rattle.rules.specs.Units.{units}
+use Rattle.rules.specs.Queue.{fillOf, queueOk}
+use Rattle.rules.specs.Order as order
 use Rattle.rules.specs.Order.{Op, start, stop, write, receive, suspend, resume, part}
 use Rattle.rules.specs.Machine.{refused, soundState, Call}
 use Rattle.rules.specs.Lists.{all, member, different, sum}
-use Rattle.rules.specs.Device.{heldCount, heldIn, heldOf, heldOk, noShare, shareIn, shareOf, sharesOf, sharesOk, frontOk, freshController, controllersOf, suspendedAt, sequenceOk, soundDevice}
+use Rattle.rules.specs.Device.{heldCount, heldIn, heldOf, heldOk, noShare, shareIn, shareOf, sharesOf, sharesOk, frontOk, freshController, controllersOf, suspendedAt, sequenceOk, queuesOk, soundDevice}
 use Rattle.rules.specs.Demands.{Lawful}
 use Rattle.rules.specs.declared.Share.{Share}
 use Rattle.rules.specs.declared.Tracking.{Tracking}
 use Rattle.rules.specs.declared.Tracking.the-variants.{Off, On}
 use Rattle.rules.specs.declared.Sequence.{Sequence}
 use Rattle.rules.specs.declared.Sequence.the-variants.{Nothing, Open}
+use Rattle.rules.specs.declared.Ring.{Ring}
+use Rattle.rules.specs.declared.Queue.{Queue}
+use Rattle.rules.specs.declared.Queue.the-variants as made
 use Rattle.rules.specs.declared.Settings.{Settings}
 use Rattle.rules.specs.declared.Controller.{Controller}
 use Rattle.rules.specs.declared.Device.{Device}
@@ -32,18 +37,35 @@ use Rattle.rules.proofs.SoundLaws.{sound-intro}
 use Rattle.rules.proofs.Theorems as rules
 use Rattle.settings.proofs.SettingsLaws.{settingsOk-at, settingsOk-some, settingsOk-count, settingsOk-greatest, settingsOk-limit}
 use Rattle.record.specs.Record.{soundWith, noController, controllerAt}
-use Rattle.record.proofs.RecordLaws.{sharesOf-at, sharesOf-sizes, soundDevice-facts, soundDevice-sequence, soundDevice-all, soundDevice-inside, soundDevice-apart}
-use Rattle.calls.specs.Calls.{startChange, stopChange, suspendChange, resumeChange, writeNote, receiveReceipt, partChange}
+use Rattle.record.proofs.RecordLaws.{sharesOf-at, sharesOf-sizes, soundDevice-facts, soundDevice-sequence, soundDevice-all, soundDevice-inside, soundDevice-apart, soundDevice-queue}
+use Rattle.record.proofs.QueueLaws.{RingFacts, ring-facts, ring-intro}
+use Rattle.calls.specs.Calls.{startChange, stopChange, suspendChange, resumeChange, writeNote, receiveReceipt, partChange, fillIn, makeChange, postChange, takeChange}
 use Rattle.calls.proofs.PoolLaws.{sharesOf-none, sharesOf-length}
 use Rattle.demands.specs.View.{run, runAs}
 use Rattle.demands.specs.Sessions.{Left, outcome, begun, endOf}
-use Rattle.demands.specs.Soundness.{Settled, Whole, LawfulSequence, TracksAt, Sound, rangesIn, Shares, Soundness}
+use Rattle.demands.specs.Soundness.{Settled, Whole, LawfulSequence, LawfulRing, TracksAt, Sound, rangesIn, Shares, Soundness}
 use Rattle.demands.proofs.ViewLaws.{sound-same, placeOf-used}
 use Rattle.demands.proofs.SessionLaws.{begins, fits-after}
 use Rattle.demands.proofs.ClosedLaws.{fresh-done, closed-session, closed-answer, session}
 use Rattle.demands.proofs.AnswerLaws.{fresh-answers}
 
 -- ---- a sound record, in plain words
+
+-- what it says of a queue (W8)
+lawful-ring : (r : Ring) → RingFacts r → LawfulRing r
+unfolding fillOf
+lawful-ring r f = record { fill = f .fill; place = f .place; full = f .full }
+
+queue-ok : (q : Queue) → ((r : Ring) → q ≡ made.Is r → LawfulRing r) → queueOk q ≡ true
+unfolding queueOk fillOf
+queue-ok made.Nothing f = refl
+queue-ok (made.Is r) f =
+    let l = f r refl in
+    ring-intro r (l .fill) (l .place) (go (ltb (fillIn r) (r .size)) refl)
+  where
+    go : (b : Bool) → ltb (fillIn r) (r .size) ≡ b → (b || r .stopped) ≡ true
+    go true e = refl
+    go false e = let l = f r refl in l .full (omega (arith, l .fill, ltb-false (fillIn r) (r .size) e))
 
 -- what a sound record says of an open sequence
 lawful : (d : Device) (owner end : ℕ) → length (d .controllers) ≡ 8 → d .sequence ≡ Open owner end → soundDevice d ≡ true → LawfulSequence d owner end
@@ -102,6 +124,7 @@ module _ (d : Device) (whole : Whole d) where
             soundDevice-apart d i g n j f m e z (t .0) (u .0) (there i (t .0)) (there j (u .0)) (t .1) (u .1) (listed i (t .0)) (listed j (u .0));
         units = facts .units;
         sequence = λ owner end q. lawful d owner end (whole .controllers) q e;
+        queues = λ i r u q. lawful-ring r (ring-facts r (sym (ap queueOk q) ∙ soundDevice-queue d i e u (there i u)));
       }
 
   module _ (s : Sound d) where
@@ -167,28 +190,36 @@ module _ (d : Device) (whole : Whole d) where
             ap (suspendedAt (controllersOf d)) (l .known) ∙ ap (λ (c : Controller). c .suspended) (used-at (l .place) freshController u) ∙ l .suspended in
             rw (flag, le-leb 4 end (l .least), le-leb end 4096 (l .most), eq-eqb (end % 4) 0 (l .dwords))
 
+    queues-ok : queuesOk d ≡ true
+    queues-ok =
+        all-from (λ (c : Controller). queueOk (c .queue)) (controllersOf d) noController
+        (λ i h. ap (λ (c : Controller). queueOk (c .queue)) (used-at i noController (in-use i h)) ∙ queue-ok (controllerAt d (some i) .queue) (λ r q. s .queues i r (in-use i h) q))
+
     back : soundDevice d ≡ true
     back =
         sound-intro (d .settings) (map heldOf (controllersOf d)) _ (s .settings) all-held (s .limit) (s .units)
-        (and-intro (sequenceOk (d .settings) (controllersOf d) (d .sequence)) (sharesOk (sharesOf d)) sequence-ok all-apart)
+        (and-intro (sequenceOk (d .settings) (controllersOf d) (d .sequence)) _ sequence-ok (and-intro (sharesOk (sharesOf d)) (queuesOk d) all-apart queues-ok))
 
 -- ---- an unsound one
 
 -- an unsound record, or marks of another number of words
-unsound-run : (d : Device) (ws area : List ℕ) (id : ℕ) (o : Op) → soundWith d (length ws) ≡ false → runAs d ws area id o .answer ≡ refused 1 0
-unfolding startChange stopChange writeNote receiveReceipt suspendChange resumeChange partChange
-unsound-run d ws area id (start x) e = rw e
-unsound-run d ws area id stop e = rw e
-unsound-run d ws area id (write w) e = rw e
-unsound-run d ws area id (receive x) e = rw e
-unsound-run d ws area id (suspend kind) e = rw e
-unsound-run d ws area id resume e = rw e
-unsound-run d ws area id (part p) e = rw e
+unsound-run : (d : Device) (ws area : List ℕ) (qs : ℕ → List ℕ) (id : ℕ) (o : Op) → soundWith d (length ws) ≡ false → runAs d ws area qs id o .answer ≡ refused 1 0
+unfolding startChange stopChange writeNote receiveReceipt suspendChange resumeChange partChange makeChange postChange takeChange
+unsound-run d ws area qs id (start x) e = rw e
+unsound-run d ws area qs id stop e = rw e
+unsound-run d ws area qs id (write w) e = rw e
+unsound-run d ws area qs id (receive x) e = rw e
+unsound-run d ws area qs id (suspend kind) e = rw e
+unsound-run d ws area qs id resume e = rw e
+unsound-run d ws area qs id (part p) e = rw e
+unsound-run d ws area qs id (order.queue bytes order.make) e = rw e
+unsound-run d ws area qs id (order.queue bytes (order.post x)) e = rw e
+unsound-run d ws area qs id (order.queue bytes (order.take asked x)) e = rw e
 
 unsound : (l : Left) (k : Call) → (soundDevice (l .device) ≡ false) ⊎ (length (l .marks) ≢ 256) → outcome l k .answer ≡ refused 1 0
 unfolding run soundWith
-unsound l k (inl e) = unsound-run (l .device) (l .marks) (l .area) (k .id) (k .op) (rw e)
-unsound l k (inr h) = unsound-run (l .device) (l .marks) (l .area) (k .id) (k .op) (rw (ne-eqb (length (l .marks)) 256 h) (and-false (soundDevice (l .device))))
+unsound l k (inl e) = unsound-run (l .device) (l .marks) (l .area) (l .queues) (k .id) (k .op) (rw e)
+unsound l k (inr h) = unsound-run (l .device) (l .marks) (l .area) (l .queues) (k .id) (k .op) (rw (ne-eqb (length (l .marks)) 256 h) (and-false (soundDevice (l .device))))
 
 -- ---- all of it
 
@@ -284,7 +315,7 @@ soundness =
       kept = λ s m ks sized e.
           let f = fresh-done s (m .marks) e in
           let fits = fits-after ks (begun s m) (begins s m sized (f .0) (f .1) .fits) in (
-            sym (sound-same (endOf s m ks .device) (endOf s m ks .marks) (endOf s m ks .area) fits) ∙ ap soundState (session s m ks sized .state)
+            sym (sound-same (endOf s m ks .device) (endOf s m ks .marks) (endOf s m ks .area) (endOf s m ks .queues) fits) ∙ ap soundState (session s m ks sized .state)
                 ∙ rules.soundness .kept s (length (m .marks)) ks (sym (fresh-answers s (m .marks) .first) ∙ e),
             fits .words,
           );

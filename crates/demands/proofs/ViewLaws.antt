@@ -5,7 +5,7 @@ use mathlib.Core.Logic.{_≢_}
 use mathlib.Core.Bool.{Bool, true, false, _&&_, _||_, not, cond, and-true, and-false, true≢false}
 use mathlib.Core.List.{List, [], _∷_, map}
 use mathlib.Core.Option.{Option, none, some}
-use Prim.Native.Nat.{ℕ, zero, suc, _+_, _-_, _≤_, _<_}
+use Prim.Native.Nat.{ℕ, zero, suc, _+_, _-_, _^_, _≤_, _<_}
 use native.Mathlib.Omega.{arith}
 use lib.Dec.{eqb}
 use lib.ListN.{length, getD, set, take, length-take, length-set}
@@ -14,22 +14,25 @@ use borrow.Author.Tests.{eq-eqb, ne-eqb, eqb-true, eqb-false, not-false}
 use Rattle.rules.specs.Lists.{all, any, sum, isSome}
 use Rattle.rules.specs.Settings.{markWords, placeOf}
 use Rattle.rules.specs.ControllerState.{stateMost}
-use Rattle.rules.specs.Device.{heldCount, heldUnits, heldIn, heldOf, frontOk, freshController, controllersOf, suspendedAt, sequenceOk, sharesOf, sharesOk, sound, soundDevice}
-use Rattle.rules.specs.Machine.{Slot, freshSlot, areOn, heldOn, heldBy, isOpen, openOk, slotAt, withSlot, soundState, countsIn, unitsIn, seenAt, arrivingAt}
+use Rattle.rules.specs.Device.{heldCount, heldUnits, heldIn, heldOf, frontOk, freshController, controllersOf, suspendedAt, sequenceOk, sharesOf, sharesOk, queuesOk, sound, soundDevice}
+use Rattle.rules.specs.Machine.{Slot, freshSlot, areOn, heldOn, heldBy, isOpen, openOk, placesIn, stoppedIn, slotAt, withSlot, soundState, countsIn, unitsIn, seenAt, arrivingAt}
 use Rattle.rules.specs.declared.Range.{Range}
 use Rattle.rules.specs.declared.Tracking.{Tracking}
 use Rattle.rules.specs.declared.Tracking.the-variants.{Off, On}
 use Rattle.rules.specs.declared.Sequence.{Sequence}
 use Rattle.rules.specs.declared.Sequence.the-variants.{Nothing, Open}
+use Rattle.rules.specs.declared.Ring.{Ring}
+use Rattle.rules.specs.declared.Queue.{Queue}
+use Rattle.rules.specs.declared.Queue.the-variants as made
 use Rattle.rules.specs.declared.Controller.{Controller}
 use Rattle.rules.specs.declared.Device.{Device}
 use Rattle.rules.specs.declared.Settings.{Settings}
 use Rattle.rules.proofs.ListLaws.{All, All-take, getD-any, any-from, any-nowhere}
 use Rattle.rules.proofs.StateLaws.{placeOf-is, placeOf-apart}
-use Rattle.record.specs.Record.{soundWith, noController, isOn, countsOf, unitsOf, seenIn, othersIn, frontOf, frontIn, arrivingIn}
+use Rattle.record.specs.Record.{soundWith, noController, isOn, placesOf, hasStopped, countsOf, unitsOf, seenIn, othersIn, frontOf, frontIn, arrivingIn}
 use Rattle.record.proofs.RecordLaws.{frontOf-length, soundDevice-sequence}
 use Rattle.calls.specs.Calls.{dropped}
-use Rattle.demands.specs.View.{marksOf, slotOf, isAt, frontAt, slotsFrom, strayIn, amissIn, view}
+use Rattle.demands.specs.View.{marksOf, queueOf, slotOf, isAt, frontAt, slotsFrom, strayIn, amissIn, view}
 
 -- ---- what holds of each record and its marks in a session
 
@@ -37,41 +40,46 @@ use Rattle.demands.specs.View.{marksOf, slotOf, isAt, frontAt, slotsFrom
 abbrev pub Listed : Controller → Type 0
 Listed c = (g n : ℕ) → c .tracking ≡ On g n → n ≤ length (c .ranges)
 
+-- and its queue's totals have 32 bits
+abbrev pub Totalled : Controller → Type 0
+Totalled c = (r : Ring) → c .queue ≡ made.Is r → (r .posted < 2 ^ 32) × (r .taken < 2 ^ 32)
+
 pub record Fits (d : Device) (ws area : List ℕ) : Type 0 where
   pub controllers : length (d .controllers) ≡ 8
   pub identifiers : length (d .settings .identifiers) ≡ 8
   pub listed : All Listed (d .controllers)
+  pub totals : All Totalled (d .controllers)
   pub words : length ws ≡ markWords
   pub bytes : length area ≡ stateMost
 
 -- ---- the slot at a place
 
-module _ (ws : List ℕ) (f : ℕ → Option (List ℕ)) where
-  pub slots-length : (cs : List Controller) (k : ℕ) → length (slotsFrom ws f k cs) ≡ length cs
+module _ (ws : List ℕ) (f : ℕ → Option (List ℕ)) (qs : ℕ → List ℕ) where
+  pub slots-length : (cs : List Controller) (k : ℕ) → length (slotsFrom ws f qs k cs) ≡ length cs
   slots-length [] k = refl
   slots-length (c ∷ cs) k = ap suc (slots-length cs (suc k))
 
   slots-at : (cs : List Controller) (k n i : ℕ) → i < n → i < length cs
-      → getD (slotsFrom ws f k (take n cs)) i freshSlot ≡ slotOf ws (getD cs i noController) (f (k + i))
+      → getD (slotsFrom ws f qs k (take n cs)) i freshSlot ≡ slotOf ws (getD cs i noController) (f (k + i)) (qs (k + i))
   slots-at cs k zero i h l = absurd (omega arith)
   slots-at [] k (suc n) i h l = absurd (omega arith)
-  slots-at (c ∷ cs) k (suc n) zero h l = ap (λ z. slotOf ws c (f z)) (omega arith)
+  slots-at (c ∷ cs) k (suc n) zero h l = ap (λ z. slotOf ws c (f z) (qs z)) (omega arith)
   slots-at (c ∷ cs) k (suc n) (suc i) h l =
-      slots-at cs (suc k) n i (omega arith) (omega arith) ∙ ap (λ z. slotOf ws (getD cs i noController) (f z)) (omega arith)
+      slots-at cs (suc k) n i (omega arith) (omega arith) ∙ ap (λ z. slotOf ws (getD cs i noController) (f z) (qs z)) (omega arith)
 
   pub slots-front : (cs : List Controller) (n i : ℕ) → i < n → i < length cs
-      → getD (slotsFrom ws f 0 (take n cs)) i freshSlot ≡ slotOf ws (getD cs i noController) (f i)
-  slots-front cs n i h l = slots-at cs 0 n i h l ∙ ap (λ z. slotOf ws (getD cs i noController) (f z)) (omega arith)
+      → getD (slotsFrom ws f qs 0 (take n cs)) i freshSlot ≡ slotOf ws (getD cs i noController) (f i) (qs i)
+  slots-front cs n i h l = slots-at cs 0 n i h l ∙ ap (λ z. slotOf ws (getD cs i noController) (f z) (qs z)) (omega arith)
 
   -- a slot holds what its controller holds
-  held-by : (c : Controller) (k : ℕ) → Listed c → heldBy (slotOf ws c (f k)) ≡ heldOf c
+  held-by : (c : Controller) (k : ℕ) → Listed c → heldBy (slotOf ws c (f k) (qs k)) ≡ heldOf c
   held-by c k h = go (c .tracking) refl
     where
       go : (t : Tracking) → c .tracking ≡ t → heldOn (marksOf ws (c .base) t (c .ranges)) ≡ heldIn t (c .ranges)
       go Off e = refl
       go (On g n) e = ap (λ m. some (record { granularity = g; count = m; ranges = take n (c .ranges) })) (length-take-le n (c .ranges) (h g n e))
 
-  pub slots-held : (cs : List Controller) (k : ℕ) → All Listed cs → map heldBy (slotsFrom ws f k cs) ≡ map heldOf cs
+  pub slots-held : (cs : List Controller) (k : ℕ) → All Listed cs → map heldBy (slotsFrom ws f qs k cs) ≡ map heldOf cs
   slots-held [] k h = refl
   slots-held (c ∷ cs) k h = ap₂ (λ x xs. x ∷ xs) (held-by c k (h .0)) (slots-held cs (suc k) (h .1))
 
@@ -80,19 +88,19 @@ module _ (ws : List ℕ) (f : ℕ → Option (List ℕ)) where
   tracked-same base (On g n) rs = refl
 
   -- where no state is under way from a place on
-  all-shut : (cs : List Controller) (k : ℕ) → ((i : ℕ) → k ≤ i → f i ≡ none) → all openOk (slotsFrom ws f k cs) ≡ true
+  all-shut : (cs : List Controller) (k : ℕ) → ((i : ℕ) → k ≤ i → f i ≡ none) → all openOk (slotsFrom ws f qs k cs) ≡ true
   all-shut [] k z = refl
   all-shut (c ∷ cs) k z = rw (z k (omega arith)) (all-shut cs (suc k) (λ i h. z i (omega arith)))
 
   -- and where one is, at one place alone
   all-open : (cs : List Controller) (k j : ℕ) (x : List ℕ) → k ≤ j → j < k + length cs → ((i : ℕ) → f i ≡ cond (eqb j i) (some x) none)
-      → all openOk (slotsFrom ws f k cs) ≡ (getD cs (j - k) noController .suspended && frontOk (length x))
+      → all openOk (slotsFrom ws f qs k cs) ≡ (getD cs (j - k) noController .suspended && frontOk (length x))
   all-open [] k j x h l z = absurd (omega arith)
   all-open (c ∷ cs) k j x h l z = go (eqb j k) refl (λ h′ l′. all-open cs (suc k) j x h′ l′ z)
     where
       go : (b : Bool) → eqb j k ≡ b
-          → (suc k ≤ j → j < suc k + length cs → all openOk (slotsFrom ws f (suc k) cs) ≡ (getD cs (j - suc k) noController .suspended && frontOk (length x)))
-          → all openOk (slotsFrom ws f k (c ∷ cs)) ≡ (getD (c ∷ cs) (j - k) noController .suspended && frontOk (length x))
+          → (suc k ≤ j → j < suc k + length cs → all openOk (slotsFrom ws f qs (suc k) cs) ≡ (getD cs (j - suc k) noController .suspended && frontOk (length x)))
+          → all openOk (slotsFrom ws f qs k (c ∷ cs)) ≡ (getD (c ∷ cs) (j - k) noController .suspended && frontOk (length x))
       go true e ih =
           let q : j ≡ k = eqb-true j k e in
           let n : j - k ≡ 0 = omega arith in
@@ -103,6 +111,15 @@ module _ (ws : List ℕ) (f : ℕ → Option (List ℕ)) where
           let n : j - k ≡ suc (j - suc k) = omega arith in
           rw (z k, e, n) (ih (omega arith) (omega arith))
 
+-- a slot has the places of its controller's queue, and has stopped as that has
+places-same : (x : List ℕ) (q : Queue) → placesIn (queueOf x q) ≡ placesOf q
+places-same x made.Nothing = refl
+places-same x (made.Is r) = refl
+
+stopped-same : (x : List ℕ) (q : Queue) → stoppedIn (queueOf x q) ≡ hasStopped q
+stopped-same x made.Nothing = refl
+stopped-same x (made.Is r) = refl
+
 -- ---- what a call sees
 
 pub placeOf-used : (d : Device) (id i : ℕ) → placeOf (d .settings) id ≡ some i → i < d .settings .count
@@ -111,73 +128,73 @@ placeOf-used d id i e = omega (arith, placeOf-is (d .settings) id i e .0, length
 pub placeOf-there : (d : Device) (id i : ℕ) → length (d .settings .identifiers) ≡ 8 → placeOf (d .settings) id ≡ some i → i < 8
 placeOf-there d id i h e = omega (arith, h, placeOf-is (d .settings) id i e .0, length-take (d .settings .count) (d .settings .identifiers))
 
-module _ (d : Device) (ws area : List ℕ) (fits : Fits d ws area) where
-  held-same : map heldBy (view d ws area .slots) ≡ map heldOf (controllersOf d)
-  held-same = slots-held ws (frontAt (d .settings) (d .sequence) area) (controllersOf d) 0 (All-take Listed (d .settings .count) (d .controllers) (fits .listed))
+module _ (d : Device) (ws area : List ℕ) (qs : ℕ → List ℕ) (fits : Fits d ws area) where
+  held-same : map heldBy (view d ws area qs .slots) ≡ map heldOf (controllersOf d)
+  held-same = slots-held ws (frontAt (d .settings) (d .sequence) area) qs (controllersOf d) 0 (All-take Listed (d .settings .count) (d .controllers) (fits .listed))
 
   -- the owner's place says whether its sequence is as it may be
   sequence-same : (q : Sequence)
-      → (not (strayIn (d .settings) q) && all openOk (slotsFrom ws (frontAt (d .settings) q area) 0 (controllersOf d))) ≡ sequenceOk (d .settings) (controllersOf d) q
-  sequence-same Nothing = all-shut ws (λ i. none) (controllersOf d) 0 (λ i h. refl)
+      → (not (strayIn (d .settings) q) && all openOk (slotsFrom ws (frontAt (d .settings) q area) qs 0 (controllersOf d))) ≡ sequenceOk (d .settings) (controllersOf d) q
+  sequence-same Nothing = all-shut ws (λ i. none) qs (controllersOf d) 0 (λ i h. refl)
   sequence-same (Open owner end) = go (placeOf (d .settings) owner) (λ i e. placeOf-there d owner i (fits .identifiers) e) (λ i e. placeOf-used d owner i e)
     where
       go : (p : Option ℕ) → ((i : ℕ) → p ≡ some i → i < 8) → ((i : ℕ) → p ≡ some i → i < d .settings .count)
-          → (not (not (isSome p)) && all openOk (slotsFrom ws (λ i. cond (isAt p i) (some (frontOf end area)) none) 0 (controllersOf d)))
+          → (not (not (isSome p)) && all openOk (slotsFrom ws (λ i. cond (isAt p i) (some (frontOf end area)) none) qs 0 (controllersOf d)))
           ≡ (suspendedAt (controllersOf d) p && frontOk end)
       go none h u = refl
       go (some j) h u =
           let l : j < length (controllersOf d) = omega (arith, h j refl, u j refl, fits .controllers, length-take (d .settings .count) (d .controllers)) in
-          all-open ws (λ i. cond (eqb j i) (some (frontOf end area)) none) (controllersOf d) 0 j (frontOf end area) (omega arith) (omega (arith, l)) (λ i. refl)
+          all-open ws (λ i. cond (eqb j i) (some (frontOf end area)) none) qs (controllersOf d) 0 j (frontOf end area) (omega arith) (omega (arith, l)) (λ i. refl)
           ∙ ap₂ (λ c n. c .suspended && frontOk n) (getD-any (controllersOf d) (j - 0) noController freshController (omega (arith, l)) ∙ ap (λ m. getD (controllersOf d) m freshController) (omega arith))
           (frontOf-length end area)
 
-  pub sound-same : soundState (view d ws area) ≡ soundDevice d
-  sound-same = ap₂ (sound (d .settings)) held-same (regroup (strayIn (d .settings) (d .sequence)) (sharesOk (sharesOf d)) _ ∙ ap (λ b. b && sharesOk (sharesOf d)) (sequence-same (d .sequence)))
+  pub sound-same : soundState (view d ws area qs) ≡ soundDevice d
+  sound-same = ap₂ (sound (d .settings)) held-same (regroup (strayIn (d .settings) (d .sequence)) (sharesOk (sharesOf d) && queuesOk d) _ ∙ ap (λ b. b && (sharesOk (sharesOf d) && queuesOk d)) (sequence-same (d .sequence)))
     where
       regroup : (a b c : Bool) → (not (a || not b) && c) ≡ ((not a && c) && b)
       regroup true b c = refl
       regroup false true c = sym (and-true c)
       regroup false false c = sym (and-false c)
 
-  sound-with : soundWith d (length ws) ≡ soundState (view d ws area)
+  sound-with : soundWith d (length ws) ≡ soundState (view d ws area qs)
   unfolding soundWith
   sound-with = rw (eq-eqb (length ws) markWords (fits .words)) (and-true (soundDevice d) ∙ sym sound-same)
 
-  counts-same : countsOf d ≡ countsIn (view d ws area)
+  counts-same : countsOf d ≡ countsIn (view d ws area qs)
   counts-same = ap (λ hs. sum (map heldCount hs)) (sym held-same)
 
-  units-same : unitsOf d ≡ unitsIn (view d ws area)
+  units-same : unitsOf d ≡ unitsIn (view d ws area qs)
   units-same = ap (λ hs. sum (map heldUnits hs)) (sym held-same)
 
   pub slot-at : (i : ℕ) → i < d .settings .count → i < 8
-      → slotAt (view d ws area) (some i) ≡ slotOf ws (getD (d .controllers) i noController) (frontAt (d .settings) (d .sequence) area i)
-  slot-at i h k = slots-front ws (frontAt (d .settings) (d .sequence) area) (d .controllers) (d .settings .count) i h (omega (arith, k, fits .controllers))
+      → slotAt (view d ws area qs) (some i) ≡ slotOf ws (getD (d .controllers) i noController) (frontAt (d .settings) (d .sequence) area i) (qs i)
+  slot-at i h k = slots-front ws (frontAt (d .settings) (d .sequence) area) qs (d .controllers) (d .settings .count) i h (omega (arith, k, fits .controllers))
 
-  pub seen-same : (id : ℕ) → seenIn d (length ws) (placeOf (d .settings) id) ≡ seenAt (view d ws area) (placeOf (d .settings) id)
+  pub seen-same : (id : ℕ) → seenIn d (length ws) (placeOf (d .settings) id) ≡ seenAt (view d ws area qs) (placeOf (d .settings) id)
   seen-same id = go (placeOf (d .settings) id) (λ i e. placeOf-used d id i e) (λ i e. placeOf-there d id i (fits .identifiers) e)
     where
-      go : (p : Option ℕ) → ((i : ℕ) → p ≡ some i → i < d .settings .count) → ((i : ℕ) → p ≡ some i → i < 8) → seenIn d (length ws) p ≡ seenAt (view d ws area) p
+      go : (p : Option ℕ) → ((i : ℕ) → p ≡ some i → i < d .settings .count) → ((i : ℕ) → p ≡ some i → i < 8) → seenIn d (length ws) p ≡ seenAt (view d ws area qs) p
       go none h k = rw (sound-with, counts-same, units-same)
       go (some i) h k =
           let c = getD (d .controllers) i noController in
-          rw (sound-with, counts-same, units-same, slot-at i (h i refl) (k i refl), tracked-same ws (frontAt (d .settings) (d .sequence) area) (c .base) (c .tracking) (c .ranges))
+          rw (sound-with, counts-same, units-same, slot-at i (h i refl) (k i refl), tracked-same ws (frontAt (d .settings) (d .sequence) area) qs (c .base) (c .tracking) (c .ranges), places-same (qs i) (c .queue), stopped-same (qs i) (c .queue))
 
 -- ---- another record of which one slot differs
 
-module _ (d d′ : Device) (ws ws′ area area′ : List ℕ) where
+module _ (d d′ : Device) (ws ws′ area area′ : List ℕ) (qs qs′ : ℕ → List ℕ) where
   -- the slot at a place, before and afterwards
   abbrev before : ℕ → Slot
-  before j = slotOf ws (getD (d .controllers) j noController) (frontAt (d .settings) (d .sequence) area j)
+  before j = slotOf ws (getD (d .controllers) j noController) (frontAt (d .settings) (d .sequence) area j) (qs j)
 
   abbrev afterwards : ℕ → Slot
-  afterwards j = slotOf ws′ (getD (d′ .controllers) j noController) (frontAt (d .settings) (d′ .sequence) area′ j)
+  afterwards j = slotOf ws′ (getD (d′ .controllers) j noController) (frontAt (d .settings) (d′ .sequence) area′ j) (qs′ j)
 
   pub view-with : (i : ℕ) → length (d .controllers) ≡ 8 → length (d′ .controllers) ≡ 8 → d′ .settings ≡ d .settings → d .settings .count ≤ 8 → i < d .settings .count
       → amissIn d′ ≡ amissIn d → ((j : ℕ) → j ≢ i → j < d .settings .count → afterwards j ≡ before j)
-      → view d′ ws′ area′ ≡ withSlot (view d ws area) (some i) (afterwards i)
+      → view d′ ws′ area′ qs′ ≡ withSlot (view d ws area qs) (some i) (afterwards i)
   view-with i eight eight′ settings most used amiss same =
-      ap (λ b. record { settings = d′ .settings; slots = view d′ ws′ area′ .slots; amiss = b }) amiss
-      ∙ ap (λ (t : Settings). record { settings = t; slots = slotsFrom ws′ (frontAt t (d′ .sequence) area′) 0 (take (t .count) (d′ .controllers)); amiss = amissIn d }) settings
+      ap (λ b. record { settings = d′ .settings; slots = view d′ ws′ area′ qs′ .slots; amiss = b }) amiss
+      ∙ ap (λ (t : Settings). record { settings = t; slots = slotsFrom ws′ (frontAt t (d′ .sequence) area′) qs′ 0 (take (t .count) (d′ .controllers)); amiss = amissIn d }) settings
       ∙ ap (λ l. record { settings = d .settings; slots = l; amiss = amissIn d }) (ext-getD freshSlot new old (sizes ∙ sym old-length) at)
     where
       n : ℕ
@@ -190,34 +207,34 @@ module _ (d d′ : Device) (ws ws′ area area′ : List ℕ) where
       f′ = frontAt (d .settings) (d′ .sequence) area′
 
       new : List Slot
-      new = slotsFrom ws′ f′ 0 (take n (d′ .controllers))
+      new = slotsFrom ws′ f′ qs′ 0 (take n (d′ .controllers))
 
       old : List Slot
-      old = set (slotsFrom ws f 0 (take n (d .controllers))) i (afterwards i)
+      old = set (slotsFrom ws f qs 0 (take n (d .controllers))) i (afterwards i)
 
       sizes : length new ≡ n
-      sizes = slots-length ws′ f′ (take n (d′ .controllers)) 0 ∙ length-take-le n (d′ .controllers) (omega (arith, eight′, most))
+      sizes = slots-length ws′ f′ qs′ (take n (d′ .controllers)) 0 ∙ length-take-le n (d′ .controllers) (omega (arith, eight′, most))
 
-      was : length (slotsFrom ws f 0 (take n (d .controllers))) ≡ n
-      was = slots-length ws f (take n (d .controllers)) 0 ∙ length-take-le n (d .controllers) (omega (arith, eight, most))
+      was : length (slotsFrom ws f qs 0 (take n (d .controllers))) ≡ n
+      was = slots-length ws f qs (take n (d .controllers)) 0 ∙ length-take-le n (d .controllers) (omega (arith, eight, most))
 
       old-length : length old ≡ n
-      old-length = length-set (slotsFrom ws f 0 (take n (d .controllers))) i (afterwards i) ∙ was
+      old-length = length-set (slotsFrom ws f qs 0 (take n (d .controllers))) i (afterwards i) ∙ was
 
       at : (j : ℕ) → j < length new → getD new j freshSlot ≡ getD old j freshSlot
       at j h =
           let k : j < n = omega (arith, sizes, h) in
-          slots-front ws′ f′ (d′ .controllers) n j k (omega (arith, k, most, eight′)) ∙ go (eqb j i) refl k
+          slots-front ws′ f′ qs′ (d′ .controllers) n j k (omega (arith, k, most, eight′)) ∙ go (eqb j i) refl k
         where
           go : (b : Bool) → eqb j i ≡ b → j < n → afterwards j ≡ getD old j freshSlot
           go true e k =
               let z = eqb-true j i e in
-              rw z (sym (getD-set-same (slotsFrom ws f 0 (take n (d .controllers))) i (afterwards i) freshSlot (omega (arith, was, used))))
+              rw z (sym (getD-set-same (slotsFrom ws f qs 0 (take n (d .controllers))) i (afterwards i) freshSlot (omega (arith, was, used))))
           go false e k =
               let z = eqb-false j i e in
               same j z k
-              ∙ sym (slots-front ws f (d .controllers) n j k (omega (arith, k, most, eight)))
-              ∙ sym (getD-set-other (slotsFrom ws f 0 (take n (d .controllers))) i j (afterwards i) freshSlot z)
+              ∙ sym (slots-front ws f qs (d .controllers) n j k (omega (arith, k, most, eight)))
+              ∙ sym (getD-set-other (slotsFrom ws f qs 0 (take n (d .controllers))) i j (afterwards i) freshSlot z)
 
 -- ---- a state under way (W6): a controller is its owner exactly if it stands at the owner's place
 
@@ -274,7 +291,7 @@ module _ (s : Settings) (id i : ℕ) (e : placeOf s id ≡ some i) where
 
 -- ---- what a part sees
 
-module _ (d : Device) (ws area : List ℕ) (fits : Fits d ws area) (id i : ℕ) (e : placeOf (d .settings) id ≡ some i) where
+module _ (d : Device) (ws area : List ℕ) (qs : ℕ → List ℕ) (fits : Fits d ws area) (id i : ℕ) (e : placeOf (d .settings) id ≡ some i) where
   used : i < d .settings .count
   used = placeOf-used d id i e
 
@@ -282,17 +299,17 @@ module _ (d : Device) (ws area : List ℕ) (fits : Fits d ws area) (id i : ℕ) 
   there = placeOf-there d id i (fits .identifiers) e
 
   abbrev slots : List Slot
-  slots = view d ws area .slots
+  slots = view d ws area qs .slots
 
   size : length slots ≡ length (controllersOf d)
-  size = slots-length ws (frontAt (d .settings) (d .sequence) area) (controllersOf d) 0
+  size = slots-length ws (frontAt (d .settings) (d .sequence) area) qs (controllersOf d) 0
 
   -- each other slot has the bytes so far that stand at its place
   other-slot : (j : ℕ) → j ≢ i → j < length slots → isOpen (getD (set slots i freshSlot) j freshSlot) ≡ isSome (frontAt (d .settings) (d .sequence) area j)
   other-slot j h k =
       let u : j < d .settings .count = omega (arith, k, size, length-take (d .settings .count) (d .controllers)) in
       let n : j < 8 = omega (arith, k, size, fits .controllers, length-take (d .settings .count) (d .controllers)) in
-      ap isOpen (getD-set-other slots i j freshSlot freshSlot h) ∙ ap isOpen (slot-at d ws area fits j u n)
+      ap isOpen (getD-set-other slots i j freshSlot freshSlot h) ∙ ap isOpen (slot-at d ws area qs fits j u n)
 
   others-same : soundDevice d ≡ true → othersIn id (d .sequence) ≡ any isOpen (set slots i freshSlot)
   others-same sure = go (d .sequence) refl
@@ -325,6 +342,6 @@ module _ (d : Device) (ws area : List ℕ) (fits : Fits d ws area) (id i : ℕ) 
                   (other-slot j h k ∙ rw (f, r, eq-eqb j j refl))
 
   -- the same of both: that of the record, and that of the device of the rules
-  pub arriving-same : soundDevice d ≡ true → arrivingIn (d .sequence) area id ≡ arrivingAt (view d ws area) (some i)
+  pub arriving-same : soundDevice d ≡ true → arrivingIn (d .sequence) area id ≡ arrivingAt (view d ws area qs) (some i)
   arriving-same sure =
-      rw (eq-eqb (length area) stateMost (fits .bytes), others-same sure, slot-at d ws area fits i used there, front-own (d .settings) id i e (d .sequence) area)
+      rw (eq-eqb (length area) stateMost (fits .bytes), others-same sure, slot-at d ws area qs fits i used there, front-own (d .settings) id i e (d .sequence) area)

@@ -50,7 +50,7 @@ pub record IsNotes (l : Left) (rs : List WriteRecord) : Type 0 where
   pub few : soundWith (l .device) (length (l .marks)) ≡ true → length rs ≤ 1024 → batchChange (l .device) (l .marks) rs .answer .number ≡ 0
   -- a done one leaves what its tried notes leave, and answers what they answer together
   pub leaves : let c = batchChange (l .device) (l .marks) rs in
-      c .answer .number ≡ 0 → record { device = l .device; marks = c .marks; area = l .area } ≡ leftAfter l (tried l rs)
+      c .answer .number ≡ 0 → record { device = l .device; marks = c .marks; area = l .area; queues = l .queues } ≡ leftAfter l (tried l rs)
   pub says : let c = batchChange (l .device) (l .marks) rs in
       let es = answersTo l (tried l rs) in
       c .answer .number ≡ 0 → (c .answer .done ≡ doneIn es) × (c .answer .count ≡ newlyIn es) × (c .answer .refusal ≡ lastNumber es)

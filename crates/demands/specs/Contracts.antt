@@ -12,7 +12,10 @@ use prog.Wp.{Heap}
 use ghost.Atoms.{Atoms}
 use contract.Monad.{Fun, fact}
 use borrow.Fn.Kinds.{pNum}
-use mir.Syntax.{w8, w16, w32}
+use borrow.Kind.ShrSlice.{pShrS}
+use borrow.Kind.MutSlice.{pMutS}
+use borrow.Table.Referent.{rtF, fInt}
+use mir.Syntax.{w8, w16, w32, w64}
 use denote.Laws.{Is}
 use denote.Struct.Laws as machine
 use denote.Ref.{now}
@@ -26,20 +29,32 @@ use Rattle.listing.specs.Listing.{lineOf}
 use Rattle.rules.specs.declared.Device.{Device}
 use Rattle.calls.specs.declared.WriteRecord.{WriteRecord}
 use Rattle.calls.specs.declared.Batched.{Batched}
-use Rattle.calls.specs.Calls.{freshChange, startChange, stopChange, writeNote, batchChange, receiveReceipt, suspendChange, resumeChange, partChange}
+use Rattle.calls.specs.Calls.{freshChange, startChange, stopChange, writeNote, batchChange, receiveReceipt, suspendChange, resumeChange, partChange, makeChange, postChange, takeChange}
 use Rattle.calls.proofs.WriteRecord as record-type
 use Rattle.calls.proofs.WriteRecord.Laws as record-laws
 use Rattle.fresh.proofs.fresh.Reads as fresh
 use Rattle.track_send.proofs.start.Reads as start
+use Rattle.track_send.proofs.start.Kinds as start-kinds
 use Rattle.track_send.proofs.stop.Reads as stop
+use Rattle.track_send.proofs.stop.Kinds as stop-kinds
 use Rattle.writes.proofs.write.Reads as write
+use Rattle.writes.proofs.write.Kinds as write-kinds
 use Rattle.writes.proofs.batch as batch
 use Rattle.writes.proofs.batch_of.Reads as batch-of
 use Rattle.track_receive.proofs.receive.Reads as receive
+use Rattle.track_receive.proofs.receive.Kinds as receive-kinds
 use Rattle.migration_send.proofs.suspend.Reads as suspend
+use Rattle.migration_send.proofs.suspend.Kinds as suspend-kinds
 use Rattle.migration_send.proofs.resume.Reads as resume
+use Rattle.migration_send.proofs.resume.Kinds as resume-kinds
 use Rattle.controller_state.proofs.set_state.Reads as set-state
 use Rattle.controller_state.proofs.set_state.Kinds as set-state-kinds
+use Rattle.queue.proofs.make_queue.Reads as make-queue
+use Rattle.queue.proofs.post.Reads as post
+use Rattle.queue.proofs.take.Reads as take-queue
+use Rattle.queue.proofs.take.Kinds as take-kinds
+use Rattle.queue.proofs.make_queue.Kinds as make-kinds
+use Rattle.queue.proofs.post.Kinds as post-kinds
 use Rattle.start_data.proofs.read_header.Reads as read-header
 use Rattle.start_data.proofs.read_start.Reads as read-start
 use Rattle.start_data.proofs.write_start.Reads as write-start
@@ -69,6 +84,9 @@ pub record AsksNothing : Type 1 where
   pub suspend : (κs : _) (a : _) → suspend.Pre κs a
   pub resume : (κs : _) (a : _) → resume.Pre κs a
   pub set-state : (κs : _) (a : _) → set-state.Pre κs a
+  pub make-queue : (κs : _) (a : _) → make-queue.Pre κs a
+  pub post : (κs : _) (a : _) → post.Pre κs a
+  pub take-queue : (κs : _) (a : _) → take-queue.Pre κs a
   pub read-header : (κs : _) (a : _) → read-header.Pre κs a
   pub read-ranges : (κs : _) (a : _) → read-ranges.Pre κs a
   pub read-start : (κs : _) (a : _) → read-start.Pre κs a
@@ -116,6 +134,14 @@ pub record CallsAre : Type 1 where
       let p : Part = record { indicator = rest .0; low = rest .1 .0; high = rest .1 .1 .0; count = rest .1 .1 .1 .0; bytes = now (rest .1 .1 .1 .1 .0) } in
       let c = partChange (a .0) (length (now (a .1 .0))) (now (a .1 .1 .0)) (a .1 .1 .1 .0) p in
       (r ≡ c .answer) × (now (e .1 .1 .0) ≡ c .area)
+  -- W8: the answers, every byte of the area that a post changes, and of the buffer that a take fills
+  pub make-queue : (κs : _) (a : _) (r : _) (e : _) → make-queue.Post κs a r e → r ≡ makeChange (a .0) (length (now (a .1 .0))) (a .1 .1 .0) (length (now (a .1 .1 .1 .0)))
+  pub post : (κs : _) (a : _) (r : _) (e : _) → post.Post κs a r e
+      → let c = postChange (a .0) (length (now (a .1 .0))) (now (a .1 .1 .0)) (a .1 .1 .1 .0) (now (a .1 .1 .1 .1 .0)) in
+      (r ≡ c .answer) × (now (e .1 .1 .0) ≡ c .area)
+  pub take-queue : (κs : _) (a : _) (r : _) (e : _) → take-queue.Post κs a r e
+      → let c = takeChange (a .0) (length (now (a .1 .0))) (now (a .1 .1 .0)) (a .1 .1 .1 .0) (a .1 .1 .1 .1 .0) (now (a .1 .1 .1 .1 .1 .0)) in
+      (r ≡ c .answer) × (now (e .1 .1 .1 .1 .1 .0) ≡ c .buffer)
 
 -- W4: `batch` is proved by a walk of its code, so its contract is taken as it stands in the program logic, of any model of it: it asks nothing, and what it promises
 -- is this fact
@@ -132,10 +158,22 @@ pub record BatchIs : Type 2 where
 abbrev pub HasRoom : Type 0
 HasRoom = (r : WriteRecord) → r .id < 2 ^ 16 → r .address < 2 ^ 64 → r .bytes .0 < 2 ^ 64 → Is record-type.the-row r (machine.val record-type.the-type record-laws.the-laws r ∷ [])
 
--- W6: the numbers of a part have the bits that the documents say: identifier 16, indicator 8, offset 32 and 32, count 32. Without this a promise about a narrower
--- number would do
-abbrev pub PartIsWide : Type 3
-PartIsWide = take 5 (drop 3 set-state-kinds.ps) ≡ pNum w16 ∷ pNum w8 ∷ pNum w32 ∷ pNum w32 ∷ pNum w32 ∷ []
+-- how each call's arguments behind the record are lent: to be changed (`pMutS`) or to be read (`pShrS`), so that no word or byte of those changes, of which no contract
+-- speaks; and that its numbers have the bits that the documents say: identifiers 16, addresses 64, types and indicators 8, offsets, counts and entries asked for 32. Without
+-- this a promise about a narrower number would do
+pub record Lent : Type 3 where
+  pub start : drop 1 start-kinds.ps ≡ pMutS (rtF (fInt w64)) 0 tt ∷ pNum w16 ∷ pShrS (rtF (fInt w8)) 1 tt ∷ []
+  pub stop : drop 1 stop-kinds.ps ≡ pMutS (rtF (fInt w64)) 0 tt ∷ pNum w16 ∷ []
+  pub write : take 3 (drop 1 write-kinds.ps) ≡ pMutS (rtF (fInt w64)) 0 tt ∷ pNum w16 ∷ pNum w64 ∷ []
+  pub receive : drop 1 receive-kinds.ps ≡ pMutS (rtF (fInt w64)) 0 tt ∷ pNum w16 ∷ pMutS (rtF (fInt w8)) 1 tt ∷ []
+  pub suspend : drop 1 suspend-kinds.ps ≡ pShrS (rtF (fInt w64)) 0 tt ∷ pNum w16 ∷ pNum w8 ∷ []
+  pub resume : drop 1 resume-kinds.ps ≡ pShrS (rtF (fInt w64)) 0 tt ∷ pNum w16 ∷ []
+  pub set-state : drop 1 set-state-kinds.ps
+      ≡ pShrS (rtF (fInt w64)) 0 tt ∷ pMutS (rtF (fInt w8)) 1 tt ∷ pNum w16 ∷ pNum w8 ∷ pNum w32 ∷ pNum w32 ∷ pNum w32 ∷ pShrS (rtF (fInt w8)) 2 tt ∷ []
+  pub make-queue : drop 1 make-kinds.ps ≡ pShrS (rtF (fInt w64)) 0 tt ∷ pNum w16 ∷ pShrS (rtF (fInt w8)) 1 tt ∷ []
+  pub post : drop 1 post-kinds.ps ≡ pShrS (rtF (fInt w64)) 0 tt ∷ pMutS (rtF (fInt w8)) 1 tt ∷ pNum w16 ∷ pShrS (rtF (fInt w8)) 2 tt ∷ []
+  pub take-queue : drop 1 take-kinds.ps
+      ≡ pShrS (rtF (fInt w64)) 0 tt ∷ pShrS (rtF (fInt w8)) 1 tt ∷ pNum w16 ∷ pNum w32 ∷ pMutS (rtF (fInt w8)) 2 tt ∷ []
 
 -- the start structure's readers and its writer
 pub record StructuresAre : Type 1 where
@@ -166,7 +204,7 @@ pub record Contracts : Type 3 where
   pub calls : CallsAre
   pub batch : BatchIs
   pub room : HasRoom
-  pub wide : PartIsWide
+  pub lent : Lent
   pub structures : StructuresAre
   pub reader : ReaderIs
   -- a line of the session listing

@@ -1,6 +1,6 @@
 -- Demand 1, as statements about the calls of `tracker`, the start structure's reader and writer and the report's reader: of any record, any words, any bytes
 -- and any numbers. That each of them returns, whatever it is given, is the checker's own: none has a `requires`.
-use Prim.Native.Nat.{ℕ, _+_, _*_, _%_, _^_, _≤_, _<_}
+use Prim.Native.Nat.{ℕ, _+_, _*_, _/_, _%_, _^_, _≤_, _<_}
 use lib.Dec.{leb, ltb, eqb}
 use Rattle.little.specs.Little.{numberAt}
 use mathlib.Core.Path.{_≡_}
@@ -10,21 +10,26 @@ use mathlib.Core.List.{List, [], _∷_}
 use mathlib.Core.Option.{none, some}
 use lib.ListN.{length, take, getD}
 use Rattle.rules.specs.Refusals.{Test, _else_, refusal, placeIn, passes}
+use Rattle.rules.specs.Lists.{isSome}
 use Rattle.rules.specs.Settings.{settingsOk, placeOf}
 use Rattle.rules.specs.Units.{Write}
 use Rattle.rules.specs.StartData.{granularityOf, rangesOf, placed, headerTests, headerOf, readTests, startData, writeTests, startWritten}
 use Rattle.rules.specs.ReportReader.{reportTests, indexTests, reportRefusal, reportBadIndex, reportSuspended, reportMore, reportIdentifier, reportGranularity, reportCount, reportRefusalAt, reportAddress, reportLength}
-use Rattle.rules.specs.Order.{Seen, Arriving, freshOrder, startOrder, stopOrder, writeOrder, receiveOrder, suspendOrder, resumeOrder, Part, followsOn, joinedOk, partOrder}
-use Rattle.rules.specs.Device.{closedDevice}
+use Rattle.rules.specs.Order.{Seen, Arriving, freshOrder, startOrder, stopOrder, writeOrder, receiveOrder, suspendOrder, resumeOrder, Part, followsOn, joinedOk, partOrder, sizeMade, queueOrder}
+use Rattle.rules.specs.Order as order
+use Rattle.rules.specs.Device.{closedDevice, soundDevice}
+use Rattle.rules.specs.declared.Tracking.the-variants.{Off, On}
 use Rattle.rules.specs.Demands.{Rowless, Names}
 use Rattle.rules.specs.declared.Range.{Range}
 use Rattle.rules.specs.declared.Sequence.the-variants.{Nothing, Open}
+use Rattle.rules.specs.declared.Ring.{Ring}
+use Rattle.rules.specs.declared.Queue.the-variants as made
 use Rattle.rules.specs.declared.Settings.{Settings}
 use Rattle.rules.specs.declared.Header.the-variants.{Is, Refused}
 use Rattle.rules.specs.declared.Device.{Device}
-use Rattle.record.specs.Record.{countsOf, unitsOf, seenIn, arrivingIn}
+use Rattle.record.specs.Record.{countsOf, unitsOf, controllerAt, seenIn, arrivingIn}
 use Rattle.start_data.specs.Answer.{headerSays}
-use Rattle.calls.specs.Calls.{freshChange, startChange, stopChange, suspendChange, resumeChange, writeNote, receiveReceipt, partChange}
+use Rattle.calls.specs.Calls.{freshChange, startChange, stopChange, suspendChange, resumeChange, writeNote, receiveReceipt, partChange, makeChange, postChange, takeChange}
 
 -- "A refusal returns its number from document 01 and zeros (the structure reader adds a place), and the device record, the marks and the
 -- report buffer stay as they were"; W3: a start adds its row
@@ -105,6 +110,55 @@ pub record Demand1 : Type 0 where
       → (arrivingIn Nothing area id .others ≡ false) × (arrivingIn (Open owner end) area id .others ≡ not (eqb owner id))
   -- a suspend leaves an open sequence, whosever it is
   pub suspend-leaves : (d : Device) (words id kind : ℕ) → suspendChange d words id kind .device .sequence ≡ d .sequence
+  -- W8: a refused call to a queue leaves its area or its buffer as it was, too
+  pub make : (d : Device) (words id bytes : ℕ)
+      → let c = makeChange d words id bytes in
+      Answers (c .number) (queueOrder (seenIn d words (placeOf (d .settings) id)) bytes order.make) (c .device ≡ d)
+  pub post : (d : Device) (words : ℕ) (area : List ℕ) (id : ℕ) (e : List ℕ)
+      → let r = postChange d words area id e in
+      Answers (r .answer .number) (queueOrder (seenIn d words (placeOf (d .settings) id)) (length area) (order.post e))
+      ((r .answer .stopped ≡ false) × (r .answer .device ≡ d) × (r .area ≡ area))
+  pub take : (d : Device) (words : ℕ) (area : List ℕ) (id asked : ℕ) (x : List ℕ)
+      → let r = takeChange d words area id asked x in
+      Answers (r .answer .number) (queueOrder (seenIn d words (placeOf (d .settings) id)) (length area) (order.take asked x))
+      ((r .answer ≡ record { number = r .answer .number; count = 0; closing = false; device = d }) × (r .buffer ≡ x))
+  -- their tests, in the order of document 02
+  pub make-order : (v : Seen) (bytes : ℕ)
+      → queueOrder v bytes order.make ≡ (v .sound else 1) ∷ (v .known else 2) ∷ (eqb (bytes % 32) 0 && (leb 2 (bytes / 32) && leb (bytes / 32) 1024) else 28) ∷ []
+  pub post-order : (v : Seen) (bytes : ℕ) (e : List ℕ)
+      → queueOrder v bytes (order.post e)
+      ≡ (v .sound else 1)
+      ∷ (v .known else 2)
+      ∷ ((eqb (bytes % 32) 0 && (leb 2 (bytes / 32) && leb (bytes / 32) 1024)) && sizeMade (v .places) bytes else 28)
+      ∷ (isSome (v .places) else 29)
+      ∷ (eqb (length e) 32 else 8)
+      ∷ (not (v .stopped) else 30)
+      ∷ []
+  pub take-order : (v : Seen) (bytes asked : ℕ) (x : List ℕ)
+      → queueOrder v bytes (order.take asked x)
+      ≡ (v .sound else 1)
+      ∷ (v .known else 2)
+      ∷ ((eqb (bytes % 32) 0 && (leb 2 (bytes / 32) && leb (bytes / 32) 1024)) && sizeMade (v .places) bytes else 28)
+      ∷ (isSome (v .places) else 29)
+      ∷ []
+  -- "not the size made"; and what they see of a controller's queue
+  pub size-made : (n bytes : ℕ) → (sizeMade none bytes ≡ true) × (sizeMade (some n) bytes ≡ eqb bytes (32 * n))
+  pub sees-none : (d : Device) (words i : ℕ) → controllerAt d (some i) .queue ≡ made.Nothing
+      → (seenIn d words (some i) .places ≡ none) × (seenIn d words (some i) .stopped ≡ false)
+  pub sees-queue : (d : Device) (words i : ℕ) (r : Ring) → controllerAt d (some i) .queue ≡ made.Is r
+      → (seenIn d words (some i) .places ≡ some (r .size)) × (seenIn d words (some i) .stopped ≡ r .stopped)
+  -- what any call sees of a record beside that: 1 and 2 are answered for nothing else
+  pub sees : (d : Device) (words i : ℕ)
+      → (seenIn d words (some i) .sound ≡ (soundDevice d && eqb words 256)) × (seenIn d words (some i) .known ≡ true) × (seenIn d words (some i) .suspended ≡ controllerAt d (some i) .suspended)
+  pub sees-nobody : (d : Device) (words : ℕ) → (seenIn d words none .sound ≡ (soundDevice d && eqb words 256)) × (seenIn d words none .known ≡ false)
+  pub sees-off : (d : Device) (words i : ℕ) → controllerAt d (some i) .tracking ≡ Off → seenIn d words (some i) .tracked ≡ false
+  pub sees-on : (d : Device) (words i g n : ℕ) → controllerAt d (some i) .tracking ≡ On g n → seenIn d words (some i) .tracked ≡ true
+  -- the tables of the calls that have none above: no queue is looked at
+  pub stop-order : (v : Seen) → stopOrder v ≡ (v .sound else 1) ∷ (v .known else 2) ∷ (not (v .suspended) else 4) ∷ (v .tracked else 5) ∷ []
+  pub write-order : (v : Seen) (w : Write) → writeOrder v w ≡ (v .sound else 1) ∷ (v .known else 2) ∷ (not (v .suspended) else 4) ∷ (leb (w .address + w .bytes) (2 ^ 64) else 14) ∷ []
+  pub receive-order : (v : Seen) (x : List ℕ) → receiveOrder v x ≡ (v .sound else 1) ∷ (v .known else 2) ∷ (v .tracked else 5) ∷ (leb 32 (length x) else 8) ∷ []
+  pub suspend-order : (v : Seen) (kind : ℕ) → suspendOrder v kind ≡ (v .sound else 1) ∷ (v .known else 2) ∷ (leb kind 1 else 15) ∷ []
+  pub resume-order : (v : Seen) → resumeOrder v ≡ (v .sound else 1) ∷ (v .known else 2) ∷ (v .suspended else 13) ∷ []
   -- the structure's readers add the place of that test
   pub read-header : (x : List ℕ)
       → let h = headerSays (headerOf x) in

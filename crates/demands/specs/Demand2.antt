@@ -18,12 +18,14 @@ use Rattle.rules.specs.Report.{room, reportOn, marksLeft, reportBytes}
 use Rattle.rules.specs.ReportReader.{reportSize}
 use Rattle.rules.specs.Order.{Op, start, stop, write, Part, startListed}
 use Rattle.rules.specs.Device.{noShare, sharesOf, freshDevice, closedDevice}
-use Rattle.rules.specs.Machine.{refused, pendingIn, countsIn, unitsIn, slotOf, Call, step, lent, stored}
+use Rattle.rules.specs.Machine.{refused, pendingIn, entriesIn, countsIn, unitsIn, slotOf, Call, step, lent, stored}
 use Rattle.rules.specs.History.{Did, PendingBy, pendingBy, tracksBy, suspendedBy, slotBy}
 use Rattle.rules.specs.Demands.{sessionEnd, sessionHistory, lentBytes, UnitsListed, Runs, Reports, Room, ReadBack, Touches, Writes}
 use Rattle.rules.specs.declared.Range.{Range}
 use Rattle.rules.specs.declared.Tracking.the-variants.{Off, On}
 use Rattle.rules.specs.declared.Sequence.the-variants.{Nothing, Open}
+use Rattle.rules.specs.declared.Ring.{Ring}
+use Rattle.rules.specs.declared.Queue.the-variants as made
 use Rattle.rules.specs.declared.Settings.{Settings}
 use Rattle.rules.specs.declared.Controller.{Controller}
 use Rattle.rules.specs.declared.Device.{Device}
@@ -32,34 +34,41 @@ use Rattle.calls.specs.Calls.{sizesOf, Receipt, freshChange, startChange, stopC
 use Rattle.demands.specs.View.{view}
 use Rattle.demands.specs.Sessions.{Left, Given, Sized, outcome, next, endOf, historyIn, bytesIn}
 use Rattle.demands.specs.Soundness.{baseAt}
-use Rattle.demands.specs.Parts.{wholeBy, IsFinal, Arrives}
+use Rattle.demands.specs.Parts.{wholeBy, IsFinal, arriving, Arrives}
+use Rattle.demands.specs.Queues.{Logs, QueueCalls}
 
 -- ---- a session, beside the rules' session
 
 -- a controller's pending units
 abbrev pub pendingOf : Left → ℕ → List Unit
-pendingOf l a = pendingIn (slotOf (view (l .device) (l .marks) (l .area)) a)
+pendingOf l a = pendingIn (slotOf (view (l .device) (l .marks) (l .area) (l .queues)) a)
 
--- a session of the calls is for a controller what the rules give for some calls: every answer, every byte lent with its calls, its reports' among them, and
--- its pending units
+-- its queued entries (W8)
+abbrev pub queuedOf : Left → ℕ → List (List ℕ)
+queuedOf l a = entriesIn (slotOf (view (l .device) (l .marks) (l .area) (l .queues)) a .queue)
+
+-- a session of the calls is for a controller what the rules give for some calls: every answer, every byte lent with its calls, its reports' among them, its
+-- pending units and its queued entries
 pub record Equals (s : Settings) (a : ℕ) (m : Given) (ks ks′ : List Call) : Type 0 where
   pub answers : historyIn s m ks a ≡ sessionHistory s (length (m .marks)) ks′ a
   pub bytes : bytesIn s m ks a ≡ lentBytes a (sessionHistory s (length (m .marks)) ks′ a)
   pub units : pendingOf (endOf s m ks) a ≡ pendingIn (slotOf (sessionEnd s (length (m .marks)) ks′) a)
+  pub queued : queuedOf (endOf s m ks) a ≡ entriesIn (slotOf (sessionEnd s (length (m .marks)) ks′) a .queue)
 
--- a record and marks that anyone may have made, of their sizes: eight controllers, of which none counts more ranges than it has places, and the marks' words.
--- (A call on marks of another number of words, or on a record that counts more, answers 1.)
+-- a record and marks that anyone may have made, of their sizes: eight controllers, of which none counts more ranges than it has places, totals of 32 bits, and the marks'
+-- words. (A call on marks of another number of words, or on a record that counts more, answers 1.)
 pub record Shaped (l : Left) : Type 0 where
   pub controllers : length (l .device .controllers) ≡ 8
   pub identifiers : length (l .device .settings .identifiers) ≡ 8
   pub listed : (i g n : ℕ) → controllerAt (l .device) (some i) .tracking ≡ On g n → n ≤ length (controllerAt (l .device) (some i) .ranges)
+  pub totals : (i : ℕ) (r : Ring) → controllerAt (l .device) (some i) .queue ≡ made.Is r → (r .posted < 2 ^ 32) × (r .taken < 2 ^ 32)
   pub words : length (l .marks) ≡ 256
   pub bytes : length (l .area) ≡ 4096
 
 -- a call is a step of the rules, on the device that is seen in record and marks
 pub record Steps (l : Left) (k : Call) : Type 0 where
-  pub answer : outcome l k .answer ≡ (step (view (l .device) (l .marks) (l .area)) k) .0
-  pub device : view (outcome l k .device) (outcome l k .marks) (outcome l k .area) ≡ (step (view (l .device) (l .marks) (l .area)) k) .1
+  pub answer : outcome l k .answer ≡ (step (view (l .device) (l .marks) (l .area) (l .queues)) k) .0
+  pub device : view (outcome l k .device) (outcome l k .marks) (outcome l k .area) (outcome l k .queues) ≡ (step (view (l .device) (l .marks) (l .area) (l .queues)) k) .1
   pub bytes : outcome l k .bytes ≡ stored (k .id) (lent (k .op)) (outcome l k .answer)
 
 -- ---- marks in words
@@ -102,7 +111,7 @@ replacedAt d i c = record { settings = d .settings; controllers = set (d .contro
 abbrev pub flaggedAt : Device → ℕ → Bool → Device
 flaggedAt d i b =
     let was = controllerAt d (some i) in
-    replacedAt d i (record { tracking = was .tracking; base = was .base; suspended = b; ranges = was .ranges })
+    replacedAt d i (record { tracking = was .tracking; base = was .base; suspended = b; ranges = was .ranges; queue = was .queue })
 
 -- a resume of controller a at place i makes its flag clear; W6: "its resume drops its unfinished sequence", and no other's
 pub record Resumed (d : Device) (a i : ℕ) (d′ : Device) : Type 0 where
@@ -116,10 +125,10 @@ pub record Started (d : Device) (ws : List ℕ) (i g n : ℕ) (ranges : List Ran
   pub settings : d′ .settings ≡ d .settings
   pub sequence : d′ .sequence ≡ d .sequence
   pub controllers : length (d′ .controllers) ≡ length (d .controllers)
-  pub own : controllerAt d′ (some i) ≡ record { tracking = On g n; base = baseAt d′ i; suspended = false; ranges = placed ranges }
+  pub own : controllerAt d′ (some i) ≡ record { tracking = On g n; base = baseAt d′ i; suspended = false; ranges = placed ranges; queue = controllerAt d (some i) .queue }
   pub other : (j : ℕ) → j < 8 → j ≢ i
       → let was = controllerAt d (some j) in
-      controllerAt d′ (some j) ≡ record { tracking = was .tracking; base = baseAt d′ j; suspended = was .suspended; ranges = was .ranges }
+      controllerAt d′ (some j) ≡ record { tracking = was .tracking; base = baseAt d′ j; suspended = was .suspended; ranges = was .ranges; queue = was .queue }
   -- the shares are packed: from bit 0 on, in the order of the settings, each where those before it end; one that has no bits stays as it was
   pub size : sizeAt d′ i ≡ length (units g ranges)
   pub sizes : (j : ℕ) → j < 8 → j ≢ i → sizeAt d′ j ≡ sizeAt d j
@@ -133,7 +142,7 @@ pub record Started (d : Device) (ws : List ℕ) (i g n : ℕ) (ranges : List Ran
 
 -- a stop of it forgets the ranges, with zeros in all places; its share is clear, and no other moves
 pub record Stopped (d : Device) (ws : List ℕ) (i : ℕ) (d′ : Device) (ws′ : List ℕ) : Type 0 where
-  pub record-is : d′ ≡ replacedAt d i (record { tracking = Off; base = 0; suspended = false; ranges = placed [] })
+  pub record-is : d′ ≡ replacedAt d i (record { tracking = Off; base = 0; suspended = false; ranges = placed []; queue = controllerAt d (some i) .queue })
   pub clear : (m : ℕ) → m < sizeAt d i → bitOf ws′ (baseAt d i) m ≡ false
   pub elsewhere : Elsewhere (baseAt d i) (sizeAt d i) ws ws′
 
@@ -196,7 +205,7 @@ pub data Moves : Op → Type 0 where
 -- any controller a of a device that was made from settings s and now tracks so many counts and units
 pub record Stands (s : Settings) (l : Left) (h : List Did) (counts held a : ℕ) : Type 0 where
   -- what record and marks hold of it is what its calls and answers tell: granularity, ranges, the suspended flag, and each unit's mark
-  pub told : slotOf (view (l .device) (l .marks) (l .area)) a ≡ slotBy h
+  pub told : slotOf (view (l .device) (l .marks) (l .area) (l .queues)) a ≡ slotBy h
   pub tracked : (i g : ℕ) (rs : List Range) → placeOf s a ≡ some i → tracksBy none h ≡ some (g, rs) → Tracked l h a i g rs
   -- "For a controller that isn't tracked a call not refused is done with count 0", and no mark changes
   pub untracked : (w : Write) → tracksBy none h ≡ none
@@ -204,7 +213,7 @@ pub record Stands (s : Settings) (l : Left) (h : List Did) (counts held a : ℕ)
       (n .answer .count ≡ 0) × (n .marks ≡ l .marks)
   -- a suspended controller's start, stop and write are refused, and change nothing
   pub suspended : suspendedBy false h ≡ true → (o : Op) → Moves o
-      → outcome l (record { id = a; op = o }) ≡ record { answer = refused 4 0; device = l .device; marks = l .marks; area = l .area; bytes = lent o }
+      → outcome l (record { id = a; op = o }) ≡ record { answer = refused 4 0; device = l .device; marks = l .marks; area = l .area; queues = l .queues; bytes = lent o }
   -- a write and a start are refused for nothing but what document 01 says
   pub may-write : (i : ℕ) (w : Write) → placeOf s a ≡ some i → suspendedBy false h ≡ false → w .address + w .bytes ≤ 2 ^ 64
       → writeNote (l .device) (l .marks) a w .answer .number ≡ 0
@@ -229,6 +238,8 @@ pub record Stands (s : Settings) (l : Left) (h : List Did) (counts held a : ℕ)
       ((c .number ≡ 0) ↔ (suspendedBy false h ≡ true)) × (c .number ≡ 0 → Resumed (l .device) a i (c .device))
   -- W6: a state of its own that arrives in parts
   pub parts : (i : ℕ) → placeOf s a ≡ some i → Arrives l h a
+  -- W8: its queue
+  pub queues : (i : ℕ) → placeOf s a ≡ some i → Logs l h a i
 
 -- ---- a record that no session made
 
@@ -242,12 +253,20 @@ pub record Keeps (l : Left) (a i : ℕ) : Type 0 where
   -- a write and a receive change no bit but those of its share
   pub written : (w : Write) → Elsewhere (baseAt (l .device) i) (sizeAt (l .device) i) (l .marks) (writeNote (l .device) (l .marks) a w .marks)
   pub received : (x : List ℕ) → Elsewhere (baseAt (l .device) i) (sizeAt (l .device) i) (l .marks) (receiveReceipt (l .device) (l .marks) a x .marks)
+  -- a suspend and a resume change the flag (and its own sequence), a part the sequence, and nothing else, no queue, used or not, among it
+  pub suspended : (kind : ℕ)
+      → let c = suspendChange (l .device) (length (l .marks)) a kind in
+      c .number ≡ 0 → c .device ≡ flaggedAt (l .device) i (controllerAt (l .device) (some i) .suspended || eqb kind 1)
+  pub resumed : let c = resumeChange (l .device) (length (l .marks)) a in c .number ≡ 0 → Resumed (l .device) a i (c .device)
+  pub arrived : (p : Part)
+      → let r = partChange (l .device) (length (l .marks)) (l .area) a p in
+      r .answer .number ≡ 0 → r .answer .device ≡ arriving (l .device) (r .answer .device .sequence)
 
 -- ---- all of it
 
 -- a controller with zeros in every place
 abbrev pub zeroed : Controller
-zeroed = record { tracking = Off; base = 0; suspended = false; ranges = replicate 16 (record { start = 0; length = 0 }) }
+zeroed = record { tracking = Off; base = 0; suspended = false; ranges = replicate 16 (record { start = 0; length = 0 }); queue = made.Nothing }
 
 pub record Demand2 : Type 1 where
   -- the rules are those of document 01: any session comes for each controller to what they give for the same calls
@@ -258,7 +277,7 @@ pub record Demand2 : Type 1 where
   pub fresh : (s : Settings) (ws : List ℕ)
       → let c = freshChange s ws in
       c .answer .number ≡ 0 → (c .answer .device ≡ freshDevice s) × (c .marks ≡ replicate 256 0)
-  -- "[Fresh fills] those they leave unused with zeros", so the bases too (W7), and no state is under way (W6); the closed device is "all zeros"
+  -- "[Fresh fills] those they leave unused with zeros", so the bases too (W7), and no state is under way (W6) and no queue made (W8); the closed device is "all zeros"
   pub zeros : (s : Settings)
       → (freshDevice s .controllers ≡ replicate 8 zeroed)
       × (freshDevice s .sequence ≡ Nothing)
@@ -272,6 +291,8 @@ pub record Demand2 : Type 1 where
   pub bits : (ws : List ℕ) (base m : ℕ) → bitOf ws base m ≡ eqb (getD ws ((base + m) / 64) 0 / 2 ^ ((base + m) % 64) % 2) 1
   -- an identifier stands where the settings list it
   pub place : (s : Settings) (a i : ℕ) → length (s .identifiers) ≡ 8 → placeOf s a ≡ some i → (i < s .count) × (getD (s .identifiers) i 0 ≡ a)
+  -- and each one that they list is found, 0 too
+  pub found : (s : Settings) (a i : ℕ) → length (s .identifiers) ≡ 8 → i < s .count → i < 8 → getD (s .identifiers) i 0 ≡ a → placeOf s a ≢ none
   -- after any calls from it, each given what the last one left: the settings are those that it was made with, and each controller stands as its calls and
   -- answers tell
   pub settings : (s : Settings) (m : Given) (ks : List Call) → Sized s m → freshChange s (m .marks) .answer .number ≡ 0
@@ -284,6 +305,8 @@ pub record Demand2 : Type 1 where
   pub unmoved : (l : Left) → Shaped l → (k : Call) (b : ℕ) → k .id ≢ b → pendingOf (next l k) b ≡ pendingOf l b
   -- there too every bit is accounted for
   pub keeps : (l : Left) → Shaped l → (a i : ℕ) → placeOf (l .device .settings) a ≡ some i → Keeps l a i
+  -- W8: and so is every field, and every byte of area and buffer, of a call to a queue, whatever its totals
+  pub queue-calls : (l : Left) → Shaped l → (a i : ℕ) → placeOf (l .device .settings) a ≡ some i → QueueCalls (l .device) (length (l .marks)) a i
   -- W6: "the same however divided": where the data that two finishing parts complete are the same, in any two sessions and of any two controllers, so is what they
   -- yield
   pub divided : (s s′ : Settings) (m m′ : Given) (ks ks′ : List Call) → Sized s m → Sized s′ m′

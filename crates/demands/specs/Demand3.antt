@@ -13,13 +13,14 @@ use Rattle.rules.specs.History.{Did, only}
 use Rattle.rules.specs.Demands.{unhindered}
 use Rattle.rules.specs.declared.Settings.{Settings}
 use Rattle.demands.specs.Sessions.{Given, Sized, endOf, historyIn, bytesIn}
-use Rattle.demands.specs.Demand2.{pendingOf, Equals}
+use Rattle.demands.specs.Demand2.{pendingOf, queuedOf, Equals}
 
--- two sessions of the calls agree for a controller: every answer, every byte lent with its calls, its reports' among them, and its pending units
+-- two sessions of the calls agree for a controller: every answer, every byte lent with its calls, its reports' among them, its pending units, and its queued entries (W8)
 pub record Agree (s : Settings) (a : ℕ) (m m′ : Given) (ks ks′ : List Call) : Type 0 where
   pub answers : historyIn s m ks a ≡ historyIn s m′ ks′ a
   pub bytes : bytesIn s m ks a ≡ bytesIn s m′ ks′ a
   pub units : pendingOf (endOf s m ks) a ≡ pendingOf (endOf s m′ ks′) a
+  pub queued : queuedOf (endOf s m ks) a ≡ queuedOf (endOf s m′ ks′) a
 
 -- a refusal for what controllers share: of a start the pool's shortage (W7) or the descriptor limit, of a part of a state that another's is under way (W6)
 pub data Shared : Op → ℕ → Type 0 where
@@ -27,7 +28,7 @@ pub data Shared : Op → ℕ → Type 0 where
   limit : (x : List ℕ) → Shared (start x) 12
   sequence : (p : Part) → Shared (part p) 23
 
--- the words of two sessions may differ, as fresh makes them 0; that there are as many is meant, as fresh refuses another number of them
+-- the words of two sessions may differ, as fresh makes them 0, and so may their areas; that there are as many words is meant, as fresh refuses another number of them
 pub record Demand3 : Type 0 where
   -- what is asked of A's answers: that none is such a refusal, and nothing else
   pub premise : (h : List Did) → ((i : ℕ) (d : Did) → getElem? h i ≡ some d → Shared (d .op) (numberOf (d .answer)) → ⊥) → unhindered h ≡ true

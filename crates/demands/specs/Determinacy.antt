@@ -18,6 +18,9 @@ use Rattle.track_receive.proofs.receive.Reads as receive
 use Rattle.migration_send.proofs.suspend.Reads as suspend
 use Rattle.migration_send.proofs.resume.Reads as resume
 use Rattle.controller_state.proofs.set_state.Reads as set-state
+use Rattle.queue.proofs.make_queue.Reads as make-queue
+use Rattle.queue.proofs.post.Reads as post
+use Rattle.queue.proofs.take.Reads as take-queue
 use Rattle.start_data.proofs.read_header.Reads as read-header
 use Rattle.start_data.proofs.read_ranges.Reads as read-ranges
 use Rattle.start_data.proofs.read_start.Reads as read-start
@@ -51,6 +54,11 @@ pub record Calls : Type 1 where
   pub resume : Determinate resume.Post
   -- and every byte of the area
   pub set-state : (κs : _) (a : _) (r r′ : _) (e e′ : _) → set-state.Post κs a r e → set-state.Post κs a r′ e′ → (r ≡ r′) × (now (e .1 .1 .0) ≡ now (e′ .1 .1 .0))
+  pub make-queue : Determinate make-queue.Post
+  pub post : (κs : _) (a : _) (r r′ : _) (e e′ : _) → post.Post κs a r e → post.Post κs a r′ e′ → (r ≡ r′) × (now (e .1 .1 .0) ≡ now (e′ .1 .1 .0))
+  -- and of its buffer
+  pub take-queue : (κs : _) (a : _) (r r′ : _) (e e′ : _) → take-queue.Post κs a r e → take-queue.Post κs a r′ e′
+      → (r ≡ r′) × (now (e .1 .1 .1 .1 .1 .0) ≡ now (e′ .1 .1 .1 .1 .1 .0))
 
 -- the start structure's readers and its writer, with every byte of the buffer
 pub record Structure : Type 1 where

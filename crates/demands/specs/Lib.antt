@@ -4,6 +4,7 @@ pub mod Contracts
 pub mod Demand1
 pub mod Soundness
 pub mod Parts
+pub mod Queues
 pub mod Demand2
 pub mod Structures
 pub mod Reserved

@@ -1,4 +1,5 @@
--- A session of the calls themselves: fresh, then any calls in any order, each given the record, the marks and the area for a state that the last one left.
+-- A session of the calls themselves: fresh, then any calls in any order, each given the record, the marks, the area for a state and the areas of the queues that the last
+-- one left.
 use Prim.Native.Nat.{ℕ}
 use mathlib.Core.Path.{_≡_}
 use mathlib.Core.Bool.{cond}
@@ -19,11 +20,14 @@ pub record Left : Type 0 where
   pub device : Device
   pub marks : List ℕ
   pub area : List ℕ
+  pub queues : ℕ → List ℕ
 
--- what a session is lent: words for the marks, and an area for a state, which fresh does not touch
+-- what a session is lent: words for the marks, an area for a state, and for each place of the settings an area of its own for a queue (W8), which fresh does not touch.
+-- A call to a queue says how many bytes of it are lent; zeros stand for those that it lacks, so that areas of any size will do
 pub record Given : Type 0 where
   pub marks : List ℕ
   pub area : List ℕ
+  pub queues : ℕ → List ℕ
 
 -- of the sizes that are meant: the eight places of the settings' type, and a state's bytes. (With an area of another size a part answers 1.)
 pub record Sized (s : Settings) (m : Given) : Type 0 where
@@ -32,14 +36,14 @@ pub record Sized (s : Settings) (m : Given) : Type 0 where
 
 -- what fresh leaves
 abbrev pub begun : Settings → Given → Left
-begun s m = record { device = freshChange s (m .marks) .answer .device; marks = freshChange s (m .marks) .marks; area = m .area }
+begun s m = record { device = freshChange s (m .marks) .answer .device; marks = freshChange s (m .marks) .marks; area = m .area; queues = m .queues }
 
 -- what a call comes to, and what it leaves
 abbrev pub outcome : Left → Call → Outcome
-outcome l k = run (l .device) (l .marks) (l .area) k
+outcome l k = run (l .device) (l .marks) (l .area) (l .queues) k
 
 abbrev pub next : Left → Call → Left
-next l k = record { device = outcome l k .device; marks = outcome l k .marks; area = outcome l k .area }
+next l k = record { device = outcome l k .device; marks = outcome l k .marks; area = outcome l k .area; queues = outcome l k .queues }
 
 abbrev pub leftAfter : Left → List Call → Left
 leftAfter l [] = l
@@ -64,7 +68,7 @@ pub data Step : Type 0 where
 -- what a step leaves
 abbrev pub stepped : Left → Step → Left
 stepped l (one k) = next l k
-stepped l (batch rs) = record { device = l .device; marks = batchChange (l .device) (l .marks) rs .marks; area = l .area }
+stepped l (batch rs) = record { device = l .device; marks = batchChange (l .device) (l .marks) rs .marks; area = l .area; queues = l .queues }
 
 abbrev pub leftBy : Left → List Step → Left
 leftBy l [] = l

@@ -1,5 +1,5 @@
 -- Refusal 1, in plain words: which records are sound, what an unsound one answers, and that no calls from a fresh device lead to one.
-use Prim.Native.Nat.{ℕ, _+_, _%_, _≤_, _<_}
+use Prim.Native.Nat.{ℕ, _+_, _-_, _%_, _^_, _≤_, _<_}
 use mathlib.Core.Path.{_≡_}
 use mathlib.Core.Logic.{_≢_, _⊎_, _↔_}
 use mathlib.Core.Bool.{true, false}
@@ -15,6 +15,8 @@ use Rattle.rules.specs.Demands.{Lawful}
 use Rattle.rules.specs.declared.Tracking.{Tracking}
 use Rattle.rules.specs.declared.Tracking.the-variants.{Off, On}
 use Rattle.rules.specs.declared.Sequence.the-variants.{Open}
+use Rattle.rules.specs.declared.Ring.{Ring}
+use Rattle.rules.specs.declared.Queue.the-variants.{Is}
 use Rattle.rules.specs.declared.Settings.{Settings}
 use Rattle.rules.specs.declared.Controller.{Controller}
 use Rattle.rules.specs.declared.Device.{Device}
@@ -44,6 +46,12 @@ pub record LawfulSequence (d : Device) (owner end : ℕ) : Type 0 where
   pub least : 4 ≤ end
   pub most : end ≤ 4096
 
+-- W8: a queue that it may have: "A fill above the queue's size, a place outside it, or a full queue not stopped, is unsound", and nothing else
+pub record LawfulRing (r : Ring) : Type 0 where
+  pub fill : (r .posted + 2 ^ 32 - r .taken) % 2 ^ 32 ≤ r .size
+  pub place : r .place < r .size
+  pub full : (r .posted + 2 ^ 32 - r .taken) % 2 ^ 32 ≡ r .size → r .stopped ≡ true
+
 -- the controller at a place in use is tracked with granularity g and n ranges
 abbrev pub TracksAt : Device → ℕ → ℕ → ℕ → Type 0
 TracksAt d i g n = (i < d .settings .count) × (controllerAt d (some i) .tracking ≡ On g n)
@@ -67,6 +75,7 @@ pub record Sound (d : Device) : Type 0 where
       → (baseAt d i + unitsAt d i g n ≤ baseAt d j) ⊎ (baseAt d j + unitsAt d j f m ≤ baseAt d i)
   pub units : unitsOf d ≤ 16384
   pub sequence : (owner end : ℕ) → d .sequence ≡ Open owner end → LawfulSequence d owner end
+  pub queues : (i : ℕ) (r : Ring) → i < d .settings .count → controllerAt d (some i) .queue ≡ Is r → LawfulRing r
 
 -- how many ranges a controller holds
 abbrev pub rangesIn : Tracking → ℕ
@@ -94,5 +103,5 @@ pub record Soundness : Type 0 where
   pub kept : (s : Settings) (m : Given) (ks : List Call) → Sized s m → freshChange s (m .marks) .answer .number ≡ 0
       → (soundDevice (endOf s m ks .device) ≡ true) × (length (endOf s m ks .marks) ≡ 256)
   pub closed : (s : Settings) (m : Given) (ks : List Call) (k : Call) → freshChange s (m .marks) .answer .number ≢ 0
-      → (endOf s m ks ≡ record { device = closedDevice; marks = m .marks; area = m .area }) × (outcome (endOf s m ks) k .answer ≡ refused 1 0)
+      → (endOf s m ks ≡ record { device = closedDevice; marks = m .marks; area = m .area; queues = m .queues }) × (outcome (endOf s m ks) k .answer ≡ refused 1 0)
       × (outcome (endOf s m ks) k .bytes ≡ lent (k .op))

@@ -117,3 +117,7 @@ module _ (a b : List ℕ) (i : ℕ) (e : length a ≡ length b) where
   pub same-over : length a ≤ i → sameBytes (drop i a) (drop i b) ≡ sameBytes a b → true ≡ sameBytes a b
   unfolding sameBytes
   same-over h inv = let k : length b ≤ i = omega arith in rw (drop-of-length-le a h, drop-of-length-le b k) at inv
+
+-- what stands before the end of a line's first field is that field
+pub same-front : (s w : List ℕ) (to : ℕ) (r : Bool) → to ≡ 0 + length (firstField (drop 0 s)) → r ≡ sameBytes (take to s) w → r ≡ sameBytes (firstField s) w
+same-front s w to r e f = let p : to ≡ length (firstField s) = omega (arith, e) in rw (p, firstField-take s) at f

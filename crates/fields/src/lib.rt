@@ -53,6 +53,14 @@ pub fn same(a: &[u8], b: &[u8]) -> bool
     true
 }
 
+// Whether a line's first field is this word.
+pub fn begins(line: &[u8], word: &[u8]) -> bool
+    ensures { λ r. ⌜ r ≡ sameBytes (firstField (now (line .entry))) (now (word .entry)) ⌝ }
+{
+    let end = field_end(line, 0);
+    same(&line[..end], word)
+}
+
 // ---- numbers
 
 // A byte as a number of 64 bits.

@@ -5,6 +5,7 @@ use calls::Changed;
 use rules::Controller;
 use rules::Device;
 use rules::MARK_WORDS;
+use rules::Queue;
 use rules::Sequence;
 use rules::Settings;
 use rules::Tracking;
@@ -29,17 +30,19 @@ fn clean(s: Settings) -> Settings
     t
 }
 
-// A device of these settings on which nobody is tracked or suspended, and no state is under way.
+// A device of these settings on which nobody is tracked or suspended, no state is under way, and no queue is made.
 fn untracked(s: Settings) -> Device
     ensures { λ r. ⌜ r ≡ record { settings = s; controllers = replicate 8 freshController; sequence = Nothing } ⌝ }
 {
     let off = Tracking::Off;
     let none = rules::no_ranges();
+    let queue = Queue::Nothing;
     let c = Controller {
         tracking: off,
         base: 0,
         suspended: false,
         ranges: none,
+        queue,
     };
     let sequence = Sequence::Nothing;
     Device {

@@ -1,11 +1,19 @@
-// A listing played from standard input to its end, each line answered on standard output: document 01's, or a shelf's, which has more lines (`bursts`, `parts`).
-// A line is cut by `lines` and played by `playing`, `bursts` or `parts`. The loop owns the device, so that a line that leaves it as it is hands nothing back.
+// A listing played from standard input to its end, each line answered on standard output: document 01's, or a shelf's, which has more lines (`bursts`, `parts`,
+// `queues`). A line is cut by `lines`, and played by `playing` or one of these. The loop owns the device, so that a line that leaves it as it is hands nothing back.
 
 use output::Buffer;
 use output::Waiting;
 use parts::Area;
 ghost use Prim.Native.Nat.{_≤_};
 ghost use lib.ListN.{length};
+
+// Which crate plays a line.
+enum Kind {
+    Session,
+    Burst,
+    Part,
+    Queue,
+}
 
 // The input that is left to take in, from a place to an end, and the answers that wait. Where it ends with 0 there is none any more.
 struct Left {
@@ -38,28 +46,30 @@ fn refill(input: &mut [u8], at: usize, end: usize, out: &Buffer, waiting: Waitin
     }
 }
 
-// Whether a line is a batch or a burst, which only a shelf's listing has.
-fn burst_line(shelf: bool, line: &[u8]) -> bool {
-    if shelf {
-        return bursts::asks(line);
+// Which crate plays a line: only a shelf's listing has lines beside document 01's.
+fn kind_of(shelf: bool, line: &[u8]) -> Kind {
+    if !shelf {
+        return Kind::Session;
     }
-    false
+    if bursts::asks(line) {
+        return Kind::Burst;
+    }
+    if parts::asks(line) {
+        return Kind::Part;
+    }
+    if queues::asks(line) {
+        return Kind::Queue;
+    }
+    Kind::Session
 }
 
-// Whether a line is a part of a state, which only a shelf's listing has.
-fn part_line(shelf: bool, line: &[u8]) -> bool {
-    if shelf {
-        return parts::asks(line);
-    }
-    false
-}
-
-// Plays the listing, to its end or until writing fails. A proved loop has to end, and nothing says that the input does: it counts its turns down, from a number
-// that no run uses up.
+// Plays the listing, to its end or until writing fails. A shelf's lends `area` to the parts of a state and `areas` to the queues; document 01's uses neither. A
+// proved loop has to end, and nothing says that the input does: it counts its turns down, from a number that no run uses up.
 pub fn run(
     shelf: bool,
     marks: &mut [u64],
     area: &mut Area,
+    areas: &mut [u8],
     line: &mut [u8],
     out: &mut Buffer,
     input: &mut [u8],
@@ -90,21 +100,31 @@ pub fn run(
         if taken.whole {
             let length = used;
             used = 0;
-            if burst_line(shelf, &line[..length]) {
-                waiting = bursts::answer(device, marks, &line[..length], out, waiting);
-            } else if part_line(shelf, &line[..length]) {
-                let played = parts::play(device, marks, area, &line[..length], out, waiting);
-                device = played.device;
-                waiting = played.waiting;
-            } else {
-                let read = listing::read_line(&line[..length]);
-                let call = read.call;
-                if playing::changes(call) {
-                    let played = playing::change(device, marks, read, out, waiting);
+            let kind = kind_of(shelf, &line[..length]);
+            match kind {
+                Kind::Burst => {
+                    waiting = bursts::answer(device, marks, &line[..length], out, waiting);
+                }
+                Kind::Part => {
+                    let played = parts::play(device, marks, area, &line[..length], out, waiting);
                     device = played.device;
                     waiting = played.waiting;
-                } else {
-                    waiting = playing::answer(device, marks, call, out, waiting);
+                }
+                Kind::Queue => {
+                    let played = queues::play(device, marks, areas, &line[..length], out, waiting);
+                    device = played.device;
+                    waiting = played.waiting;
+                }
+                Kind::Session => {
+                    let read = listing::read_line(&line[..length]);
+                    let call = read.call;
+                    if playing::changes(call) {
+                        let played = playing::change(device, marks, read, out, waiting);
+                        device = played.device;
+                        waiting = played.waiting;
+                    } else {
+                        waiting = playing::answer(device, marks, call, out, waiting);
+                    }
                 }
             }
         }

@@ -5,17 +5,11 @@ use output::Waiting;
 use playing::Played;
 use rules::Device;
 use rules::STATE_BYTES;
-ghost use Prim.Native.Nat.{_≤_, _<_};
+ghost use Prim.Native.Nat.{_≤_};
 ghost use lib.ListN.{length};
 
 // The state area, handed on from part to part.
 pub type Area = [u8; STATE_BYTES];
-
-// Some bytes in hex: whether they are that, and how many.
-struct Hex {
-    ok: bool,
-    size: usize,
-}
 
 // The numbers of a part: whether they are there and fit, and where their fields end.
 struct Numbers {
@@ -26,107 +20,6 @@ struct Numbers {
     low: u32,
     high: u32,
     count: u32,
-}
-
-// ---- hex
-
-// What a digit stands for, lower-case alone; 16 for any other byte.
-fn digit(b: u8) -> u8
-    ensures { λ r. ⌜ r ≤ 16 ⌝ }
-{
-    if b < b'0' {
-        return 16;
-    }
-    if b <= b'9' {
-        return b - b'0';
-    }
-    if b < b'a' {
-        return 16;
-    }
-    if b <= b'f' {
-        return b - b'a' + 10;
-    }
-    16
-}
-
-// Bytes that are not there, or not in hex.
-fn no_hex() -> Hex
-    ensures { λ r. ⌜ r .size ≤ 0 ⌝ }
-{
-    Hex { ok: false, size: 0 }
-}
-
-// Reads a field's bytes into `data`, if there is room for them: two digits each, and `-` where there is none.
-fn read_hex(field: &[u8], data: &mut [u8]) -> Hex
-    ensures { λ r. ⌜ r .size ≤ length (now («data» .entry)) ⌝ }
-{
-    if fields::same(field, b"-") {
-        return Hex { ok: true, size: 0 };
-    }
-    let size = field.len() / 2;
-    if size == 0 {
-        return no_hex();
-    }
-    if field.len() % 2 != 0 {
-        return no_hex();
-    }
-    if size > data.len() {
-        return no_hex();
-    }
-    let mut i: usize = 0;
-    while i < size {
-        let high = digit(field[2 * i]);
-        let low = digit(field[2 * i + 1]);
-        if high > 15 {
-            return no_hex();
-        }
-        if low > 15 {
-            return no_hex();
-        }
-        data[i] = 16 * high + low;
-        i = i + 1;
-    }
-    Hex { ok: true, size }
-}
-
-// Reads the field after the space at `at`, the last of its line.
-fn take_hex(line: &[u8], at: usize, data: &mut [u8]) -> Hex
-    ensures { λ r. ⌜ r .size ≤ length (now («data» .entry)) ⌝ }
-{
-    if at >= line.len() {
-        return no_hex();
-    }
-    let from = at + 1;
-    read_hex(&line[from..], data)
-}
-
-// The digit of a number below 16.
-fn digit_of(n: u8) -> u8
-    requires { ⌜ n < 16 ⌝ }
-{
-    if n < 10 {
-        return b'0' + n;
-    }
-    b'a' + (n - 10)
-}
-
-// Puts a byte in hex.
-fn put_hex(out: &mut Buffer, waiting: Waiting, b: u8) -> Waiting {
-    let a = output::put_byte(out, waiting, digit_of(b / 16));
-    output::put_byte(out, a, digit_of(b % 16))
-}
-
-// Puts a line of the area's first `whole` bytes, or all where it has fewer.
-fn put_front(out: &mut Buffer, waiting: Waiting, area: &Area, whole: usize) -> Waiting {
-    let mut waiting = waiting;
-    let mut i: usize = 0;
-    while i < whole {
-        if i < STATE_BYTES {
-            waiting = put_hex(out, waiting, area[i]);
-        }
-        i = i + 1;
-    }
-    output::put_byte(out, waiting, b'\n')
 }
 
 // ---- the line
@@ -170,8 +63,15 @@ fn read_numbers(line: &[u8], at: usize) -> Numbers
 
 // Whether a line begins with this word.
 pub fn asks(line: &[u8]) -> bool {
-    let end = fields::field_end(line, 0);
-    fields::same(&line[..end], b"part")
+    fields::begins(line, b"part")
+}
+
+// Puts a line of an area's first `whole` bytes, or all where it has fewer.
+fn put_front(out: &mut Buffer, waiting: Waiting, area: &[u8], whole: usize) -> Waiting {
+    if whole < area.len() {
+        return hex::put_line(out, waiting, &area[..whole]);
+    }
+    hex::put_line(out, waiting, area)
 }
 
 // Puts a part's answer: a refused one's number alone, and behind a finished state the state.
@@ -188,12 +88,6 @@ fn put_set(out: &mut Buffer, waiting: Waiting, area: &Area, number: u8, whole: u
     put_front(out, w, area, whole)
 }
 
-// Puts the answer to a bad line, which leaves the device as it is.
-fn put_bad(d: Device, out: &mut Buffer, waiting: Waiting) -> Played {
-    let waiting = output::put_bytes(out, waiting, b"bad\n");
-    Played { device: d, waiting }
-}
-
 // Plays a line that begins with this word, and puts its answer. Its data have at most 4,100 bytes, a dword more than the area; so a line that is too long, or was cut
 // for that, is bad by its data or by a number.
 pub fn play(
@@ -207,14 +101,14 @@ pub fn play(
     let end = fields::field_end(line, 0);
     let part = read_numbers(line, end);
     if !part.ok {
-        return put_bad(d, out, waiting);
+        return playing::bad(d, out, waiting);
     }
     let mut data = [0u8; 4100];
-    let hex = take_hex(line, part.end, &mut data);
-    if !hex.ok {
-        return put_bad(d, out, waiting);
+    let read = hex::take(line, part.end, &mut data);
+    if !read.ok {
+        return playing::bad(d, out, waiting);
     }
-    let size = hex.size;
+    let size = read.size;
     let set = tracker::set_state(
         d,
         marks,

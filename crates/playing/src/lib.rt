@@ -28,9 +28,14 @@ pub fn put_named(out: &mut Buffer, waiting: Waiting, name: &[u8], n: u64) -> Wai
 }
 
 // Puts a line that is a number alone.
-fn put_answer(out: &mut Buffer, waiting: Waiting, number: u8) -> Waiting {
+pub fn put_answer(out: &mut Buffer, waiting: Waiting, number: u8) -> Waiting {
     let a = output::put_number(out, waiting, number as u64);
     output::put_byte(out, a, b'\n')
+}
+
+// Puts the answer to a bad line.
+pub fn put_bad(out: &mut Buffer, waiting: Waiting) -> Waiting {
+    output::put_bytes(out, waiting, b"bad\n")
 }
 
 // Puts a start's answer: where a rule of ranges is broken, 18 to 21, the row stands after the number.
@@ -47,7 +52,7 @@ fn put_started(out: &mut Buffer, waiting: Waiting, number: u8, row: u8) -> Waiti
 }
 
 // A bool as a number.
-fn bit(b: bool) -> u64 {
+pub fn bit(b: bool) -> u64 {
     if b { 1 } else { 0 }
 }
 
@@ -221,6 +226,12 @@ fn receive_into(
 
 // ---- lines
 
+// Plays a bad line, which leaves the device as it is.
+pub fn bad(d: Device, out: &mut Buffer, waiting: Waiting) -> Played {
+    let waiting = put_bad(out, waiting);
+    Played { device: d, waiting }
+}
+
 // Whether a call may change the record.
 pub fn changes(call: Call) -> bool {
     match call {
@@ -291,6 +302,6 @@ pub fn answer(
     match call {
         Call::Write { id, address, bytes } => write(d, marks, id, address, bytes, out, waiting),
         Call::Recv { id, size } => receive_into(d, marks, id, size, out, waiting),
-        _ => output::put_bytes(out, waiting, b"bad\n"),
+        _ => put_bad(out, waiting),
     }
 }

@@ -1,3 +1,4 @@
 pub mod ShareLaws
+pub mod QueueLaws
 pub mod WalkLaws
 pub mod RecordLaws

@@ -17,7 +17,8 @@ use Rattle.rules.specs.Refusals.{Test, _else_, verdict}
 use Rattle.rules.specs.Settings.{markWords, mostUnits, identifiersOf, settingsOk, placeOf, granularityOk}
 use Rattle.rules.specs.Units.{units}
 use Rattle.rules.specs.Ranges.{listTests}
-use Rattle.rules.specs.Device.{Held, heldCount, heldUnits, heldIn, heldOf, heldOk, noShare, sharesOk, shareIn, shareOf, sharesOf, freshController, controllersOf, suspendedAt, frontOk, sequenceOk, soundRules, sound, soundDevice}
+use Rattle.rules.specs.Queue.{queueOk}
+use Rattle.rules.specs.Device.{Held, heldCount, heldUnits, heldIn, heldOf, heldOk, noShare, sharesOk, shareIn, shareOf, sharesOf, freshController, controllersOf, suspendedAt, frontOk, sequenceOk, queuesOk, soundRules, sound, soundDevice}
 use Rattle.rules.specs.declared.Range.{Range}
 use Rattle.rules.specs.declared.Tracking.{Tracking}
 use Rattle.rules.specs.declared.Tracking.the-variants.{Off, On}
@@ -224,7 +225,7 @@ module _ (d : Device) where
 module _ (d : Device) where
   abbrev rulesOf : List Bool
   rulesOf =
-      soundRules (d .settings) (map heldOf (controllersOf d)) (sequenceOk (d .settings) (controllersOf d) (d .sequence) && sharesOk (sharesOf d))
+      soundRules (d .settings) (map heldOf (controllersOf d)) (sequenceOk (d .settings) (controllersOf d) (d .sequence) && (sharesOk (sharesOf d) && queuesOk d))
 
   pub soundDevice-settings-not : settingsOk (d .settings) ≡ false → soundDevice d ≡ false
   unfolding sound
@@ -233,6 +234,12 @@ module _ (d : Device) where
   pub soundDevice-sequence-not : sequenceOk (d .settings) (controllersOf d) (d .sequence) ≡ false → soundDevice d ≡ false
   unfolding sound
   soundDevice-sequence-not e = every-not rulesOf 4 (rw e)
+
+  pub soundDevice-queues-not : queuesOk d ≡ false → soundDevice d ≡ false
+  unfolding sound
+  soundDevice-queues-not e =
+      let q = sequenceOk (d .settings) (controllersOf d) (d .sequence) in
+      every-not rulesOf 4 (ap (λ b. q && (sharesOk (sharesOf d) && b)) e ∙ ap (λ b. q && b) (and-false (sharesOk (sharesOf d))) ∙ and-false q)
 
   module _ (e : settingsOk (d .settings) ≡ true) where
     -- a controller that may not hold what it does weighs more than every limit
@@ -248,20 +255,21 @@ module _ (d : Device) where
       pub soundDevice-all-held : all (λ c. heldOk (d .settings) (heldOf c)) (controllersOf d) ≡ true
       soundDevice-all-held = weights-held (d .settings) (controllersOf d) (omega (arith, settingsOk-limit (d .settings) e))
 
-      -- where the weights are within the limit and the sequence passes, the pool is left
-      pub soundDevice-pool : sequenceOk (d .settings) (controllersOf d) (d .sequence) ≡ true → soundDevice d ≡ (leb (unitsOf d) mostUnits && sharesOk (sharesOf d))
+      -- where the weights are within the limit and the sequence and the queues pass, the pool is left
+      pub soundDevice-pool : sequenceOk (d .settings) (controllersOf d) (d .sequence) ≡ true → queuesOk d ≡ true
+          → soundDevice d ≡ (leb (unitsOf d) mostUnits && sharesOk (sharesOf d))
       unfolding sound
-      soundDevice-pool q =
+      soundDevice-pool q z =
           let held = soundDevice-all-held in
           let few = le-leb (countsOf d) (d .settings .limit) (omega (arith, weights-counts (d .settings) (controllersOf d) held)) in
-          rw (e, all-map (heldOk (d .settings)) heldOf (controllersOf d), held, few, q, and-true (sharesOk (sharesOf d)))
+          rw (e, all-map (heldOk (d .settings)) heldOf (controllersOf d), held, few, q, z, and-true (sharesOk (sharesOf d)), and-true (sharesOk (sharesOf d)))
 
       -- which is as it may be where the shares lie one behind the other by as many units as they have at most
-      pub soundDevice-lined : sequenceOk (d .settings) (controllersOf d) (d .sequence) ≡ true → walkOf d .end ≤ mostUnits → soundDevice d ≡ true
-      soundDevice-lined q h =
+      pub soundDevice-lined : sequenceOk (d .settings) (controllersOf d) (d .sequence) ≡ true → queuesOk d ≡ true → walkOf d .end ≤ mostUnits → soundDevice d ≡ true
+      soundDevice-lined q z h =
           let nowhere = Lined-nowhere (8 - d .settings .count) (walkOf d .end) in
           let lined = walkFrom-lined (d .settings) nothingWalked (controllersOf d) (replicate (8 - d .settings .count) noShare) (walkOf d .end) soundDevice-all-held h nowhere in
-          soundDevice-pool q
+          soundDevice-pool q z
           ∙ and-intro (leb (unitsOf d) mostUnits) (sharesOk (sharesOf d)) (le-leb (unitsOf d) mostUnits (omega (arith, lined .sizes, sharesOf-sizes d))) (lined .lie)
 
 -- ---- what a sound record is known by
@@ -285,6 +293,14 @@ soundDevice-facts d e =
       counts = sound-limit (d .settings) (map heldOf (controllersOf d)) _ e;
       units = sound-units (d .settings) (map heldOf (controllersOf d)) _ e;
     }
+
+-- W8: its queues are as they may be
+pub soundDevice-queues : (d : Device) → soundDevice d ≡ true → queuesOk d ≡ true
+soundDevice-queues d e =
+    and-right (sharesOk (sharesOf d)) _ (and-right (sequenceOk (d .settings) (controllersOf d) (d .sequence)) _ (sound-rest (d .settings) (map heldOf (controllersOf d)) _ e))
+
+pub soundDevice-queue : (d : Device) (i : ℕ) → soundDevice d ≡ true → i < d .settings .count → i < length (d .controllers) → queueOk (getD (d .controllers) i noController .queue) ≡ true
+soundDevice-queue d i e h k = all-front (λ (c : Controller). queueOk (c .queue)) (d .controllers) (d .settings .count) i noController h k (soundDevice-queues d e)
 
 -- W6: its sequence is as it may be
 pub soundDevice-sequence : (d : Device) → soundDevice d ≡ true → sequenceOk (d .settings) (controllersOf d) (d .sequence) ≡ true
@@ -318,7 +334,8 @@ soundDevice-held d i g n e h k t =
 -- ---- W7: its shares
 
 pub soundDevice-shares : (d : Device) → soundDevice d ≡ true → sharesOk (sharesOf d) ≡ true
-soundDevice-shares d e = and-right (sequenceOk (d .settings) (controllersOf d) (d .sequence)) _ (sound-rest (d .settings) (map heldOf (controllersOf d)) _ e)
+soundDevice-shares d e =
+    and-left (sharesOk (sharesOf d)) _ (and-right (sequenceOk (d .settings) (controllersOf d) (d .sequence)) _ (sound-rest (d .settings) (map heldOf (controllersOf d)) _ e))
 
 -- those of the places in use that have bits: within the pool, and no two overlap
 module _ (d : Device) (e : soundDevice d ≡ true) (i : ℕ) (h : i < d .settings .count) (k : i < length (d .controllers)) (some : 1 ≤ heldUnits (heldOf (getD (d .controllers) i noController))) where

@@ -3,7 +3,7 @@
 use Prim.Native.Nat.{ℕ, zero, suc, _+_, _*_, _<_, _≤_}
 use mathlib.Core.Path.{_≡_, refl, sym, ap, _∙_}
 use mathlib.Core.Logic.{_≢_}
-use mathlib.Core.Bool.{Bool, true, false, cond}
+use mathlib.Core.Bool.{Bool, true, false, _&&_, cond, and-true, and-assoc}
 use mathlib.Core.List.{List, [], _∷_, _++_, map}
 use mathlib.Core.Option.{Option, none, some}
 use native.Mathlib.Omega.{arith}
@@ -12,7 +12,8 @@ use lib.ListN.{length, getD, take}
 use borrow.Author.Tests.{eqb-true, ltb-false, ne-eqb, lt-ltb, le-ltb}
 use Rattle.rules.specs.Lists.{all, sum}
 use Rattle.rules.specs.Settings.{mostUnits}
-use Rattle.rules.specs.Device.{Held, heldCount, heldOf, heldOk, noShare, shareIn, shareOf, controllersOf}
+use Rattle.rules.specs.Queue.{queueOk}
+use Rattle.rules.specs.Device.{Held, heldCount, heldOf, heldOk, noShare, shareIn, shareOf, controllersOf, queuesOk}
 use Rattle.rules.specs.declared.Share.{Share}
 use Rattle.rules.specs.declared.Controller.{Controller}
 use Rattle.rules.specs.declared.Settings.{Settings}
@@ -29,10 +30,10 @@ use Rattle.record.proofs.ShareLaws.{Lined, Lined-empty, Lined-more}
 -- ---- how far it has come
 
 -- one controller more, by what it is found to hold
-pub walkedBy-is : (s : Settings) (w : Walked) (c : Controller) (k : Kept) (own end : ℕ) → k ≡ keptIn s (heldOf c) → own ≡ cond (k .ok) (heldCount (heldOf c)) 65536
-    → end ≡ endAfter (w .end) (c .base) (k .most .0) → record { weight = w .weight + own; end = end } ≡ walkedBy s w c
+pub walkedBy-is : (s : Settings) (w : Walked) (c : Controller) (k : Kept) (own end : ℕ) (queues : Bool) → k ≡ keptIn s (heldOf c) → own ≡ cond (k .ok) (heldCount (heldOf c)) 65536
+    → end ≡ endAfter (w .end) (c .base) (k .most .0) → queues ≡ (w .queues && queueOk (c .queue)) → record { weight = w .weight + own; end = end; queues = queues } ≡ walkedBy s w c
 unfolding walkedBy
-walkedBy-is s w c k own end e f g = rw (f, g, e)
+walkedBy-is s w c k own end queues e f g q = rw (f, g, e, q)
 
 -- a walk over the first k controllers; none of them weighs more than 65,536
 pub record Reached (d : Device) (k : ℕ) (w : Walked) : Type 0 where
@@ -70,6 +71,16 @@ walkFrom-weight s w (c ∷ cs) = omega (arith, walkFrom-weight s (walkedBy s w c
 
 pub walkOf-weight : (d : Device) → walkOf d .weight ≡ weightsOf d
 walkOf-weight d = omega (arith, walkFrom-weight (d .settings) nothingWalked (controllersOf d))
+
+-- ---- its queues
+
+walkFrom-queues : (s : Settings) (w : Walked) (cs : List Controller) → walkFrom s w cs .queues ≡ (w .queues && all (λ (c : Controller). queueOk (c .queue)) cs)
+unfolding walkedBy
+walkFrom-queues s w [] = sym (and-true (w .queues))
+walkFrom-queues s w (c ∷ cs) = walkFrom-queues s (walkedBy s w c) cs ∙ and-assoc (w .queues) (queueOk (c .queue)) (all (λ (c : Controller). queueOk (c .queue)) cs)
+
+pub walkOf-queues : (d : Device) → walkOf d .queues ≡ queuesOk d
+walkOf-queues d = walkFrom-queues (d .settings) nothingWalked (controllersOf d)
 
 -- ---- where shares end
 

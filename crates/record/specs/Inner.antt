@@ -1,11 +1,12 @@
 -- What the inner functions of soundness compute: the walk over the controllers, and what counting units asks. These serve this crate alone.
 use Prim.Native.Nat.{ℕ, _+_, _≤_}
 use mathlib.Core.Path.{_≡_}
-use mathlib.Core.Bool.{true, cond}
+use mathlib.Core.Bool.{true, _&&_, cond}
 use mathlib.Core.List.{List, [], _∷_}
 use mathlib.Core.Option.{Option, none, some}
 use lib.Dec.{ltb, eqb}
 use Rattle.rules.specs.Ranges.{rowsOk}
+use Rattle.rules.specs.Queue.{queueOk}
 use Rattle.rules.specs.Device.{Held, heldOk, heldOf, controllersOf}
 use Rattle.rules.specs.declared.Controller.{Controller}
 use Rattle.rules.specs.declared.Settings.{Settings}
@@ -31,7 +32,12 @@ endAfter end base size = cond (eqb size 0) end (cond (ltb base end) 131072 (base
 
 -- the walk: one controller more
 unfoldable pub walkedBy : Settings → Walked → Controller → Walked
-walkedBy s w c = record { weight = w .weight + weightOf s c; end = endAfter (w .end) (c .base) (keptIn s (heldOf c) .most .0) }
+walkedBy s w c =
+    record {
+      weight = w .weight + weightOf s c;
+      end = endAfter (w .end) (c .base) (keptIn s (heldOf c) .most .0);
+      queues = w .queues && queueOk (c .queue);
+    }
 
 -- several more
 abbrev pub walkFrom : Settings → Walked → List Controller → Walked
@@ -40,7 +46,7 @@ walkFrom s w (c ∷ cs) = walkFrom s (walkedBy s w c) cs
 
 -- before the first
 abbrev pub nothingWalked : Walked
-nothingWalked = record { weight = 0; end = 0 }
+nothingWalked = record { weight = 0; end = 0; queues = true }
 
 -- all controllers in use
 abbrev pub walkOf : Device → Walked

@@ -15,6 +15,8 @@ use Rattle.rules.specs.declared.Tracking.{Tracking}
 use Rattle.rules.specs.declared.Tracking.the-variants.{Off, On}
 use Rattle.rules.specs.declared.Sequence.{Sequence}
 use Rattle.rules.specs.declared.Sequence.the-variants.{Nothing, Open}
+use Rattle.rules.specs.declared.Queue.{Queue}
+use Rattle.rules.specs.declared.Queue.the-variants as queue
 use Rattle.rules.specs.declared.Controller.{Controller}
 use Rattle.rules.specs.declared.Settings.{Settings}
 use Rattle.rules.specs.declared.Device.{Device}
@@ -35,7 +37,7 @@ whereIs d words id = cond (soundWith d words) (placeAt (placeOf (d .settings) id
 
 -- what stands past the end of the controllers, which no rule looks at
 abbrev pub noController : Controller
-noController = record { tracking = Off; base = 0; suspended = false; ranges = [] }
+noController = record { tracking = Off; base = 0; suspended = false; ranges = []; queue = queue.Nothing }
 
 -- the controller at a place
 abbrev pub controllerAt : Device → Option ℕ → Controller
@@ -53,6 +55,15 @@ withSequence d q = record { settings = d .settings; controllers = d .controllers
 abbrev pub isOn : Tracking → Bool
 isOn Off = false
 isOn (On g n) = true
+
+-- W8: how many places a queue has, if there is one, and whether it has stopped
+abbrev pub placesOf : Queue → Option ℕ
+placesOf queue.Nothing = none
+placesOf (queue.Is r) = some (r .size)
+
+abbrev pub hasStopped : Queue → Bool
+hasStopped queue.Nothing = false
+hasStopped (queue.Is r) = r .stopped
 
 -- the counts of all controllers now tracked
 abbrev pub countsOf : Device → ℕ
@@ -78,6 +89,8 @@ seenIn d words p =
       known = isSome p;
       suspended = controllerAt d p .suspended;
       tracked = isOn (controllerAt d p .tracking);
+      places = placesOf (controllerAt d p .queue);
+      stopped = hasStopped (controllerAt d p .queue);
       counts = countsOf d;
       units = unitsOf d;
     }

@@ -6,6 +6,8 @@ use rules::Controller;
 use rules::Device;
 use rules::MARK_WORDS;
 use rules::MOST_UNITS;
+use rules::Queue;
+use rules::Ring;
 use rules::Sequence;
 use rules::Settings;
 use rules::Share;
@@ -20,6 +22,7 @@ ghost use lib.Dec.{leb};
 ghost use lib.ListN.{getD, drop};
 ghost use Rattle.rules.specs.Lists.{all, sum};
 ghost use Rattle.rules.specs.Settings.{mostUnits, settingsOk};
+ghost use Rattle.rules.specs.Queue.{ringOk, queueOk};
 ghost use Rattle.rules.specs.Device.{heldOf, heldOk, heldCount, shareOf, sharesOf, isInside, areApart, sharesOk, frontOk, controllersOf, sequenceOk, soundDevice};
 ghost use Rattle.record.specs.Record.{noController, unitsOf, weightsOf, whereIs};
 ghost use Rattle.record.specs.Inner.{keptIn, endAfter, walkedBy, walkOf, Countable};
@@ -30,11 +33,12 @@ pub enum Place {
     Refused(u8),
 }
 
-// How far a walk over the controllers has come: the weights together, and where the shares so far end, as long as each begins at or behind the end of those
-// before it.
+// How far a walk over the controllers has come: the weights together; where the shares so far end, as long as each begins at or behind the end of those before it;
+// and whether the queues so far are as they may be.
 pub struct Walked {
     pub weight: usize,
     pub end: u64,
+    pub queues: bool,
 }
 
 // How many ranges a controller holds: none where it is off, whatever stands in its places for them.
@@ -97,6 +101,44 @@ fn end_after(end: u64, base: u16, size: Units) -> u64
     b + size.0
 }
 
+// Whether a ring's fill is not above its size, its place is in it, and it has stopped if it is full.
+fn ring_ok(r: Ring) -> bool
+    ensures { λ b. ⌜ b ≡ ringOk r ⌝ }
+{
+    let fill = ring::fill(r.posted, r.taken);
+    let size = r.size as u32;
+    if fill > size {
+        return false;
+    }
+    if r.place >= r.size {
+        return false;
+    }
+    if fill < size {
+        return true;
+    }
+    r.stopped
+}
+
+// Whether a controller has no queue, or one that is as it may be.
+fn queue_ok(q: Queue) -> bool
+    ensures { λ r. ⌜ r ≡ queueOk q ⌝ }
+{
+    let Queue::Is(r) = q else {
+        return true;
+    };
+    ring_ok(r)
+}
+
+// Whether the queues so far are as they may be, with one more.
+fn queues_after(queues: bool, q: Queue) -> bool
+    ensures { λ r. ⌜ r ≡ (queues && queueOk q) ⌝ }
+{
+    if !queues {
+        return false;
+    }
+    queue_ok(q)
+}
+
 // The walk over the controllers, one more. Its share is taken to have as many bits as it has at most.
 fn walk_on(s: Settings, w: Walked, c: Controller) -> Walked
     requires { ⌜ (s .greatest ≤ 20) × (w .weight ≤ 458752) ⌝ }
@@ -105,9 +147,12 @@ fn walk_on(s: Settings, w: Walked, c: Controller) -> Walked
     let kept = controller_kept(s, c);
     let own = weight(kept.ok, c);
     let end = end_after(w.end, c.base, kept.most);
+    let q = c.queue;
+    let queues = queues_after(w.queues, q);
     Walked {
         weight: w.weight + own,
         end,
+        queues,
     }
 }
 
@@ -118,7 +163,15 @@ fn walk(d: Device) -> Walked
 {
     let s = d.settings;
     let n = s.count;
-    let mut w = walk_on(s, Walked { weight: 0, end: 0 }, d.controllers[0]);
+    let mut w = walk_on(
+        s,
+        Walked {
+            weight: 0,
+            end: 0,
+            queues: true,
+        },
+        d.controllers[0],
+    );
     if n <= 1 {
         return w;
     }
@@ -324,7 +377,7 @@ fn sequence_ok(d: Device) -> bool
 }
 
 // Whether a record is sound: its settings pass 16, each controller in use is off or holds what it may, their counts are within the limit, their shares lie
-// apart within the pool, and a state that arrives in parts is as it may be. Unused places are not looked at. Units are counted only where the shares do not
+// apart within the pool, and a state that arrives in parts and the queues are as they may be. Unused places are not looked at. Units are counted only where the shares do not
 // already lie one behind the other by as many as they have at most.
 pub fn sound(d: Device) -> bool
     ensures { λ r. ⌜ r ≡ soundDevice d ⌝ }
@@ -338,6 +391,9 @@ pub fn sound(d: Device) -> bool
     }
     let w = walk(d);
     if w.weight > s.limit as usize {
+        return false;
+    }
+    if !w.queues {
         return false;
     }
     if w.end <= MOST_UNITS {

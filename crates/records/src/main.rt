@@ -1,12 +1,14 @@
 // The records program: reads cases from standard input to its end, and answers each on standard output. A case is a device record of any kind, sound
 // or not, with lent marks, lent bytes and one call. The calls are `tracker`'s; here stand only the bytes of a case and of its answer, little-endian.
 //
-// A case has 2944 bytes: the record (1620 bytes: settings, from 31 on 8 controllers of 198 bytes, from 1615 on the sequence), how many mark words are lent (2)
-// and their mark (8), the call (1, at 1630), its identifier (2), address (8), length in bytes (8) and type (1), how many bytes are lent (2),
-// these (1024; those past them are zeros), how many records a batch has (2), a part's indicator (1), low and high (4 each) and count (4), how many bytes of state
-// area are lent (2), the value of those past the first 64 (1), these 64, zeros. An answer has 10978: the number (1), a start's row (1), the count of a write or a
-// batch (8), a receive's suspended, more and granularity (1 each) and runs (8), how many notes a batch did (8) and what cut it (1), how many bytes a part yields
-// (8), then the record (1620), 512 mark words, 1024 lent bytes and 4200 bytes of state area as they are after the call, with zeros past the lent ones.
+// A case has 3056 bytes: the record (1732 bytes: settings, from 31 on 8 controllers of 212 bytes, from 1727 on the sequence), how many mark words are lent (2)
+// and their mark (8), the call (1, at 1742), its identifier (2), address (8), length in bytes (8) and type (1), how many bytes are lent (2),
+// these (1024; those past them are zeros), how many records a batch has (2), a part's indicator (1), low and high (4 each) and count (4), how many bytes of
+// area are lent (2), what is in those past the first 64 (1), these 64, how many entries a take asks for (4), from which byte on a queue's area is shown (2), zeros.
+// An answer has 11100: the number (1), a start's row (1), the count of a write or a batch (8), a receive's suspended, more and granularity (1 each) and runs (8),
+// how many notes a batch did (8) and what cut it (1), how many bytes a part yields (8), whether a post has stopped its queue (1), how many entries a take took
+// (8) and whether the closing one (1), then the record (1732), 512 mark words, 1024 lent bytes and 4200 bytes of area as they are after the call, with zeros past
+// the lent ones.
 
 use libc::STDIN_FILENO;
 use output::Buffer;
@@ -14,7 +16,9 @@ use output::Waiting;
 use rules::Bytes;
 use rules::Controller;
 use rules::Device;
+use rules::Queue;
 use rules::Range;
+use rules::Ring;
 use rules::Sequence;
 use rules::Settings;
 use rules::Tracking;
@@ -30,8 +34,8 @@ struct State {
     waiting: Waiting,
 }
 
-// What a call answers, and the record after it. The row is a start's, the count a write's or a batch's, `done` and `cut` a batch's, `whole` a part's, and what was
-// received is a receive's: zeros, beside the number, where it is none.
+// What a call answers, and the record after it. The row is a start's, the count a write's or a batch's, `done` and `cut` a batch's, `whole` a part's, `stopped` a
+// post's, `taken` and `closing` a take's, and what was received is a receive's: zeros, beside the number, where it is none.
 struct Answer {
     received: Received,
     row: u8,
@@ -39,6 +43,9 @@ struct Answer {
     done: usize,
     cut: u8,
     whole: usize,
+    stopped: bool,
+    taken: usize,
+    closing: bool,
     device: Device,
 }
 
@@ -91,7 +98,7 @@ fn flag_at(case: &[u8], at: usize) -> bool {
 
 // A range, from index `at` on.
 fn read_range(case: &[u8], at: usize) -> Range
-    requires { ⌜ at ≤ 2944 ⌝ }
+    requires { ⌜ at ≤ 3056 ⌝ }
 {
     let start = long_at(case, at);
     let length = word_at(case, at + 8);
@@ -123,6 +130,27 @@ fn read_tracking(case: &[u8], at: usize) -> Tracking
     Tracking::On(granularity, count)
 }
 
+// A controller's queue, from index `at` on.
+fn read_queue(case: &[u8], at: usize) -> Queue
+    requires { ⌜ at ≤ 2048 ⌝ }
+{
+    if byte_at(case, at) == 0 {
+        return Queue::Nothing;
+    }
+    let size = short_at(case, at + 1);
+    let posted = word_at(case, at + 3);
+    let taken = word_at(case, at + 7);
+    let place = short_at(case, at + 11);
+    let stopped = flag_at(case, at + 13);
+    Queue::Is(Ring {
+        size,
+        posted,
+        taken,
+        place,
+        stopped,
+    })
+}
+
 // A controller, from index `at` on.
 fn read_controller(case: &[u8], at: usize) -> Controller
     requires { ⌜ at ≤ 2000 ⌝ }
@@ -130,12 +158,14 @@ fn read_controller(case: &[u8], at: usize) -> Controller
     let tracking = read_tracking(case, at);
     let suspended = flag_at(case, at + 3);
     let base = short_at(case, at + 4);
-    let ranges = read_ranges(case, at + 6);
+    let queue = read_queue(case, at + 6);
+    let ranges = read_ranges(case, at + 20);
     Controller {
         tracking,
         base,
         suspended,
         ranges,
+        queue,
     }
 }
 
@@ -145,7 +175,7 @@ fn read_controllers(case: &[u8]) -> [Controller; 8] {
     let mut controllers = [first; 8];
     let mut i: usize = 1;
     while i < 8 {
-        controllers[i] = read_controller(case, 31 + 198 * i);
+        controllers[i] = read_controller(case, 31 + 212 * i);
         i = i + 1;
     }
     controllers
@@ -184,11 +214,11 @@ fn read_settings(case: &[u8]) -> Settings {
 
 // The sequence.
 fn read_sequence(case: &[u8]) -> Sequence {
-    if byte_at(case, 1615) == 0 {
+    if byte_at(case, 1727) == 0 {
         return Sequence::Nothing;
     }
-    let owner = short_at(case, 1616);
-    let end = short_at(case, 1618);
+    let owner = short_at(case, 1728);
+    let end = short_at(case, 1730);
     Sequence::Open(owner, end)
 }
 
@@ -256,14 +286,36 @@ fn put_tracking(out: &mut Buffer, waiting: Waiting, t: Tracking) -> Waiting {
     }
 }
 
+// Puts a ring.
+fn put_ring(out: &mut Buffer, waiting: Waiting, r: Ring) -> Waiting {
+    let a = put_number(out, waiting, 2, r.size as u64);
+    let b = put_number(out, a, 4, r.posted as u64);
+    let c = put_number(out, b, 4, r.taken as u64);
+    let e = put_number(out, c, 2, r.place as u64);
+    put_flag(out, e, r.stopped)
+}
+
+// Puts a controller's queue.
+fn put_queue(out: &mut Buffer, waiting: Waiting, q: Queue) -> Waiting {
+    match q {
+        Queue::Nothing => put_number(out, waiting, 14, 0),
+        Queue::Is(r) => {
+            let a = output::put_byte(out, waiting, 1);
+            put_ring(out, a, r)
+        }
+    }
+}
+
 // Puts a controller.
 fn put_controller(out: &mut Buffer, waiting: Waiting, c: Controller) -> Waiting {
     let t = c.tracking;
+    let queue = c.queue;
     let ranges = c.ranges;
     let a = put_tracking(out, waiting, t);
     let b = put_flag(out, a, c.suspended);
     let e = put_number(out, b, 2, c.base as u64);
-    put_ranges(out, e, ranges)
+    let f = put_queue(out, e, queue);
+    put_ranges(out, f, ranges)
 }
 
 // Puts the controllers.
@@ -352,7 +404,10 @@ fn put_answer(out: &mut Buffer, waiting: Waiting, a: Answer) -> Waiting {
     let g = put_number(out, f, 8, a.done as u64);
     let h = output::put_byte(out, g, a.cut);
     let i = put_number(out, h, 8, a.whole as u64);
-    put_device(out, i, device)
+    let j = put_flag(out, i, a.stopped);
+    let k = put_number(out, j, 8, a.taken as u64);
+    let l = put_flag(out, k, a.closing);
+    put_device(out, l, device)
 }
 
 // How many there are: as a case says, and no more than there is room for.
@@ -376,10 +431,9 @@ fn not_received(number: u8) -> Received {
     }
 }
 
-// The answer of a call that may change the record.
-fn changed(c: Changed) -> Answer {
-    let received = not_received(c.number);
-    let device = c.device;
+// The answer of a call with this number, and zeros beside it.
+fn answer_of(number: u8, device: Device) -> Answer {
+    let received = not_received(number);
     Answer {
         received,
         row: 0,
@@ -387,8 +441,17 @@ fn changed(c: Changed) -> Answer {
         done: 0,
         cut: 0,
         whole: 0,
+        stopped: false,
+        taken: 0,
+        closing: false,
         device,
     }
+}
+
+// The answer of a call that may change the record, and no more.
+fn changed(c: Changed) -> Answer {
+    let device = c.device;
+    answer_of(c.number, device)
 }
 
 // Plays a fresh.
@@ -400,75 +463,55 @@ fn fresh(case: &[u8], marks: &mut [u64]) -> Answer {
 // Plays a start.
 fn start(case: &[u8], marks: &mut [u64], lent: &[u8]) -> Answer {
     let d = read_device(case);
-    let id = short_at(case, 1631);
+    let id = short_at(case, 1743);
     let started = tracker::start(d, marks, id, lent);
-    let received = not_received(started.number);
     let device = started.device;
-    Answer {
-        received,
-        row: started.row,
-        count: 0,
-        done: 0,
-        cut: 0,
-        whole: 0,
-        device,
-    }
+    let mut answer = answer_of(started.number, device);
+    answer.row = started.row;
+    answer
 }
 
 // Plays a stop.
 fn stop(case: &[u8], marks: &mut [u64]) -> Answer {
     let d = read_device(case);
-    let id = short_at(case, 1631);
+    let id = short_at(case, 1743);
     changed(tracker::stop(d, marks, id))
 }
 
 // Plays a write: the record stays as given.
 fn write(case: &[u8], marks: &mut [u64]) -> Answer {
     let device = read_device(case);
-    let id = short_at(case, 1631);
-    let at = long_at(case, 1633);
-    let bytes = long_at(case, 1641);
+    let id = short_at(case, 1743);
+    let at = long_at(case, 1745);
+    let bytes = long_at(case, 1753);
     let written = tracker::write(device, marks, id, at, Bytes(bytes));
-    let received = not_received(written.number);
-    Answer {
-        received,
-        row: 0,
-        count: written.count,
-        done: 0,
-        cut: 0,
-        whole: 0,
-        device,
-    }
+    let mut answer = answer_of(written.number, device);
+    answer.count = written.count;
+    answer
 }
 
 // Plays a receive: the record stays as given.
 fn receive(case: &[u8], marks: &mut [u64], lent: &mut [u8]) -> Answer {
     let device = read_device(case);
-    let id = short_at(case, 1631);
+    let id = short_at(case, 1743);
     let received = tracker::receive(device, marks, id, lent);
-    Answer {
-        received,
-        row: 0,
-        count: 0,
-        done: 0,
-        cut: 0,
-        whole: 0,
-        device,
-    }
+    let mut answer = answer_of(received.number, device);
+    answer.received = received;
+    answer
 }
 
 // Plays a suspend.
 fn suspend(case: &[u8], marks: &[u64]) -> Answer {
     let d = read_device(case);
-    let id = short_at(case, 1631);
-    let kind = byte_at(case, 1649);
+    let id = short_at(case, 1743);
+    let kind = byte_at(case, 1761);
     changed(tracker::suspend(d, marks, id, kind))
 }
 
 // Plays a resume.
 fn resume(case: &[u8], marks: &[u64]) -> Answer {
     let d = read_device(case);
-    let id = short_at(case, 1631);
+    let id = short_at(case, 1743);
     changed(tracker::resume(d, marks, id))
 }
 
@@ -515,46 +558,67 @@ fn read_records(rows: &[u8]) -> [WriteRecord; 1025] {
 // Plays a batch: the record stays as given.
 fn batch(case: &[u8], marks: &mut [u64], lent: &[u8]) -> Answer {
     let device = read_device(case);
-    let n = lent_at(case, 2676, 1025);
+    let n = lent_at(case, 2788, 1025);
     let records = read_records(lent);
     let batched = tracker::batch_of(device, marks, records, n);
-    let received = not_received(batched.number);
-    Answer {
-        received,
-        row: 0,
-        count: batched.count,
-        done: batched.done,
-        cut: batched.refusal,
-        whole: 0,
-        device,
-    }
+    let mut answer = answer_of(batched.number, device);
+    answer.count = batched.count;
+    answer.done = batched.done;
+    answer.cut = batched.refusal;
+    answer
 }
 
 // Plays a part.
 fn part(case: &[u8], marks: &[u64], lent: &[u8], area: &mut [u8]) -> Answer {
     let d = read_device(case);
-    let id = short_at(case, 1631);
-    let indicator = byte_at(case, 2678);
-    let low = word_at(case, 2679);
-    let high = word_at(case, 2683);
-    let count = word_at(case, 2687);
+    let id = short_at(case, 1743);
+    let indicator = byte_at(case, 2790);
+    let low = word_at(case, 2791);
+    let high = word_at(case, 2795);
+    let count = word_at(case, 2799);
     let set = tracker::set_state(d, marks, area, id, indicator, low, high, count, lent);
-    let received = not_received(set.number);
     let device = set.device;
-    Answer {
-        received,
-        row: 0,
-        count: 0,
-        done: 0,
-        cut: 0,
-        whole: set.whole,
-        device,
-    }
+    let mut answer = answer_of(set.number, device);
+    answer.whole = set.whole;
+    answer
+}
+
+// ---- a queue
+
+// Makes a queue.
+fn make(case: &[u8], marks: &[u64], area: &[u8]) -> Answer {
+    let d = read_device(case);
+    let id = short_at(case, 1743);
+    changed(tracker::make_queue(d, marks, id, area))
+}
+
+// Plays a post.
+fn post(case: &[u8], marks: &[u64], lent: &[u8], area: &mut [u8]) -> Answer {
+    let d = read_device(case);
+    let id = short_at(case, 1743);
+    let posted = tracker::post(d, marks, area, id, lent);
+    let device = posted.device;
+    let mut answer = answer_of(posted.number, device);
+    answer.stopped = posted.stopped;
+    answer
+}
+
+// Plays a take.
+fn take(case: &[u8], marks: &[u64], lent: &mut [u8], area: &[u8]) -> Answer {
+    let d = read_device(case);
+    let id = short_at(case, 1743);
+    let asked = word_at(case, 2870);
+    let taken = tracker::take(d, marks, area, id, asked, lent);
+    let device = taken.device;
+    let mut answer = answer_of(taken.number, device);
+    answer.taken = taken.count;
+    answer.closing = taken.closing;
+    answer
 }
 
 // Plays a case's call on what is lent to it. A call past the form is taken for the last one.
 fn call(case: &[u8], marks: &mut [u64], lent: &mut [u8], area: &mut [u8]) -> Answer {
-    match byte_at(case, 1630) {
+    match byte_at(case, 1742) {
         0 => fresh(case, marks),
         1 => start(case, marks, lent),
         2 => stop(case, marks),
@@ -563,8 +627,16 @@ fn call(case: &[u8], marks: &mut [u64], lent: &mut [u8], area: &mut [u8]) -> Ans
         5 => suspend(case, marks),
         6 => resume(case, marks),
         7 => batch(case, marks, lent),
-        _ => part(case, marks, lent, area),
+        8 => part(case, marks, lent, area),
+        9 => make(case, marks, area),
+        10 => post(case, marks, lent, area),
+        _ => take(case, marks, lent, area),
     }
+}
+
+// Whether a case's call is one to a queue.
+fn to_queue(case: &[u8]) -> bool {
+    byte_at(case, 1742) > 8
 }
 
 // ---- what is lent
@@ -587,7 +659,7 @@ fn fill_marks(marks: &mut [u64], mark: u64) {
 // A lent byte: those past the ones that a case has room for are zeros.
 fn lent_byte(case: &[u8], i: usize) -> u8 {
     if i < 1024 {
-        return byte_at(case, 1652 + i);
+        return byte_at(case, 1764 + i);
     }
     0
 }
@@ -601,15 +673,25 @@ fn fill_lent(case: &[u8], lent: &mut [u8]) {
     }
 }
 
-// A byte of the state area: the first ones are told one by one, those past them are all the same.
-fn area_byte(case: &[u8], i: usize) -> u8 {
-    if i < 64 {
-        return byte_at(case, 2694 + i);
+// A byte of an area past its first ones: a state's are all the same, and a queue's go up by one from place to place.
+fn later_byte(case: &[u8], i: usize) -> u8 {
+    let fill = byte_at(case, 2805);
+    if to_queue(case) {
+        let place = ((i / 32) % 256) as u8;
+        return std::num::wrapping_add_u8(fill, place);
     }
-    byte_at(case, 2693)
+    fill
 }
 
-// Makes the state area.
+// A byte of an area: the first ones are told one by one.
+fn area_byte(case: &[u8], i: usize) -> u8 {
+    if i < 64 {
+        return byte_at(case, 2806 + i);
+    }
+    later_byte(case, i)
+}
+
+// Makes an area.
 fn fill_area(case: &[u8], area: &mut [u8]) {
     let mut i: usize = 0;
     while i < area.len() {
@@ -620,7 +702,7 @@ fn fill_area(case: &[u8], area: &mut [u8]) {
 
 // Fills what a case lends, and plays its call on that.
 fn lend(case: &[u8], marks: &mut [u64], lent: &mut [u8], area: &mut [u8]) -> Answer {
-    let mark = long_at(case, 1622);
+    let mark = long_at(case, 1734);
     fill_marks(marks, mark);
     fill_lent(case, lent);
     fill_area(case, area);
@@ -629,9 +711,9 @@ fn lend(case: &[u8], marks: &mut [u64], lent: &mut [u8], area: &mut [u8]) -> Ans
 
 // Plays a case in this room, all zeros, for what it lends: what is past that stays zero.
 fn play_in(case: &[u8], marks: &mut [u64], lent: &mut [u8], area: &mut [u8]) -> Answer {
-    let words = lent_at(case, 1620, marks.len());
-    let size = lent_at(case, 1650, lent.len());
-    let bytes = lent_at(case, 2691, area.len());
+    let words = lent_at(case, 1732, marks.len());
+    let size = lent_at(case, 1762, lent.len());
+    let bytes = lent_at(case, 2803, area.len());
     lend(
         case,
         &mut marks[..words],
@@ -640,27 +722,39 @@ fn play_in(case: &[u8], marks: &mut [u64], lent: &mut [u8], area: &mut [u8]) -> 
     )
 }
 
-// Puts the lent bytes that an answer has room for.
-fn put_told(out: &mut Buffer, waiting: Waiting, lent: &[u8; 4100]) -> Waiting {
+// From which byte on an answer shows an area: a state's is shown from its first.
+fn shown_from(case: &[u8]) -> usize
+    ensures { λ r. ⌜ r ≤ 65535 ⌝ }
+{
+    if to_queue(case) {
+        return short_at(case, 2874) as usize;
+    }
+    0
+}
+
+// Puts `count` bytes of those that were lent, from a place on. Past their end are zeros.
+fn put_shown(out: &mut Buffer, waiting: Waiting, bytes: &[u8], from: usize, count: usize) -> Waiting
+    requires { ⌜ (from ≤ 65535) × (count ≤ 4200) ⌝ }
+{
     let mut waiting = waiting;
     let mut i: usize = 0;
-    while i < 1024 {
-        waiting = output::put_byte(out, waiting, lent[i]);
+    while i < count {
+        waiting = output::put_byte(out, waiting, byte_at(bytes, from + i));
         i = i + 1;
     }
     waiting
 }
 
-// Plays a case, and puts its answer. There is room for more marks and more state area than a device has.
+// Plays a case, and puts its answer. There is room for more marks and more area than a device has.
 fn play(case: &[u8], out: &mut Buffer, waiting: Waiting) -> Waiting {
     let mut marks = [0u64; 512];
     let mut lent = [0u8; 4100];
-    let mut area = [0u8; 4200];
+    let mut area = [0u8; 32800];
     let answer = play_in(case, &mut marks, &mut lent, &mut area);
     let a = put_answer(out, waiting, answer);
     let b = put_words(out, a, &marks);
-    let c = put_told(out, b, &lent);
-    output::put_bytes(out, c, &area)
+    let c = put_shown(out, b, &lent, 0, 1024);
+    put_shown(out, c, &area, shown_from(case), 4200)
 }
 
 // ---- input and output
@@ -729,9 +823,9 @@ fn run(case: &mut [u8], out: &mut Buffer, input: &mut [u8]) {
     }
 }
 
-// A case is 2944 bytes.
+// A case is 3056 bytes.
 fn main() {
-    let mut case = [0u8; 2944];
+    let mut case = [0u8; 3056];
     let mut out = [0u8; 65536];
     let mut input = [0u8; 65536];
     run(&mut case, &mut out, &mut input);

@@ -14,9 +14,9 @@ use Rattle.rules.specs.Refusals.{Test, verdict}
 use Rattle.rules.specs.Settings.{mostUnits, identifiersOf, placeOf}
 use Rattle.rules.specs.Units.{units}
 use Rattle.rules.specs.StartData.{granularityOf, countOf, rangesOf}
-use Rattle.rules.specs.Order.{Op, start, stop, write, receive, suspend, resume, part, Seen, Arriving, startOwn, startShared, order}
+use Rattle.rules.specs.Order.{Op, start, stop, write, receive, suspend, resume, part, queue, make, post, take, Seen, Arriving, startOwn, startShared, order}
 use Rattle.rules.specs.Device.{Held, heldCount, heldUnits, cleaned, closedSettings}
-use Rattle.rules.specs.Machine.{Answer, refused, Marks, off, on, Slot, freshSlot, isSuspended, areOn, isTracked, heldOn, heldBy, isOpen, accepted, slotStep, State, fresh, soundState, countsIn, unitsIn, slotAt, withSlot, slotOf, seenAt, othersOpen, arrivingAt, stepAt, Call, Event, step, after, events, numberOf}
+use Rattle.rules.specs.Machine.{Answer, refused, Marks, off, on, Slot, freshSlot, isSuspended, areOn, isTracked, heldOn, heldBy, isOpen, placesIn, stoppedIn, accepted, slotStep, State, fresh, soundState, countsIn, unitsIn, slotAt, withSlot, slotOf, seenAt, othersOpen, arrivingAt, stepAt, Call, Event, step, after, events, numberOf}
 use Rattle.rules.specs.History.{Did, only, historyOf}
 use Rattle.rules.specs.Demands.{unhindered, sharedRefusals}
 use Rattle.rules.specs.declared.Settings.{Settings}
@@ -29,7 +29,7 @@ use Rattle.rules.proofs.SoundLaws.{step-sound, fresh-sum}
 -- ---- what a controller's call sees, with n counts and m units tracked
 
 abbrev seenFor : Bool → Settings → ℕ → Slot → ℕ → ℕ → Seen
-seenFor b s a c n m = record { sound = b; known = isSome (placeOf s a); suspended = isSuspended c; tracked = isTracked c; counts = n; units = m }
+seenFor b s a c n m = record { sound = b; known = isSome (placeOf s a); suspended = isSuspended c; tracked = isTracked c; places = placesIn (c .queue); stopped = stoppedIn (c .queue); counts = n; units = m }
 
 -- and what a part sees beside that, with a state of another under way or not (W6)
 abbrev arrivingFor : Bool → Slot → Arriving
@@ -96,7 +96,7 @@ slotStep-same b s a c n m q resume f = refl
 slotStep-same b s a c n m q (part x) f = go b (isSome (placeOf s a)) (c .suspended) q f
   where
     at : Bool → Bool → Bool → ℕ → ℕ → Bool → Answer × Slot
-    at b known u n m q = slotStep s (record { sound = b; known = known; suspended = u; tracked = isTracked c; counts = n; units = m }) (arrivingFor q c) c (part x)
+    at b known u n m q = slotStep s (record { sound = b; known = known; suspended = u; tracked = isTracked c; places = placesIn (c .queue); stopped = stoppedIn (c .queue); counts = n; units = m }) (arrivingFor q c) c (part x)
 
     go : (b known u q : Bool) → not (member (numberOf ((at b known u n m q) .0)) (23 ∷ [])) ≡ true → at b known u 0 0 false ≡ at b known u n m q
     go false known u q f = refl
@@ -104,6 +104,9 @@ slotStep-same b s a c n m q (part x) f = go b (isSome (placeOf s a)) (c .suspend
     go true true false q f = refl
     go true true true false f = refl
     go true true true true f = absurd (true≢false (sym f))
+slotStep-same b s a c n m q (queue bytes make) f = refl
+slotStep-same b s a c n m q (queue bytes (post x)) f = refl
+slotStep-same b s a c n m q (queue bytes (take asked x)) f = refl
 
 -- ---- an unsound device stays as it is, so a device is as sound after a call as it was before
 
@@ -116,6 +119,7 @@ slotStep-unsound s v a c (receive x) e = rw e
 slotStep-unsound s v a c (suspend kind) e = rw e
 slotStep-unsound s v a c resume e = rw e
 slotStep-unsound s v a c (part x) e = rw e
+slotStep-unsound s v a c (queue bytes k) e = rw e
 
 pub withSlot-slotAt : (st : State) (p : Option ℕ) → withSlot st p (slotAt st p) ≡ st
 withSlot-slotAt st none = refl
@@ -213,8 +217,8 @@ unfolding order
 own-count b s a c (start x) = go b (isSome (placeOf s a)) (c .suspended) (c .marks)
   where
     go : (b known f : Bool) (t : Marks)
-        → slotStep s (record { sound = b; known = known; suspended = f; tracked = areOn t; counts = heldCount (heldOn t); units = heldUnits (heldOn t) }) (arrivingFor false c) c (start x)
-        ≡ slotStep s (record { sound = b; known = known; suspended = f; tracked = areOn t; counts = 0; units = 0 }) (arrivingFor false c) c (start x)
+        → slotStep s (record { sound = b; known = known; suspended = f; tracked = areOn t; places = placesIn (c .queue); stopped = stoppedIn (c .queue); counts = heldCount (heldOn t); units = heldUnits (heldOn t) }) (arrivingFor false c) c (start x)
+        ≡ slotStep s (record { sound = b; known = known; suspended = f; tracked = areOn t; places = placesIn (c .queue); stopped = stoppedIn (c .queue); counts = 0; units = 0 }) (arrivingFor false c) c (start x)
     go b known f off = refl
     go true true true (on g rs p) = refl
     go true true false (on g rs p) = refl
@@ -226,6 +230,9 @@ own-count b s a c (receive x) = refl
 own-count b s a c (suspend kind) = refl
 own-count b s a c resume = refl
 own-count b s a c (part x) = refl
+own-count b s a c (queue bytes make) = refl
+own-count b s a c (queue bytes (post x)) = refl
+own-count b s a c (queue bytes (take asked x)) = refl
 
 -- nobody but a is tracked, and no other's state is under way
 pub record Lonely (a : ℕ) (st : State) : Type 0 where

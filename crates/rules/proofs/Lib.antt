@@ -5,6 +5,7 @@ pub mod UnitLaws
 pub mod RunLaws
 pub mod RowLaws
 pub mod OrderLaws
+pub mod QueueHistory
 pub mod SlotHistory
 pub mod StateLaws
 pub mod SoundLaws

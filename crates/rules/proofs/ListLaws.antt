@@ -326,3 +326,10 @@ keep-length f (x ∷ xs) = go (keep-length f xs) (f x)
     go : length (keep f xs) ≤ length xs → (b : Bool) → length (cond b (x ∷ keep f xs) (keep f xs)) ≤ suc (length xs)
     go k true = omega (arith, k)
     go k false = omega (arith, k)
+
+-- a front of a front is a front of the whole
+pub take-take : {A : Type 0} (n m : ℕ) (l : List A) → take n (take m l) ≡ take (length (take n (take m l))) l
+take-take zero m l = refl
+take-take (suc n) zero l = refl
+take-take (suc n) (suc m) [] = refl
+take-take (suc n) (suc m) (x ∷ l) = ap (λ r. x ∷ r) (take-take n m l)

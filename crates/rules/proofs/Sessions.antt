@@ -33,7 +33,7 @@ known-run a (k ∷ ks) st z h t = go (eqb (k .id) a) refl (known-run a ks ((step
     go true q ih =
         let own : k .id ≡ a = eqb-true (k .id) a q in
         rw append-assoc at (ih (h ++ d ∷ [])
-        (rw (step-own st k a z own, step-own-answer st k a own) (known-step (st .settings) (seenAt st (placeOf (st .settings) a)) (arrivingAt st (placeOf (st .settings) a)) h (slotOf st a) (k .op) refl t)))
+        (rw (step-own st k a z own, step-own-answer st k a own) (known-step (st .settings) (seenAt st (placeOf (st .settings) a)) (arrivingAt st (placeOf (st .settings) a)) h (slotOf st a) (k .op) refl refl t)))
     go false q ih = ih h (rw (step-other st k a (eqb-false (k .id) a q)) t)
 
 pub known-session : (s : Settings) (words a : ℕ) (ks : List Call) → Known (historyOf a (events (fresh s words) ks)) (slotOf (after (fresh s words) ks) a)

@@ -12,14 +12,16 @@ use Rattle.rules.specs.Settings.{unitSize}
 use Rattle.rules.specs.Units.{Unit, Write, units, touches, clear, mark, newly}
 use Rattle.rules.specs.StartData.{granularityOf, countOf, rangesOf}
 use Rattle.rules.specs.Report.{room, reportOn, marksLeft}
-use Rattle.rules.specs.Order.{Op, start, stop, write, receive, suspend, resume, part, Part, offsetOf, isFirst, isLast, followsOn, follows, soFar, joinedWith, Seen, Arriving, order}
-use Rattle.rules.specs.Machine.{Answer, refused, done, wrote, reported, assembled, Marks, off, on, Slot, freshSlot, wroteIn, reportedIn, accepted, slotStep}
-use Rattle.rules.specs.History.{Did, isAccepted, touchedBy, startedBy, reportedBy, quietSince, pendingBy, PendingBy, toldBy, tracksAfter, tracksBy, suspendsAfter, suspendedBy, opensAfter, openBy, joinsAfter, joinedBy, frontBy, marksBy, slotBy}
+use Rattle.rules.specs.Order.{Op, start, stop, write, receive, suspend, resume, part, queue, QueueCall, make, post, take, Part, offsetOf, isFirst, isLast, followsOn, follows, soFar, joinedWith, Seen, Arriving, order}
+use Rattle.rules.specs.Machine.{Answer, refused, done, wrote, reported, assembled, Marks, off, on, Slot, freshSlot, placesIn, wroteIn, reportedIn, queueIn, accepted, slotStep}
+use Rattle.rules.specs.Queue.{Queued}
+use Rattle.rules.specs.History.{Did, isAccepted, touchedBy, startedBy, reportedBy, quietSince, pendingBy, PendingBy, toldBy, tracksAfter, tracksBy, suspendsAfter, suspendedBy, opensAfter, openBy, joinsAfter, joinedBy, frontBy, queueBy, marksBy, slotBy}
 use Rattle.rules.specs.declared.Range.{Range}
 use Rattle.rules.specs.declared.Settings.{Settings}
 use Rattle.rules.proofs.ListLaws.{map-same}
 use Rattle.rules.proofs.RefusalLaws.{Passed, verdict-has}
 use Rattle.rules.proofs.OrderLaws.{startOrder-passed, listTests-aligned, partOrder-passed}
+use Rattle.rules.proofs.QueueHistory.{Logged, Ready, logged-is, logged-fresh, logged-refused, logged-idle, logged-queue, queue-ready}
 use Rattle.rules.proofs.UnitLaws.{Apart, unitSize-pos, unitsFrom-apart, unitsFrom-sized, mark-map}
 use Rattle.rules.proofs.RunLaws.{marksLeft-map}
 
@@ -87,6 +89,7 @@ pub record Known (h : List Did) (c : Slot) : Type 0 where
   pub tracked : tracking (c .marks) ≡ tracksBy none h
   pub suspended : c .suspended ≡ suspendedBy false h
   pub front : c .front ≡ frontBy h
+  pub queue : Logged h (c .queue)
 
 -- it says what the slot is
 told-is : (h : List Did) (t : Marks) → Told h t → t ≡ marksBy h (tracking t)
@@ -95,11 +98,11 @@ told-is h (on g rs p) k = ap (on g rs) (k .0)
 
 pub known-is : (h : List Did) (c : Slot) → Known h c → c ≡ slotBy h
 known-is h c k =
-    ap₂ (λ b t. record { suspended = b; marks = t; front = c .front }) (k .suspended) (told-is h (c .marks) (k .marks) ∙ ap (marksBy h) (k .tracked))
-    ∙ ap (λ (f : Option (List ℕ)). record { suspended = suspendedBy false h; marks = marksBy h (tracksBy none h); front = f }) (k .front)
+    ap₂ (λ b t. record { suspended = b; marks = t; front = c .front; queue = c .queue }) (k .suspended) (told-is h (c .marks) (k .marks) ∙ ap (marksBy h) (k .tracked))
+    ∙ ap₂ (λ (f : Option (List ℕ)) (q : Option Queued). record { suspended = suspendedBy false h; marks = marksBy h (tracksBy none h); front = f; queue = q }) (k .front) (logged-is h (c .queue) (k .queue))
 
 pub known-fresh : Known [] freshSlot
-known-fresh = record { marks = tt; tracked = refl; suspended = refl; front = refl }
+known-fresh = record { marks = tt; tracked = refl; suspended = refl; front = refl; queue = logged-fresh }
 
 abbrev pub did : Op → Answer → Did
 did o a = record { op = o; answer = a }
@@ -122,6 +125,7 @@ known-refused h o n i c k =
       tracked = k .tracked ∙ sym (toldBy-snoc tracksAfter h d none);
       suspended = k .suspended ∙ sym (toldBy-snoc suspendsAfter h d false);
       front = k .front ∙ ap₂ (λ b x. cond b (some x) none) (sym (toldBy-snoc opensAfter h d false)) (sym (toldBy-snoc joinsAfter h d []));
+      queue = logged-refused h o n i (c .queue) (k .queue);
     }
   where
     d : Did
@@ -167,7 +171,7 @@ told-receive h x b (on g rs p) i = (left ∙ map-same same us, i .1)
     same : (u : Unit) → (pendingBy h u && not (reportedBy d u)) ≡ pendingBy (h ++ d ∷ []) u
     same u = sym (pendingBy-snoc h d u ∙ or-false (pendingBy h u && not (reportedBy d u)))
 
--- what the tests of a call give its slot: the units of a start are apart, and a part follows
+-- what the tests of a call give its slot: the units of a start are apart, a part follows, and a post or a take has a queue
 abbrev Allowed : Slot → Op → Type 0
 Allowed c (start x) = Apart (units (granularityOf x) (rangesOf x))
 Allowed c stop = Prim.Unit {0}
@@ -176,17 +180,19 @@ Allowed c (receive x) = Prim.Unit {0}
 Allowed c (suspend kind) = Prim.Unit {0}
 Allowed c resume = Prim.Unit {0}
 Allowed c (part p) = follows (c .front) p ≡ true
+Allowed c (queue bytes k) = Ready bytes k (c .queue)
 
-allowed : (s : Settings) (v : Seen) (a : Arriving) (c : Slot) (o : Op) → a .front ≡ c .front → Passed (order s v a o) → Allowed c o
+allowed : (s : Settings) (v : Seen) (a : Arriving) (c : Slot) (o : Op) → a .front ≡ c .front → v .places ≡ placesIn (c .queue) → Passed (order s v a o) → Allowed c o
 unfolding order
-allowed s v a c (start x) e h =
+allowed s v a c (start x) e f h =
     unitsFrom-apart (unitSize (granularityOf x)) 0 [] (rangesOf x) (unitSize-pos (granularityOf x)) (listTests-aligned s (granularityOf x) (countOf x) (rangesOf x) (startOrder-passed s v x h .list))
-allowed s v a c stop e h = tt
-allowed s v a c (write w) e h = tt
-allowed s v a c (receive x) e h = tt
-allowed s v a c (suspend kind) e h = tt
-allowed s v a c resume e h = tt
-allowed s v a c (part p) e h = subst (λ y. follows y p ≡ true) e (partOrder-passed v a p h .follow)
+allowed s v a c stop e f h = tt
+allowed s v a c (write w) e f h = tt
+allowed s v a c (receive x) e f h = tt
+allowed s v a c (suspend kind) e f h = tt
+allowed s v a c resume e f h = tt
+allowed s v a c (part p) e f h = subst (λ y. follows y p ≡ true) e (partOrder-passed v a p h .follow)
+allowed s v a c (queue bytes k) e f h = queue-ready v bytes k (c .queue) f h
 
 -- an accepted call: its answer, and what becomes of its ranges, its flag and its marks
 pub accepted-done : (c : Slot) (o : Op) → isAccepted ((accepted c o) .0) ≡ true
@@ -209,6 +215,14 @@ accepted-done c (part p) = go (isLast p)
     go : (b : Bool) → isAccepted ((cond {A = Answer × Option (List ℕ)} b (assembled (joinedWith (c .front) p), none) (done, some (joinedWith (c .front) p))) .0) ≡ true
     go true = refl
     go false = refl
+accepted-done c (queue bytes k) = go k (c .queue)
+  where
+    go : (k : QueueCall) (q : Option Queued) → isAccepted ((queueIn bytes k q) .0) ≡ true
+    go make q = refl
+    go (post e) none = refl
+    go (post e) (some q) = refl
+    go (take asked x) none = refl
+    go (take asked x) (some q) = refl
 
 accepted-tracks : (c : Slot) (o : Op) → tracking ((accepted c o) .1 .marks) ≡ tracksAfter (tracking (c .marks)) o
 accepted-tracks c (start x) = refl
@@ -226,6 +240,7 @@ accepted-tracks c (receive x) = go (c .marks)
 accepted-tracks c (suspend kind) = refl
 accepted-tracks c resume = refl
 accepted-tracks c (part p) = refl
+accepted-tracks c (queue bytes k) = refl
 
 accepted-suspends : (c : Slot) (o : Op) → (accepted c o) .1 .suspended ≡ suspendsAfter (c .suspended) o
 accepted-suspends c (start x) = refl
@@ -235,6 +250,7 @@ accepted-suspends c (receive x) = refl
 accepted-suspends c (suspend kind) = refl
 accepted-suspends c resume = refl
 accepted-suspends c (part p) = refl
+accepted-suspends c (queue bytes k) = refl
 
 -- what a part that follows makes of the bytes so far is what the history tells
 pub joinedWith-told : (h : List Did) (p : Part) (y : Option (List ℕ)) → y ≡ frontBy h → follows y p ≡ true → joinedWith y p ≡ joinsAfter (joinedBy h) (part p)
@@ -254,6 +270,7 @@ accepted-front h c (write w) free k = k
 accepted-front h c (receive x) free k = k
 accepted-front h c (suspend kind) free k = k
 accepted-front h c resume free k = refl
+accepted-front h c (queue bytes j) free k = k
 accepted-front h c (part p) free k = go (isLast p) (joinedWith-told h p (c .front) k free)
   where
     go : (l : Bool) {x : List ℕ} → joinedWith (c .front) p ≡ x
@@ -273,6 +290,24 @@ accepted-told h c (part p) free i = go (isLast p)
     go : (b : Bool) → Told (h ++ did (part p) ((cond {A = Answer × Option (List ℕ)} b (assembled (joinedWith (c .front) p), none) (done, some (joinedWith (c .front) p))) .0) ∷ []) (c .marks)
     go true = told-idle h (did (part p) (assembled (joinedWith (c .front) p))) (c .marks) (λ u. refl) (λ u. refl) i
     go false = told-idle h (did (part p) done) (c .marks) (λ u. refl) (λ u. refl) i
+accepted-told h c (queue bytes k) free i = go k (c .queue)
+  where
+    go : (k : QueueCall) (q : Option Queued) → Told (h ++ did (queue bytes k) ((queueIn bytes k q) .0) ∷ []) (c .marks)
+    go make q = told-idle h _ (c .marks) (λ u. refl) (λ u. refl) i
+    go (post e) none = told-idle h _ (c .marks) (λ u. refl) (λ u. refl) i
+    go (post e) (some q) = told-idle h _ (c .marks) (λ u. refl) (λ u. refl) i
+    go (take asked x) none = told-idle h _ (c .marks) (λ u. refl) (λ u. refl) i
+    go (take asked x) (some q) = told-idle h _ (c .marks) (λ u. refl) (λ u. refl) i
+
+accepted-logged : (h : List Did) (c : Slot) (o : Op) → Allowed c o → Logged h (c .queue) → Logged (h ++ did o ((accepted c o) .0) ∷ []) ((accepted c o) .1 .queue)
+accepted-logged h c (start x) free k = logged-idle h _ (c .queue) (λ A f y. refl) k
+accepted-logged h c stop free k = logged-idle h _ (c .queue) (λ A f y. refl) k
+accepted-logged h c (write w) free k = logged-idle h _ (c .queue) (λ A f y. refl) k
+accepted-logged h c (receive x) free k = logged-idle h _ (c .queue) (λ A f y. refl) k
+accepted-logged h c (suspend kind) free k = logged-idle h _ (c .queue) (λ A f y. refl) k
+accepted-logged h c resume free k = logged-idle h _ (c .queue) (λ A f y. refl) k
+accepted-logged h c (part p) free k = logged-idle h _ (c .queue) (λ A f y. refl) k
+accepted-logged h c (queue bytes j) free k = logged-queue h bytes j (c .queue) free k
 
 known-accepted : (h : List Did) (c : Slot) (o : Op) → Allowed c o → Known h c → Known (h ++ did o ((accepted c o) .0) ∷ []) ((accepted c o) .1)
 known-accepted h c o free k =
@@ -281,6 +316,7 @@ known-accepted h c o free k =
       tracked = accepted-tracks c o ∙ ap (λ x. tracksAfter x o) (k .tracked) ∙ sym (told tracksAfter none);
       suspended = accepted-suspends c o ∙ ap (λ x. suspendsAfter x o) (k .suspended) ∙ sym (told suspendsAfter false);
       front = accepted-front h c o free (k .front) ∙ ap₂ (λ b x. cond b (some x) none) (sym (told opensAfter false)) (sym (told joinsAfter []));
+      queue = accepted-logged h c o free (k .queue);
     }
   where
     d : Did
@@ -290,9 +326,9 @@ known-accepted h c o free k =
     told f x = toldBy-snoc f h d x ∙ ap (λ b. cond b (f (toldBy f x h) o) (toldBy f x h)) (accepted-done c o)
 
 -- any call
-pub known-step : (s : Settings) (v : Seen) (a : Arriving) (h : List Did) (c : Slot) (o : Op) → a .front ≡ c .front → Known h c
+pub known-step : (s : Settings) (v : Seen) (a : Arriving) (h : List Did) (c : Slot) (o : Op) → a .front ≡ c .front → v .places ≡ placesIn (c .queue) → Known h c
     → Known (h ++ did o ((slotStep s v a c o) .0) ∷ []) ((slotStep s v a c o) .1)
-known-step s v a h c o e k =
+known-step s v a h c o e f k =
     verdict-has (λ (r : Answer × Slot). Known (h ++ did o (r .0) ∷ []) (r .1)) (λ n i. (refused n i, c))
     (λ n i. known-refused h o n i c k) (order s v a o) (accepted c o)
-    (λ p. known-accepted h c o (allowed s v a c o e p) k)
+    (λ p. known-accepted h c o (allowed s v a c o e f p) k)

@@ -17,7 +17,7 @@ use Rattle.rules.specs.Units.{Write}
 use Rattle.rules.specs.Ranges.{listTests}
 use Rattle.rules.specs.StartData.{granularityOf, countOf, rangesOf}
 use Rattle.rules.specs.ControllerState.{stateMost}
-use Rattle.rules.specs.Order.{Op, start, stop, write, receive, suspend, resume, part, isLast, joinedWith, Seen, Arriving, freshOrder, order}
+use Rattle.rules.specs.Order.{Op, start, stop, write, receive, suspend, resume, part, queue, isLast, joinedWith, Seen, Arriving, freshOrder, order}
 use Rattle.rules.specs.Device.{Held, heldOk, heldCount, heldUnits, frontOk, sound, soundRules, cleaned}
 use Rattle.rules.specs.Machine.{Answer, refused, done, assembled, Marks, off, on, Slot, freshSlot, heldOn, heldBy, frontKept, openOk, wroteIn, reportedIn, accepted, slotStep, State, closed, opened, fresh, soundState, seenAt, arrivingAt, stepAt, Call, step, after}
 use Rattle.rules.specs.declared.Settings.{Settings}
@@ -100,6 +100,7 @@ accepted-stays s v a c (receive x) p e h = stays-same s v (heldBy c) _ (reported
 accepted-stays s v a c (suspend kind) p e h = stays-same s v (heldBy c) (heldBy c) refl e h
 accepted-stays s v a c resume p e h = stays-same s v (heldBy c) (heldBy c) refl e h
 accepted-stays s v a c (part x) p e h = stays-same s v (heldBy c) (heldBy c) refl e h
+accepted-stays s v a c (queue bytes k) p e h = stays-same s v (heldBy c) (heldBy c) refl e h
 
 slotStep-stays : (s : Settings) (v : Seen) (a : Arriving) (c : Slot) (o : Op) → heldOk s (heldBy c) ≡ true → Within s v
     → Stays s v (heldBy c) (heldBy ((slotStep s v a c o) .1))
@@ -129,6 +130,7 @@ accepted-open s v a c (write w) p f g e = e
 accepted-open s v a c (receive x) p f g e = e
 accepted-open s v a c (suspend kind) p f g e = kept-more (c .suspended) (eqb kind 1) (c .front) e
 accepted-open s v a c resume p f g e = refl
+accepted-open s v a c (queue bytes k) p f g e = e
 accepted-open s v a c (part x) p f g e = go (isLast x) refl
   where
     q : PartPassed v a x

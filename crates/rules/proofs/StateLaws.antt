@@ -11,7 +11,7 @@ use lib.ListN.{length, take, getD, length-set, length-map, replicate}
 use lib.Seq.{getD-set-same, getD-set-other}
 use Rattle.rules.specs.Lists.{placeFrom}
 use Rattle.rules.specs.Settings.{identifiersOf, placeOf}
-use Rattle.rules.specs.Order.{Op, start, stop, write, receive, suspend, resume, part, Seen, Arriving, freshOrder, order}
+use Rattle.rules.specs.Order.{Op, start, stop, write, receive, suspend, resume, part, queue, Seen, Arriving, freshOrder, order}
 use Rattle.rules.specs.Device.{cleaned, closedSettings}
 use Rattle.rules.specs.Machine.{Answer, refused, Slot, freshSlot, slotStep, State, closed, opened, fresh, slotAt, withSlot, slotOf, seenAt, arrivingAt, stepAt, Call, step, after}
 use Rattle.rules.specs.declared.Settings.{Settings}
@@ -53,7 +53,7 @@ pub slotStep-unknown : (s : Settings) (v : Seen) (a : Arriving) (c : Slot) (o : 
 unfolding order
 slotStep-unknown s v a c o e r = go o (v .sound)
   where
-    go : (o : Op) (b : Bool) → slotStep s (record { sound = b; known = v .known; suspended = v .suspended; tracked = v .tracked; counts = v .counts; units = v .units }) a c o ≡ (refused (cond b 2 1) 0, c)
+    go : (o : Op) (b : Bool) → slotStep s (record { sound = b; known = v .known; suspended = v .suspended; tracked = v .tracked; places = v .places; stopped = v .stopped; counts = v .counts; units = v .units }) a c o ≡ (refused (cond b 2 1) 0, c)
     go (start x) true = rw e
     go (start x) false = refl
     go stop true = rw e
@@ -68,6 +68,8 @@ slotStep-unknown s v a c o e r = go o (v .sound)
     go resume false = refl
     go (part p) true = rw (r, e)
     go (part p) false = refl
+    go (queue bytes k) true = rw e
+    go (queue bytes k) false = refl
 
 -- ---- one call
 

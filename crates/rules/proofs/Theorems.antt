@@ -17,10 +17,11 @@ use Rattle.rules.specs.StartData.{rangesOf, startBytes}
 use Rattle.rules.specs.Report.{reportBytes}
 use Rattle.rules.specs.Order.{Op, order}
 use Rattle.rules.specs.Device.{sound, heldOk}
-use Rattle.rules.specs.Machine.{Answer, refused, on, Slot, pendingIn, accepted, State, opened, fresh, closed, slotAt, withSlot, slotOf, seenAt, arrivingAt, stepAt, Call, step, after}
+use Rattle.rules.specs.Machine.{Answer, refused, on, Slot, pendingIn, entriesIn, accepted, State, opened, fresh, closed, slotAt, withSlot, slotOf, seenAt, arrivingAt, stepAt, Call, step, after}
 use Rattle.rules.specs.History.{Did, only, isAccepted, pendingBy}
 use Rattle.rules.specs.Demands.{sessionEnd, sessionHistory, Refusals, Soundness, Pending, Demand2, Agree, unhindered, lentBytes, Demand3, Granularities}
 use Rattle.rules.specs.ControllerState.{stateOk}
+use Rattle.rules.specs.Queue.{closingEntry}
 use Rattle.rules.specs.Worked.{cases, Worked, WorkedStates}
 use Rattle.rules.specs.Layouts.{Layouts}
 use Rattle.rules.specs.declared.Settings.{Settings}
@@ -56,6 +57,7 @@ refusals =
       bytes = λ id x n i. refl;
       number = λ n i. refl;
       zeros = λ n i. (refl, refl, refl);
+      queues = λ n i. (refl, refl, refl);
     }
 
 -- ---- soundness
@@ -117,6 +119,7 @@ agree-alone s words a ks f =
       answers = history-alone s words a ks f;
       bytes = ap (lentBytes a) (history-alone s words a ks f);
       units = ap pendingIn (slot-alone s words a ks f);
+      queued = ap (λ (c : Slot). entriesIn (c .queue)) (slot-alone s words a ks f);
     }
 
 pub demand-3 : Demand3
@@ -130,6 +133,7 @@ demand-3 =
             answers = l .answers ∙ ap (λ k. sessionHistory s words k a) e ∙ sym (r .answers);
             bytes = l .bytes ∙ ap (λ k. lentBytes a (sessionHistory s words k a)) e ∙ sym (r .bytes);
             units = l .units ∙ ap (λ k. pendingIn (slotOf (sessionEnd s words k) a)) e ∙ sym (r .units);
+            queued = l .queued ∙ ap (λ k. entriesIn (slotOf (sessionEnd s words k) a .queue)) e ∙ sym (r .queued);
           };
     }
 
@@ -151,7 +155,7 @@ granularity g h =
 -- ---- the worked numbers
 
 pub worked : Worked
-unfolding cases settingsOk placeOf granularityOk rangeTests powersOk rangesOf startBytes stateOk fresh step order sound heldOk numberAt numberBytes records recordsAt
+unfolding cases closingEntry settingsOk placeOf granularityOk rangeTests powersOk rangesOf startBytes stateOk fresh step order sound heldOk numberAt numberBytes records recordsAt
 worked = refl
 
 pub worked-states : WorkedStates

@@ -16,10 +16,10 @@ use Rattle.rules.specs.Ranges.{rowsOk, powersOk}
 use Rattle.rules.specs.StartData.{noRange, startSize, startBytes, startData, startWritten, placed}
 use Rattle.rules.specs.Report.{follows, runs, Descriptor, descriptor, Report, room, reportOn, marksLeft}
 use Rattle.rules.specs.ReportReader.{reportSize, bit, reportRefusal, reportSuspended, reportMore, reportIdentifier, reportGranularity, reportCount, reportRefusalAt, reportAddress, reportLength}
-use Rattle.rules.specs.Order.{Op, start, stop, write, receive, suspend, resume, freshOrder, part}
+use Rattle.rules.specs.Order.{Op, start, stop, write, receive, suspend, resume, freshOrder, part, queue}
 use Rattle.rules.specs.Device.{heldOk, noShare, sharesOk}
 use Rattle.rules.specs.declared.Share.{Share}
-use Rattle.rules.specs.Machine.{refused, on, pendingIn, State, fresh, soundState, slotOf, Call, step, after, events, lent, stored, numberOf, newlyOf, noReport, reportOf, assembledOf}
+use Rattle.rules.specs.Machine.{refused, on, pendingIn, entriesIn, State, fresh, soundState, slotOf, Call, step, after, events, lent, stored, numberOf, newlyOf, noReport, reportOf, assembledOf, stoppedOf, entriesOf, closingOf}
 use Rattle.rules.specs.History.{Did, only, historyOf, PendingBy, lists, slotBy}
 use Rattle.rules.specs.declared.Range.{Range}
 use Rattle.rules.specs.declared.Settings.{Settings}
@@ -40,6 +40,7 @@ pub record Refusals : Type 0 where
   pub bytes : (id : ℕ) (x : List ℕ) (n i : ℕ) → stored id x (refused n i) ≡ x
   pub number : (n i : ℕ) → numberOf (refused n i) ≡ n
   pub zeros : (n i : ℕ) → (newlyOf (refused n i) ≡ 0) × (reportOf (refused n i) ≡ noReport) × (assembledOf (refused n i) ≡ [])
+  pub queues : (n i : ℕ) → (stoppedOf (refused n i) ≡ false) × (entriesOf (refused n i) ≡ []) × (closingOf (refused n i) ≡ false)
 
 -- W3: "Say which rule and row, counted from 0, the earliest row first; within a row length 0, unaligned, past the end"
 
@@ -271,6 +272,7 @@ sharedRefusals (receive x) = []
 sharedRefusals (suspend kind) = []
 sharedRefusals resume = []
 sharedRefusals (part p) = 23 ∷ []
+sharedRefusals (queue bytes k) = []
 
 -- none of a controller's calls was refused for what it shares
 abbrev pub unhindered : List Did → Bool
@@ -280,11 +282,12 @@ unhindered h = all (λ (d : Did). not (member (numberOf (d .answer)) (sharedRefu
 abbrev pub lentBytes : ℕ → List Did → List (List ℕ)
 lentBytes a h = map (λ (d : Did). stored a (lent (d .op)) (d .answer)) h
 
--- two sessions agree for a controller: every answer, every byte lent, and its pending units
+-- two sessions agree for a controller: every answer, every byte lent, its pending units and its queued entries (W8)
 pub record Agree (s : Settings) (words a : ℕ) (ks ks′ : List Call) : Type 0 where
   pub answers : sessionHistory s words ks a ≡ sessionHistory s words ks′ a
   pub bytes : lentBytes a (sessionHistory s words ks a) ≡ lentBytes a (sessionHistory s words ks′ a)
   pub units : pendingIn (slotOf (sessionEnd s words ks) a) ≡ pendingIn (slotOf (sessionEnd s words ks′) a)
+  pub queued : entriesIn (slotOf (sessionEnd s words ks) a .queue) ≡ entriesIn (slotOf (sessionEnd s words ks′) a .queue)
 
 -- "Two sessions from the same settings in which controller A gets the same calls, while the others get anything: if in neither a start for A is refused
 -- for the shared descriptor limit, every answer to A, every byte of A's reports and A's pending units agree, and equal what demand 2's rules give for A's

@@ -13,6 +13,7 @@ use Rattle.rules.specs.Units.{units}
 use Rattle.rules.specs.Ranges.{listTests}
 use Rattle.rules.specs.StartData.{placed}
 use Rattle.rules.specs.ControllerState.{stateMost}
+use Rattle.rules.specs.Queue.{queueOk}
 use Rattle.rules.specs.Order.{freshOrder}
 use Rattle.rules.specs.declared.Range.{Range}
 use Rattle.rules.specs.declared.Tracking.{Tracking}
@@ -20,6 +21,7 @@ use Rattle.rules.specs.declared.Tracking.the-variants.{Off, On}
 use Rattle.rules.specs.declared.Share.{Share}
 use Rattle.rules.specs.declared.Sequence.{Sequence}
 use Rattle.rules.specs.declared.Sequence.the-variants.{Nothing, Open}
+use Rattle.rules.specs.declared.Queue.the-variants as queue
 use Rattle.rules.specs.declared.Controller.{Controller}
 use Rattle.rules.specs.declared.Settings.{Settings}
 use Rattle.rules.specs.declared.Device.{Device}
@@ -66,8 +68,8 @@ sharesOk (a ∷ as′) = isInside a && (all (areApart a) as′ && sharesOk as′
 abbrev pub frontOk : ℕ → Bool
 frontOk n = leb 4 n && (leb n stateMost && eqb (n % 4) 0)
 
--- the settings pass 16, each controller holds what it may, the counts together are within the limit and the units together within the pool, and an open sequence and
--- the shares are as they may be
+-- the settings pass 16, each controller holds what it may, the counts together are within the limit and the units together within the pool, and an open sequence,
+-- the shares and the queues are as they may be
 abbrev pub soundRules : Settings → List (Option Held) → Bool → List Bool
 soundRules s hs rest =
     settingsOk s
@@ -98,9 +100,9 @@ shareIn base (some h) = record { base = base; size = heldUnits (some h) }
 abbrev pub shareOf : Controller → Share
 shareOf c = shareIn (c .base) (heldOf c)
 
--- a controller that is neither tracked nor suspended
+-- a controller that is neither tracked nor suspended, and has no queue
 abbrev pub freshController : Controller
-freshController = record { tracking = Off; base = 0; suspended = false; ranges = placed [] }
+freshController = record { tracking = Off; base = 0; suspended = false; ranges = placed []; queue = queue.Nothing }
 
 -- the controllers in use
 abbrev pub controllersOf : Device → List Controller
@@ -120,10 +122,14 @@ sequenceOk s cs (Open owner end) = suspendedAt cs (placeOf s owner) && frontOk e
 abbrev pub sharesOf : Device → List Share
 sharesOf d = map shareOf (controllersOf d) ++ replicate (8 - d .settings .count) noShare
 
+-- W8: whether the queues of the controllers in use are as they may be
+abbrev pub queuesOk : Device → Bool
+queuesOk d = all (λ (c : Controller). queueOk (c .queue)) (controllersOf d)
+
 -- whether a record is sound
 abbrev pub soundDevice : Device → Bool
 soundDevice d =
-    sound (d .settings) (map heldOf (controllersOf d)) (sequenceOk (d .settings) (controllersOf d) (d .sequence) && sharesOk (sharesOf d))
+    sound (d .settings) (map heldOf (controllersOf d)) (sequenceOk (d .settings) (controllersOf d) (d .sequence) && (sharesOk (sharesOf d) && queuesOk d))
 
 -- ---- fresh
 

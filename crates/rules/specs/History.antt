@@ -1,18 +1,20 @@
 -- What demand 2 speaks of, told from calls and answers alone: "an accepted write by its controller touched it after tracking last started and after
 -- it was last reported". Nothing here looks at a device.
-use Prim.Native.Nat.{ℕ}
+use Prim.Native.Nat.{ℕ, _/_}
 use mathlib.Core.Path.{_≡_}
 use mathlib.Core.Bool.{Bool, true, false, _&&_, _||_, not, cond}
 use mathlib.Core.List.{List, [], _∷_, _++_, map}
 use mathlib.Core.Option.{Option, none, some}
 use lib.Dec.{eqb}
+use lib.ListN.{length, drop}
 use Rattle.rules.specs.Lists.{any}
 use Rattle.rules.specs.Settings.{unitSize}
 use Rattle.rules.specs.Units.{Unit, covers, touches, units}
 use Rattle.rules.specs.StartData.{granularityOf, rangesOf}
 use Rattle.rules.specs.Report.{Descriptor, rangeOf}
-use Rattle.rules.specs.Order.{Op, start, stop, write, receive, suspend, resume, part, isFirst, isLast}
-use Rattle.rules.specs.Machine.{Answer, refused, done, wrote, reported, assembled, reportOf, Call, Event, Marks, off, on, Slot}
+use Rattle.rules.specs.Queue.{entryBytes, closingEntry, Queued}
+use Rattle.rules.specs.Order.{QueueCall, make, post, take, Op, start, stop, write, receive, suspend, resume, part, queue, isFirst, isLast}
+use Rattle.rules.specs.Machine.{Answer, refused, done, wrote, reported, assembled, posted, taken, reportOf, stoppedOf, entriesOf, Call, Event, Marks, off, on, Slot}
 use Rattle.rules.specs.declared.Range.{Range}
 
 -- a call to a controller with its answer
@@ -37,6 +39,8 @@ isAccepted done = true
 isAccepted (wrote n) = true
 isAccepted (reported r) = true
 isAccepted (assembled y) = true
+isAccepted (posted b) = true
+isAccepted (taken es b) = true
 
 abbrev pub writes : Op → Unit → Bool
 writes (write w) u = touches w u
@@ -46,6 +50,7 @@ writes (receive x) u = false
 writes (suspend kind) u = false
 writes resume u = false
 writes (part p) u = false
+writes (queue bytes k) u = false
 
 abbrev pub starts : Op → Bool
 starts (start x) = true
@@ -55,6 +60,7 @@ starts (receive x) = false
 starts (suspend kind) = false
 starts resume = false
 starts (part p) = false
+starts (queue bytes k) = false
 
 -- an accepted write touched the unit
 abbrev pub touchedBy : Did → Unit → Bool
@@ -109,6 +115,7 @@ tracksAfter t (receive x) = t
 tracksAfter t (suspend kind) = t
 tracksAfter t resume = t
 tracksAfter t (part p) = t
+tracksAfter t (queue bytes k) = t
 
 abbrev pub tracksBy : Option (ℕ × List Range) → List Did → Option (ℕ × List Range)
 tracksBy t h = toldBy tracksAfter t h
@@ -122,6 +129,7 @@ suspendsAfter b stop = b
 suspendsAfter b (write w) = b
 suspendsAfter b (receive x) = b
 suspendsAfter b (part p) = b
+suspendsAfter b (queue bytes k) = b
 
 abbrev pub suspendedBy : Bool → List Did → Bool
 suspendedBy b h = toldBy suspendsAfter b h
@@ -135,6 +143,7 @@ opensAfter b stop = b
 opensAfter b (write w) = b
 opensAfter b (receive x) = b
 opensAfter b (suspend kind) = b
+opensAfter b (queue bytes k) = b
 
 abbrev pub openBy : List Did → Bool
 openBy h = toldBy opensAfter false h
@@ -148,6 +157,7 @@ joinsAfter x (write w) = x
 joinsAfter x (receive y) = x
 joinsAfter x (suspend kind) = x
 joinsAfter x resume = x
+joinsAfter x (queue bytes k) = x
 
 abbrev pub joinedBy : List Did → List ℕ
 joinedBy h = toldBy joinsAfter [] h
@@ -155,10 +165,72 @@ joinedBy h = toldBy joinsAfter [] h
 abbrev pub frontBy : List Did → Option (List ℕ)
 frontBy h = cond (openBy h) (some (joinedBy h)) none
 
+-- ---- W8: what a history says of a controller's queue
+
+-- what a call to its queue makes of something; any other call leaves that
+abbrev pub onQueue : {A : Type 0} → (A → ℕ → QueueCall → Answer → A) → A → Op → Answer → A
+onQueue f x (queue bytes k) a = f x bytes k a
+onQueue f x (start y) a = x
+onQueue f x stop a = x
+onQueue f x (write w) a = x
+onQueue f x (receive y) a = x
+onQueue f x (suspend kind) a = x
+onQueue f x resume a = x
+onQueue f x (part p) a = x
+
+-- what its accepted calls, with their answers, make of something, one after another
+abbrev pub loggedBy : {A : Type 0} → (A → ℕ → QueueCall → Answer → A) → A → List Did → A
+loggedBy f x [] = x
+loggedBy f x (d ∷ h) = loggedBy f (cond (isAccepted (d .answer)) (onQueue f x (d .op) (d .answer)) x) h
+
+-- how many places the queue has: as the last accepted make says
+abbrev pub sizeAfter : Option ℕ → ℕ → QueueCall → Answer → Option ℕ
+sizeAfter n bytes make a = some (bytes / entryBytes)
+sizeAfter n bytes (post e) a = n
+sizeAfter n bytes (take asked x) a = n
+
+abbrev pub sizeBy : List Did → Option ℕ
+sizeBy h = loggedBy sizeAfter none h
+
+-- the entries stored since then, in order: those of the accepted posts, and for one that is marked stopped the closing entry in its place
+abbrev pub storesAfter : List (List ℕ) → ℕ → QueueCall → Answer → List (List ℕ)
+storesAfter es bytes make a = []
+storesAfter es bytes (post e) a = es ++ cond (stoppedOf a) closingEntry e ∷ []
+storesAfter es bytes (take asked x) a = es
+
+abbrev pub storedBy : List Did → List (List ℕ)
+storedBy h = loggedBy storesAfter [] h
+
+-- the entries taken since then, in order
+abbrev pub takesAfter : List (List ℕ) → ℕ → QueueCall → Answer → List (List ℕ)
+takesAfter es bytes make a = []
+takesAfter es bytes (post e) a = es
+takesAfter es bytes (take asked x) a = es ++ entriesOf a
+
+abbrev pub takenBy : List Did → List (List ℕ)
+takenBy h = loggedBy takesAfter [] h
+
+-- whether an accepted post since then was marked stopped: no later one is accepted
+abbrev pub stopsAfter : Bool → ℕ → QueueCall → Answer → Bool
+stopsAfter b bytes make a = false
+stopsAfter b bytes (post e) a = stoppedOf a
+stopsAfter b bytes (take asked x) a = b
+
+abbrev pub stoppedBy : List Did → Bool
+stoppedBy h = loggedBy stopsAfter false h
+
+-- the queue that it tells: what was stored and not taken yet
+abbrev pub queuedBy : List Did → Option ℕ → Option Queued
+queuedBy h none = none
+queuedBy h (some n) = some (record { size = n; entries = drop (length (takenBy h)) (storedBy h); stopped = stoppedBy h })
+
+abbrev pub queueBy : List Did → Option Queued
+queueBy h = queuedBy h (sizeBy h)
+
 -- the slot that a history tells: each unit of the tracked ranges is pending as the history says
 abbrev pub marksBy : List Did → Option (ℕ × List Range) → Marks
 marksBy h none = off
 marksBy h (some t) = on (t .0) (t .1) (map (pendingBy h) (units (t .0) (t .1)))
 
 abbrev pub slotBy : List Did → Slot
-slotBy h = record { suspended = suspendedBy false h; marks = marksBy h (tracksBy none h); front = frontBy h }
+slotBy h = record { suspended = suspendedBy false h; marks = marksBy h (tracksBy none h); front = frontBy h; queue = queueBy h }

@@ -7,6 +7,7 @@ pub mod StartData
 pub mod Report
 pub mod ReportReader
 pub mod ControllerState
+pub mod Queue
 pub mod Order
 pub mod Device
 pub mod Machine

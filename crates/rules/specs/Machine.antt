@@ -13,7 +13,8 @@ use Rattle.rules.specs.Settings.{identifiersOf, placeOf}
 use Rattle.rules.specs.Units.{Unit, Write, units, clear, mark, newly, pending}
 use Rattle.rules.specs.StartData.{granularityOf, rangesOf}
 use Rattle.rules.specs.Report.{Report, room, reportOn, marksLeft, reportBytes}
-use Rattle.rules.specs.Order.{Op, start, stop, write, receive, suspend, resume, part, Part, isLast, joinedWith, Seen, Arriving, freshOrder, order}
+use Rattle.rules.specs.Queue.{joined, Queued, madeOf, closesAt, postedTo, takenOf, closesWith, takenFrom}
+use Rattle.rules.specs.Order.{QueueCall, make, post, take, Op, start, stop, write, receive, suspend, resume, part, queue, Part, isLast, joinedWith, Seen, Arriving, freshOrder, order}
 use Rattle.rules.specs.Device.{Held, heldCount, heldUnits, frontOk, sound, cleaned, closedSettings}
 use Rattle.rules.specs.declared.Range.{Range}
 use Rattle.rules.specs.declared.Settings.{Settings}
@@ -25,24 +26,28 @@ pub data Marks : Type 0 where
   off : Marks
   on : ℕ → List Range → List Bool → Marks
 
--- suspended or running, how it is tracked, and the bytes so far of a state of its own that arrives in parts (W6), if one does
+-- suspended or running, how it is tracked, the bytes so far of a state of its own that arrives in parts (W6), if one does, and its queue (W8), if it has one
 pub record Slot : Type 0 where
   pub suspended : Bool
   pub marks : Marks
   pub front : Option (List ℕ)
+  pub queue : Option Queued
 
 abbrev pub freshSlot : Slot
-freshSlot = record { suspended = false; marks = off; front = none }
+freshSlot = record { suspended = false; marks = off; front = none; queue = none }
 
--- the same slot with other marks, with its flag set or clear, and with other bytes so far
+-- the same slot with other marks, with its flag set or clear, with other bytes so far, and with another queue
 abbrev pub withMarksOf : Slot → Marks → Slot
-withMarksOf c t = record { suspended = c .suspended; marks = t; front = c .front }
+withMarksOf c t = record { suspended = c .suspended; marks = t; front = c .front; queue = c .queue }
 
 abbrev pub withFlag : Slot → Bool → Slot
-withFlag c b = record { suspended = b; marks = c .marks; front = c .front }
+withFlag c b = record { suspended = b; marks = c .marks; front = c .front; queue = c .queue }
 
 abbrev pub withFront : Slot → Option (List ℕ) → Slot
-withFront c f = record { suspended = c .suspended; marks = c .marks; front = f }
+withFront c f = record { suspended = c .suspended; marks = c .marks; front = f; queue = c .queue }
+
+abbrev pub withQueued : Slot → Option Queued → Slot
+withQueued c q = record { suspended = c .suspended; marks = c .marks; front = c .front; queue = q }
 
 abbrev pub isSuspended : Slot → Bool
 isSuspended c = c .suspended
@@ -82,16 +87,32 @@ pendingOn (on g rs p) = pending (units g rs) p
 abbrev pub pendingIn : Slot → List Unit
 pendingIn c = pendingOn (c .marks)
 
+-- W8: the places of its queue, if it has one, whether that has stopped, and the entries queued
+abbrev pub placesIn : Option Queued → Option ℕ
+placesIn none = none
+placesIn (some q) = some (q .size)
+
+abbrev pub stoppedIn : Option Queued → Bool
+stoppedIn none = false
+stoppedIn (some q) = q .stopped
+
+abbrev pub entriesIn : Option Queued → List (List ℕ)
+entriesIn none = []
+entriesIn (some q) = q .entries
+
 -- ---- one call
 
--- a refusal's number, and its row, which is 0 save where a rule of a row is broken (W3); or done, for a write with its count, for a report with the report, and for
--- the last part of a state with its assembled bytes (W6)
+-- a refusal's number, and its row, which is 0 save where a rule of a row is broken (W3); or done, for a write with its count, for a report with the report, for the
+-- last part of a state with its assembled bytes (W6), for a post with whether it is marked stopped, and for a take with the entries taken and whether the last of
+-- them is the closing one (W8)
 pub data Answer : Type 0 where
   refused : ℕ → ℕ → Answer
   done : Answer
   wrote : ℕ → Answer
   reported : Report → Answer
   assembled : List ℕ → Answer
+  posted : Bool → Answer
+  taken : List (List ℕ) → Bool → Answer
 
 -- what a write answers and leaves of the marks
 abbrev pub wroteIn : Write → Marks → Answer × Marks
@@ -107,6 +128,22 @@ reportedIn b bytes (on g rs p) = (reported (reportOn b g (room bytes) (units g r
 abbrev pub arrivedIn : Part → Option (List ℕ) → Answer × Option (List ℕ)
 arrivedIn p f = cond (isLast p) (assembled (joinedWith f p), none) (done, some (joinedWith f p))
 
+-- what a call to a queue answers and leaves of it. (Of one that was not made a post and a take are refused with 29.)
+abbrev pub postedIn : List ℕ → Option Queued → Answer × Option Queued
+postedIn e none = (done, none)
+postedIn e (some q) = (posted (closesAt (q .size) (length (q .entries))), some (postedTo e q))
+
+abbrev pub takenIn : ℕ → ℕ → Option Queued → Answer × Option Queued
+takenIn asked bytes none = (done, none)
+takenIn asked bytes (some q) =
+    let es = takenOf asked bytes (q .entries) in
+    (taken es (closesWith (q .stopped) (length es) (length (q .entries))), some (takenFrom (length es) q))
+
+abbrev pub queueIn : ℕ → QueueCall → Option Queued → Answer × Option Queued
+queueIn bytes make q = (done, some (madeOf bytes))
+queueIn bytes (post e) q = postedIn e q
+queueIn bytes (take asked x) q = takenIn asked (length x) q
+
 -- an answer, and the slot with the marks that it leaves
 abbrev pub leaving : Slot → Answer × Marks → Answer × Slot
 leaving c r = (r .0, withMarksOf c (r .1))
@@ -120,6 +157,7 @@ accepted c (receive x) = leaving c (reportedIn (c .suspended) (length x) (c .mar
 accepted c (suspend kind) = (done, withFlag c (c .suspended || eqb kind 1))
 accepted c resume = (done, withFront (withFlag c false) none)
 accepted c (part p) = ((arrivedIn p (c .front)) .0, withFront c ((arrivedIn p (c .front)) .1))
+accepted c (queue bytes k) = ((queueIn bytes k (c .queue)) .0, withQueued c ((queueIn bytes k (c .queue)) .1))
 
 -- a refused call leaves the slot as it was
 abbrev pub slotStep : Settings → Seen → Arriving → Slot → Op → Answer × Slot
@@ -127,7 +165,8 @@ slotStep s v w c o = verdict (order s v w o) (accepted c o) (λ n i. (refused n 
 
 -- ---- the device
 
--- `amiss`: a state arrives for a controller that the settings lack, or shares overlap or leave the pool (W7), which no calls from a fresh device lead to
+-- `amiss`: a state arrives for a controller that the settings lack, shares overlap or leave the pool (W7), or a queue is not as it may be (W8), which no calls from a
+-- fresh device lead to
 pub record State : Type 0 where
   pub settings : Settings
   pub slots : List Slot
@@ -175,6 +214,8 @@ seenAt st i =
       known = isSome i;
       suspended = isSuspended (slotAt st i);
       tracked = isTracked (slotAt st i);
+      places = placesIn (slotAt st i .queue);
+      stopped = stoppedIn (slotAt st i .queue);
       counts = countsIn st;
       units = unitsIn st;
     }
@@ -218,7 +259,12 @@ abbrev pub events : State → List Call → List Event
 events st [] = []
 events st (k ∷ ks) = record { call = k; answer = (step st k) .0 } ∷ events ((step st k) .1) ks
 
--- the bytes lent with a call
+-- the bytes lent with a call. (A queue's area is handed on, and not among them.)
+abbrev pub lentTo : QueueCall → List ℕ
+lentTo make = []
+lentTo (post e) = e
+lentTo (take asked x) = x
+
 abbrev pub lent : Op → List ℕ
 lent (start x) = x
 lent stop = []
@@ -227,14 +273,17 @@ lent (receive x) = x
 lent (suspend kind) = []
 lent resume = []
 lent (part p) = p .bytes
+lent (queue bytes k) = lentTo k
 
--- lent bytes after an answer to a controller's call: a report is stored at the buffer's front, all else is as it was
+-- lent bytes after an answer to a controller's call: a report, and entries that were taken, are stored at the buffer's front, all else is as it was
 abbrev pub stored : ℕ → List ℕ → Answer → List ℕ
 stored id x (reported r) = put x 0 (reportBytes id r)
 stored id x (refused n i) = x
 stored id x done = x
 stored id x (wrote n) = x
 stored id x (assembled y) = x
+stored id x (posted b) = x
+stored id x (taken es b) = put x 0 (joined es)
 
 -- ---- what an answer says in numbers; a refusal says zero beside its own number
 
@@ -244,6 +293,8 @@ numberOf done = 0
 numberOf (wrote n) = 0
 numberOf (reported r) = 0
 numberOf (assembled y) = 0
+numberOf (posted b) = 0
+numberOf (taken es b) = 0
 
 abbrev pub newlyOf : Answer → ℕ
 newlyOf (wrote n) = n
@@ -251,6 +302,8 @@ newlyOf (refused n i) = 0
 newlyOf done = 0
 newlyOf (reported r) = 0
 newlyOf (assembled y) = 0
+newlyOf (posted b) = 0
+newlyOf (taken es b) = 0
 
 abbrev pub noReport : Report
 noReport = record { suspended = false; more = false; granularity = 0; descriptors = [] }
@@ -261,6 +314,8 @@ reportOf (refused n i) = noReport
 reportOf done = noReport
 reportOf (wrote n) = noReport
 reportOf (assembled y) = noReport
+reportOf (posted b) = noReport
+reportOf (taken es b) = noReport
 
 -- the bytes that a finished state has, none otherwise
 abbrev pub assembledOf : Answer → List ℕ
@@ -269,3 +324,33 @@ assembledOf (refused n i) = []
 assembledOf done = []
 assembledOf (wrote n) = []
 assembledOf (reported r) = []
+assembledOf (posted b) = []
+assembledOf (taken es b) = []
+
+-- whether a post is marked stopped, the entries that a take took, and whether the last of them is the closing one
+abbrev pub stoppedOf : Answer → Bool
+stoppedOf (posted b) = b
+stoppedOf (taken es b) = false
+stoppedOf (refused n i) = false
+stoppedOf done = false
+stoppedOf (wrote n) = false
+stoppedOf (reported r) = false
+stoppedOf (assembled y) = false
+
+abbrev pub entriesOf : Answer → List (List ℕ)
+entriesOf (taken es b) = es
+entriesOf (posted b) = []
+entriesOf (refused n i) = []
+entriesOf done = []
+entriesOf (wrote n) = []
+entriesOf (reported r) = []
+entriesOf (assembled y) = []
+
+abbrev pub closingOf : Answer → Bool
+closingOf (taken es b) = b
+closingOf (posted b) = false
+closingOf (refused n i) = false
+closingOf done = false
+closingOf (wrote n) = false
+closingOf (reported r) = false
+closingOf (assembled y) = false

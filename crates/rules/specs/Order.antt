@@ -1,17 +1,19 @@
 -- Document 01, "Refusal numbers": the calls, and the order of each call's refusals, a table each, first hit answers. What a call that is not refused
 -- does stands in Machine.antt.
 use Prim.Native.Nat.{ℕ, _+_, _*_, _%_, _^_}
-use mathlib.Core.Bool.{Bool, false, _&&_, _||_, not, cond}
+use mathlib.Core.Bool.{Bool, true, false, _&&_, _||_, not, cond}
 use mathlib.Core.List.{List, [], _∷_, _++_}
 use mathlib.Core.Option.{Option, none, some}
 use lib.Dec.{leb, ltb, eqb}
 use lib.ListN.{length}
+use Rattle.rules.specs.Lists.{isSome}
 use Rattle.rules.specs.Refusals.{Test, _else_}
 use Rattle.rules.specs.Settings.{markWords, mostUnits, mostNotes, settingsOk, granularityOk}
 use Rattle.rules.specs.Units.{Write, units}
 use Rattle.rules.specs.Ranges.{listTests}
 use Rattle.rules.specs.StartData.{headerTests, rangesThere, granularityOf, countOf, rangesOf}
 use Rattle.rules.specs.ControllerState.{stateMost, stateOk}
+use Rattle.rules.specs.Queue.{entryBytes, placesOk}
 use Rattle.rules.specs.declared.Settings.{Settings}
 
 -- W6: a part of a controller's state as it is sent: its sequence indicator, its offset in two words of 32 bits, its count of dwords, and its data
@@ -22,7 +24,14 @@ pub record Part : Type 0 where
   pub count : ℕ
   pub bytes : List ℕ
 
--- a call to one controller, with the bytes that are lent with it: a start structure, a report's buffer, or a part's data
+-- W8: a call to a controller's queue: make it, post an entry, or take so many entries into a buffer
+pub data QueueCall : Type 0 where
+  make : QueueCall
+  post : List ℕ → QueueCall
+  take : ℕ → List ℕ → QueueCall
+
+-- a call to one controller, with the bytes that are lent with it: a start structure, a report's buffer, a part's data, or an entry or a buffer of a queue's call, which
+-- also lends so many bytes of the queue's area
 pub data Op : Type 0 where
   start : List ℕ → Op
   stop : Op
@@ -31,14 +40,18 @@ pub data Op : Type 0 where
   suspend : ℕ → Op
   resume : Op
   part : Part → Op
+  queue : ℕ → QueueCall → Op
 
 -- what a call sees of its device: whether the record is sound and the marks are there, whether the identifier is in the settings (the manager's
--- own never is in sound ones), how its controller stands, and the counts of all controllers now tracked, and their different units (W7), together
+-- own never is in sound ones), how its controller stands, how many places its queue has, if there is one, and whether that has stopped (W8), and the counts of all
+-- controllers now tracked, and their different units (W7), together
 pub record Seen : Type 0 where
   pub sound : Bool
   pub known : Bool
   pub suspended : Bool
   pub tracked : Bool
+  pub places : Option ℕ
+  pub stopped : Bool
   pub counts : ℕ
   pub units : ℕ
 
@@ -205,6 +218,34 @@ partOrder v a p =
     ∷ (v .suspended else 13)
     ∷ partTests a p
 
+-- ---- W8: a call to a controller's queue, which lends so many bytes of its area
+
+-- 28: "area isn't a whole 2 to 1,024 places, or, for posts and takes, not the size made"
+abbrev pub sizeMade : Option ℕ → ℕ → Bool
+sizeMade none bytes = true
+sizeMade (some n) bytes = eqb bytes (entryBytes * n)
+
+abbrev pub queueTests : Seen → ℕ → QueueCall → List Test
+queueTests v bytes make =
+    (placesOk bytes else 28)
+    ∷ []
+queueTests v bytes (post e) =
+    (placesOk bytes && sizeMade (v .places) bytes else 28)
+    ∷ (isSome (v .places) else 29)
+    ∷ (eqb (length e) entryBytes else 8)
+    ∷ (not (v .stopped) else 30)
+    ∷ []
+queueTests v bytes (take asked x) =
+    (placesOk bytes && sizeMade (v .places) bytes else 28)
+    ∷ (isSome (v .places) else 29)
+    ∷ []
+
+abbrev pub queueOrder : Seen → ℕ → QueueCall → List Test
+queueOrder v bytes c =
+    (v .sound else 1)
+    ∷ (v .known else 2)
+    ∷ queueTests v bytes c
+
 -- the table of a call
 unfoldable pub order : Settings → Seen → Arriving → Op → List Test
 order s v a (start x) = startOrder s v x
@@ -214,3 +255,4 @@ order s v a (receive x) = receiveOrder v x
 order s v a (suspend kind) = suspendOrder v kind
 order s v a resume = resumeOrder v
 order s v a (part p) = partOrder v a p
+order s v a (queue bytes c) = queueOrder v bytes c

@@ -9,8 +9,9 @@ use lib.ListN.{take, drop, replicate, set}
 use Rattle.rules.specs.StartData.{startBytes}
 use Rattle.rules.specs.Report.{Descriptor}
 use Rattle.rules.specs.ControllerState.{stateOk}
-use Rattle.rules.specs.Order.{start, stop, write, receive, suspend, resume, part}
-use Rattle.rules.specs.Machine.{Answer, refused, done, wrote, reported, assembled, Call, Event, events, fresh}
+use Rattle.rules.specs.Order.{start, stop, write, receive, suspend, resume, part, queue, make, post}
+use Rattle.rules.specs.Order as order
+use Rattle.rules.specs.Machine.{Answer, refused, done, wrote, reported, assembled, posted, taken, Call, Event, events, fresh}
 use Rattle.rules.specs.declared.Range.{Range}
 use Rattle.rules.specs.declared.Settings.{Settings}
 
@@ -46,6 +47,20 @@ resumes id = record { id = id; op = resume }
 
 abbrev sends : ℕ → ℕ → ℕ → ℕ → List ℕ → Call
 sends id indicator offset count bytes = record { id = id; op = part (record { indicator = indicator; low = offset; high = 0; count = count; bytes = bytes }) }
+
+-- W8: calls to a controller's queue: it is made, posted to and taken from, with so many bytes of its area
+abbrev makes : ℕ → ℕ → Call
+makes id bytes = record { id = id; op = queue bytes make }
+
+abbrev posts : ℕ → ℕ → List ℕ → Call
+posts id bytes e = record { id = id; op = queue bytes (post e) }
+
+abbrev takes : ℕ → ℕ → ℕ → ℕ → Call
+takes id bytes asked buffer = record { id = id; op = queue bytes (order.take asked (replicate buffer 0)) }
+
+-- entries, each of one byte's value; the closing one is of FFh
+abbrev entry : ℕ → List ℕ
+entry v = replicate 32 v
 
 -- bytes of which nothing matters but how many
 abbrev zeros : ℕ → List ℕ
@@ -161,6 +176,32 @@ cases =
     (done ∷ done ∷ refused 27 0 ∷ assembled (zeros 48) ∷ done ∷ assembled (zeros 48) ∷ refused 26 0 ∷ [])
     -- a last part of no dwords closes what is complete
     ∷ case (suspends 5 ∷ sends 5 1 0 12 (zeros 48) ∷ sends 5 2 48 0 [] ∷ []) (done ∷ done ∷ assembled (zeros 48) ∷ [])
+    -- W8: two places hold one entry and the closing one. 8 before 30; a stopped queue that is empty refuses posts until it is made anew; a take of none is not closing
+    ∷ case
+    (makes 5 64 ∷ posts 5 64 (entry 1) ∷ posts 5 64 (entry 2) ∷ posts 5 64 (entry 3) ∷ posts 5 64 (zeros 31) ∷ takes 5 64 10 100 ∷ takes 5 64 10 100 ∷ posts 5 64 (entry 3) ∷ makes 5 64
+    ∷ posts 5 64 (entry 3) ∷ [])
+    (done ∷ posted false ∷ posted true ∷ refused 30 0 ∷ refused 8 0 ∷ taken (entry 1 ∷ entry 255 ∷ []) true ∷ taken [] false ∷ refused 30 0 ∷ done ∷ posted false ∷ [])
+    -- a posted entry of FFh is not the closing one
+    ∷ case (makes 5 96 ∷ posts 5 96 (entry 255) ∷ takes 5 96 1 32 ∷ []) (done ∷ posted false ∷ taken (entry 255 ∷ []) false ∷ [])
+    -- the fourth post to four places closes; a take says so once the closing entry is its last
+    ∷ case
+    (makes 5 128 ∷ posts 5 128 (entry 1) ∷ posts 5 128 (entry 2) ∷ posts 5 128 (entry 3) ∷ posts 5 128 (entry 4) ∷ takes 5 128 3 4096 ∷ takes 5 128 1 4096 ∷ [])
+    (done ∷ posted false ∷ posted false ∷ posted false ∷ posted true ∷ taken (entry 1 ∷ entry 2 ∷ entry 3 ∷ []) false ∷ taken (entry 255 ∷ []) true ∷ [])
+    -- as many as are asked for, are queued and fit whole
+    ∷ case
+    (makes 5 160 ∷ posts 5 160 (entry 1) ∷ posts 5 160 (entry 2) ∷ posts 5 160 (entry 3) ∷ takes 5 160 3 31 ∷ takes 5 160 0 96 ∷ takes 5 160 3 63 ∷ takes 5 160 1 96 ∷ takes 5 160 3 96 ∷ [])
+    (done ∷ posted false ∷ posted false ∷ posted false ∷ taken [] false ∷ taken [] false ∷ taken (entry 1 ∷ []) false ∷ taken (entry 2 ∷ []) false ∷ taken (entry 3 ∷ []) false ∷ [])
+    -- 28: no whole 2 to 1,024 places
+    ∷ case (makes 5 0 ∷ makes 5 32 ∷ makes 5 63 ∷ makes 5 65 ∷ makes 5 32800 ∷ makes 5 64 ∷ makes 5 32768 ∷ [])
+    (refused 28 0 ∷ refused 28 0 ∷ refused 28 0 ∷ refused 28 0 ∷ refused 28 0 ∷ done ∷ done ∷ [])
+    -- 28 before 29; not the size made; 29 before 8; 28 before 8 and 30
+    ∷ case
+    (posts 5 63 (entry 1) ∷ posts 5 64 (entry 1) ∷ posts 5 64 [] ∷ takes 5 63 1 32 ∷ takes 5 64 1 32 ∷ makes 5 96 ∷ posts 5 64 (entry 1) ∷ posts 5 128 [] ∷ takes 5 64 1 32 ∷ [])
+    (refused 28 0 ∷ refused 29 0 ∷ refused 29 0 ∷ refused 28 0 ∷ refused 29 0 ∷ done ∷ refused 28 0 ∷ refused 28 0 ∷ refused 28 0 ∷ [])
+    -- 2 for one that the settings lack; each controller has its own; tracking and suspending leave it
+    ∷ case
+    (makes 9 64 ∷ makes 5 96 ∷ posts 5 96 (entry 1) ∷ makes 6 96 ∷ takes 6 96 9 96 ∷ posts 6 96 (entry 2) ∷ usual ∷ suspends 5 ∷ posts 5 96 (entry 3) ∷ resumes 5 ∷ record { id = 5; op = stop } ∷ takes 5 96 9 96 ∷ [])
+    (refused 2 0 ∷ done ∷ posted false ∷ done ∷ taken [] false ∷ posted false ∷ done ∷ done ∷ posted false ∷ done ∷ done ∷ taken (entry 1 ∷ entry 3 ∷ []) false ∷ [])
     ∷ []
 
 -- ---- the claim

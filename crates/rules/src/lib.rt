@@ -16,6 +16,12 @@ pub const MOST_NOTES: usize = 1024;
 // The bytes of the lent area for a controller's state, and the most that a state may have.
 pub const STATE_BYTES: usize = 4096;
 
+// The bytes of an entry of a queue, and so of each of its places.
+pub const ENTRY_BYTES: usize = 32;
+
+// The most places of a queue.
+pub const MOST_PLACES: usize = 1024;
+
 // A length in units.
 pub struct Units(pub u64);
 
@@ -34,6 +40,22 @@ pub enum Tracking {
     On(u8, u8),
 }
 
+// A queue of user-data changes: its places; the totals of entries posted and taken since it was made, which go on from 0 past 2^32 - 1; the place of the oldest
+// queued entry; and whether logging has stopped, so that the newest entry is the closing one.
+pub struct Ring {
+    pub size: u16,
+    pub posted: u32,
+    pub taken: u32,
+    pub place: u16,
+    pub stopped: bool,
+}
+
+// Whether a queue was made for a controller.
+pub enum Queue {
+    Nothing,
+    Is(Ring),
+}
+
 // A migratable controller. Its marks stand from bit `base` of the pool on, and of its ranges the first so many are in use as its tracking says; of one that is off,
 // neither is looked at.
 pub struct Controller {
@@ -41,6 +63,7 @@ pub struct Controller {
     pub base: u16,
     pub suspended: bool,
     pub ranges: [Range; 16],
+    pub queue: Queue,
 }
 
 // Where a controller's marks lie in the pool: as many bits as it has units, from its base on. A share of no bits is nowhere.

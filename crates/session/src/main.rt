@@ -3,10 +3,11 @@
 use rules::MARK_WORDS;
 use rules::STATE_BYTES;
 
-// A line's buffer has a byte more than a line may have, so that one which is cut is still too long.
+// A line's buffer has a byte more than a line may have, so that one which is cut is still too long. There is nothing to lend to queues, which have no line here.
 fn main() {
     let mut marks = [0u64; MARK_WORDS];
     let mut area = [0u8; STATE_BYTES];
+    let mut areas = [0u8; 0];
     let mut line = [0u8; 1024];
     let mut out = [0u8; 65536];
     let mut input = [0u8; 65536];
@@ -14,6 +15,7 @@ fn main() {
         false,
         &mut marks,
         &mut area,
+        &mut areas,
         &mut line,
         &mut out,
         &mut input,

@@ -46,6 +46,6 @@ module _ (d : Device) (id : ℕ) where
       pub stop-done : (g n : ℕ) → getD (d .controllers) i noController .suspended ≡ false → getD (d .controllers) i noController .tracking ≡ On g n
           → let c = getD (d .controllers) i noController in
           stopChange d ws id
-          ≡ changed 0 (withController d i (record { tracking = Off; base = 0; suspended = false; ranges = stopped noController .ranges })) (withClear ws (c .base) (length (units g (take n (c .ranges)))))
+          ≡ changed 0 (withController d i (record { tracking = Off; base = 0; suspended = false; ranges = stopped noController .ranges; queue = c .queue })) (withClear ws (c .base) (length (units g (take n (c .ranges)))))
       unfolding stopChange
       stop-done g n f t = rw (l .place, l .seen, f, t)

@@ -135,12 +135,15 @@ fn install(d: Device, marks: &mut [u64], i: usize, g: u8, n: u8, ranges: [Range;
     let sizes = sizes_with(shares, i, units.0 as usize);
     pool::pack(marks, bases_of(shares), sizes, i);
     let on = Tracking::On(g, n);
+    let was = d.controllers[i];
+    let queue = was.queue;
     let mut e = d;
     e.controllers[i] = Controller {
         tracking: on,
         base: 0,
         suspended: false,
         ranges,
+        queue,
     };
     let bases = pool::new_bases(sizes);
     based(e, sizes, bases)
@@ -241,12 +244,14 @@ pub fn stop(d: Device, marks: &mut [u64], id: u16) -> Changed
     clear_share(marks, c.base as usize, units.0 as usize);
     let off = Tracking::Off;
     let none = rules::no_ranges();
+    let queue = c.queue;
     let mut e = d;
     e.controllers[i] = Controller {
         tracking: off,
         base: 0,
         suspended: false,
         ranges: none,
+        queue,
     };
     Changed {
         number: 0,

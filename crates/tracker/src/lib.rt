@@ -3,15 +3,20 @@
 
 pub use calls::Batched;
 pub use calls::Changed;
+pub use calls::Posted;
 pub use calls::Received;
 pub use calls::Started;
 pub use calls::StateSet;
+pub use calls::Taken;
 pub use calls::WriteRecord;
 pub use calls::Written;
 pub use controller_state::set_state;
 pub use fresh::fresh;
 pub use migration_send::resume;
 pub use migration_send::suspend;
+pub use queue::make_queue;
+pub use queue::post;
+pub use queue::take;
 pub use track_receive::receive;
 pub use track_send::start;
 pub use track_send::stop;

@@ -14,6 +14,7 @@ use Rattle.rules.specs.declared.Range.{Range}
 use Rattle.rules.specs.StartData.{noRange}
 use Rattle.rules.specs.declared.Tracking.{Tracking}
 use Rattle.rules.specs.declared.Tracking.the-variants.{Off, On}
+use Rattle.rules.specs.declared.Queue.the-variants as queue
 use Rattle.rules.specs.declared.Controller.{Controller}
 use Rattle.rules.specs.declared.Device.{Device}
 use Rattle.record.specs.Record.{soundWith}
@@ -61,7 +62,7 @@ Fronts s c = (s ≡ singleOf c) × (1 ≤ length (c .ranges))
 
 -- it, as far as that says
 abbrev pub alone : Single → Controller
-alone f = record { tracking = f .tracking; base = f .base; suspended = f .suspended; ranges = f .first ∷ [] }
+alone f = record { tracking = f .tracking; base = f .base; suspended = f .suspended; ranges = f .first ∷ []; queue = queue.Nothing }
 
 -- ---- a batch
 

@@ -1,28 +1,38 @@
 //! The form of a case (tests/RECORDS.md), and the device record as bytes in that form.
 
 use crate::little_endian::{get, put};
-use crate::rules::{Controller, Note, Range, Record, Sequence, Settings, Tracking};
+use crate::rules::{Controller, Note, Queue, Range, Record, Sequence, Settings, Tracking};
 
 /// A case is exactly so long; what stands after its last field is not looked at.
-pub const CASE_BYTES: usize = 2944;
+pub const CASE_BYTES: usize = 3056;
 /// A case may lend more words or fewer than the 256 that W7 wants, so that both are refused; as many as before W7 too.
 pub const MOST_WORDS: usize = 512;
-/// As many bytes at most are lent for a start structure, a report or a batch's rows, and a case has room for so many.
+/// As many bytes at most are lent for a start structure, a report, a batch's rows, an entry or a take's buffer, and a case has
+/// room for so many.
 pub const MOST_DATA: usize = 1024;
 /// A part may have more bytes than a state, so that 27 can be met; those that the case has no room for are zeros.
 const MOST_PART_DATA: usize = 4100;
-/// A case may lend a longer state area or a shorter one than the 4,096 bytes that W6 wants, so that both are refused.
+/// A case may lend a longer state area or a shorter one than the 4,096 bytes that W6 wants, so that both are refused. An
+/// answer has room for so many bytes of an area.
 pub const MOST_AREA: usize = 4200;
+/// A case may lend a place more than a queue's area may have (W8), so that 28 can be met.
+const MOST_QUEUE_AREA: usize = 32800;
 /// The area's first bytes are told one by one.
 const FRONT_BYTES: usize = 64;
+/// Past these each byte of a queue's area says in which of its places it is.
+const PLACE_BYTES: usize = 32;
 /// A row of a batch: identifier (2), address (8), bytes (8).
 const ROW_BYTES: usize = 18;
 /// One more than W4 lets a batch have, so that 22 can be met.
 const MOST_RECORDS: u64 = 1025;
-/// The call that is a part.
+/// The call that is a part, and those of a queue.
 const PART: u64 = 8;
+const MAKE_QUEUE: u64 = 9;
+const POST: u64 = 10;
+const TAKE: u64 = 11;
 
-/// The seven calls of document 01, a batch (W4) and a part (W6), with what only one of them takes.
+/// The seven calls of document 01, a batch (W4), a part (W6) and the three of a queue (W8), with what only one of them
+/// takes.
 #[derive(Clone, Debug, PartialEq, Eq)]
 pub enum Call {
     Fresh,
@@ -34,9 +44,12 @@ pub enum Call {
     Resume,
     Batch(Vec<Note>),
     Part { indicator: u64, low: u64, high: u64, count: u64 },
+    MakeQueue,
+    Post,
+    Take { asked: u64 },
 }
 
-/// A device record that may be unsound, lent marks, bytes and state area, and one call to play on them.
+/// A device record that may be unsound, lent marks, bytes and area, and one call to play on them.
 #[derive(Clone, Debug, PartialEq, Eq)]
 pub struct Case {
     pub record: Record,
@@ -44,8 +57,10 @@ pub struct Case {
     pub call: Call,
     pub id: u64,
     pub data: Vec<u8>,
-    /// Of a part; no other call takes one.
+    /// A part's state area, or a queue's area; no other call takes one.
     pub area: Vec<u8>,
+    /// From which byte on the answer has the area: a queue's is longer than what an answer has room for.
+    pub shown: usize,
 }
 
 /// The case in these bytes; nothing if they aren't in the form.
@@ -70,7 +85,10 @@ pub fn read_case(bytes: &[u8]) -> Option<Case> {
     let records = fields.next_within(2, MOST_RECORDS)?;
     let part =
         Call::Part { indicator: fields.next(1)?, low: fields.next(4)?, high: fields.next(4)?, count: fields.next(4)? };
-    let area = read_area(&mut fields)?;
+    let of_a_queue = [MAKE_QUEUE, POST, TAKE].contains(&number);
+    let area = read_area(&mut fields, of_a_queue)?;
+    let asked = fields.next(4)?;
+    let shown = fields.next(2)?;
     let call = match number {
         0 => Call::Fresh,
         1 => Call::Start,
@@ -81,10 +99,14 @@ pub fn read_case(bytes: &[u8]) -> Option<Case> {
         6 => Call::Resume,
         7 => Call::Batch(read_notes(&data, records as usize)?),
         PART => part,
+        MAKE_QUEUE => Call::MakeQueue,
+        POST => Call::Post,
+        TAKE => Call::Take { asked },
         _ => return None,
     };
-    let area = if number == PART { area } else { Vec::new() };
-    Some(Case { record, words, call, id, data, area })
+    let area = if of_a_queue || number == PART { area } else { Vec::new() };
+    let shown = if of_a_queue { shown as usize } else { 0 };
+    Some(Case { record, words, call, id, data, area, shown })
 }
 
 fn read_settings(fields: &mut Fields) -> Option<Settings> {
@@ -111,11 +133,32 @@ fn read_controller(fields: &mut Fields) -> Option<Controller> {
     };
     let suspended = fields.next_within(1, 1)? == 1;
     let base = fields.next(2)?;
-    let mut controller = Controller { tracking, suspended, base, ..Controller::default() };
+    let queue = read_queue(fields)?;
+    let mut controller = Controller { tracking, suspended, base, queue, ..Controller::default() };
     for range in controller.ranges.iter_mut() {
         *range = Range { start: fields.next(8)?, length: fields.next(4)? };
     }
     Some(controller)
+}
+
+/// 0 and zeros where there is no queue, 1 and what the record has of it where one is made. The outer nothing is for bytes
+/// that aren't in the form.
+fn read_queue(fields: &mut Fields) -> Option<Option<Queue>> {
+    let made = fields.next_within(1, 1)? == 1;
+    let queue = Queue {
+        size: fields.next(2)?,
+        posted: fields.next(4)?,
+        taken: fields.next(4)?,
+        place: fields.next(2)?,
+        stopped: fields.next_within(1, 1)? == 1,
+    };
+    if made {
+        Some(Some(queue))
+    } else if queue == Queue::default() {
+        Some(None)
+    } else {
+        None
+    }
 }
 
 /// 0 and zeros where nothing is open, 1 and the owner and the end where a sequence is.
@@ -134,12 +177,18 @@ fn read_words(fields: &mut Fields) -> Option<Vec<u64>> {
     Some((0..words).map(|word| mark.rotate_left((word % 64) as u32)).collect())
 }
 
-/// "the 64 of front and then fill in each", cut to the area's length.
-fn read_area(fields: &mut Fields) -> Option<Vec<u8>> {
-    let length = fields.next_within(2, MOST_AREA as u64)?;
+/// The 64 of front and then fill in each, cut to the area's length. In a queue's area the fill grows by 1 from place to
+/// place, "so that places differ": byte k is fill and k / 32.
+fn read_area(fields: &mut Fields, of_a_queue: bool) -> Option<Vec<u8>> {
+    let most = if of_a_queue { MOST_QUEUE_AREA } else { MOST_AREA };
+    let length = fields.next_within(2, most as u64)?;
     let fill = fields.next(1)?;
     let mut area = fields.next_bytes(FRONT_BYTES)?;
-    area.resize(length as usize, fill as u8);
+    while area.len() < most {
+        let place = if of_a_queue { area.len() / PLACE_BYTES } else { 0 };
+        area.push(((fill + place as u64) % 256) as u8);
+    }
+    area.truncate(length as usize);
     Some(area)
 }
 
@@ -189,10 +238,22 @@ fn put_controller(bytes: &mut Vec<u8>, controller: &Controller) {
     put(bytes, u128::from(count), 1);
     put(bytes, u128::from(controller.suspended), 1);
     put(bytes, u128::from(controller.base), 2);
+    put_queue(bytes, controller.queue);
     for range in &controller.ranges {
         put(bytes, u128::from(range.start), 8);
         put(bytes, u128::from(range.length), 4);
     }
+}
+
+fn put_queue(bytes: &mut Vec<u8>, queue: Option<Queue>) {
+    let made = queue.is_some();
+    let queue = queue.unwrap_or_default();
+    put(bytes, u128::from(made), 1);
+    put(bytes, u128::from(queue.size), 2);
+    put(bytes, u128::from(queue.posted), 4);
+    put(bytes, u128::from(queue.taken), 4);
+    put(bytes, u128::from(queue.place), 2);
+    put(bytes, u128::from(queue.stopped), 1);
 }
 
 fn put_sequence(bytes: &mut Vec<u8>, sequence: Sequence) {

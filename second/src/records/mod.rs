@@ -1,6 +1,6 @@
 //! Cases with device records of any kind, sound or not. No listing leads to an unsound record, to marks that are not 256
-//! words or to a state area that is not 4,096 bytes, so refusal 1 is tested here, and the bits of every share. tests/RECORDS.md
-//! has the form of a case and of its answer.
+//! words or to a state area that is not 4,096 bytes, so refusal 1 is tested here, and so are the bits of every share and a
+//! queue's totals near 2^32. tests/RECORDS.md has the form of a case and of its answer.
 
 mod case;
 mod marks;
@@ -34,10 +34,16 @@ struct Outcome {
     cut: Refusal,
     /// How many bytes a part has assembled (W6).
     whole: u64,
+    /// Whether a post has stopped the queue; how many entries a take took, and whether the last is the closing one (W8).
+    stopped: bool,
+    taken: u64,
+    closing: bool,
     record: Record,
     words: Vec<u64>,
     data: Vec<u8>,
     area: Vec<u8>,
+    /// From which byte on the area is shown.
+    shown: usize,
 }
 
 /// Answers each case of `input`, in their order.
@@ -67,10 +73,14 @@ fn untouched(case: &Case) -> Outcome {
         notes_done: 0,
         cut: 0,
         whole: 0,
+        stopped: false,
+        taken: 0,
+        closing: false,
         record: case.record.clone(),
         words: case.words.clone(),
         data: case.data.clone(),
         area: case.area.clone(),
+        shown: case.shown,
     }
 }
 
@@ -117,6 +127,13 @@ fn done(case: &Case) -> Result<Outcome, Reason> {
             let part = Part { id, indicator: *indicator, low: *low, high: *high, count: *count, data };
             after.whole = device.set_state(&mut after.area, &part)? as u64;
         }
+        Call::MakeQueue => device.make_queue(case.id, &case.area)?,
+        Call::Post => after.stopped = device.post(case.id, &mut after.area, &case.data)?,
+        Call::Take { asked } => {
+            let take = device.take(case.id, &case.area, *asked, &mut after.data)?;
+            after.taken = take.entries as u64;
+            after.closing = take.closing;
+        }
     }
     mark_pending(&device, &mut after.words);
     after.record = device.record;
@@ -155,6 +172,9 @@ fn answer(outcome: &Outcome) -> Vec<u8> {
     put(&mut bytes, u128::from(outcome.notes_done), 8);
     put(&mut bytes, u128::from(outcome.cut), 1);
     put(&mut bytes, u128::from(outcome.whole), 8);
+    put(&mut bytes, u128::from(outcome.stopped), 1);
+    put(&mut bytes, u128::from(outcome.taken), 8);
+    put(&mut bytes, u128::from(outcome.closing), 1);
     bytes.extend_from_slice(&record_bytes(&outcome.record));
     let marks_end = bytes.len() + 8 * MOST_WORDS;
     for word in &outcome.words {
@@ -164,7 +184,8 @@ fn answer(outcome: &Outcome) -> Vec<u8> {
     // A part may lend more bytes than the answer has room for; these are left out.
     bytes.extend_from_slice(&outcome.data);
     bytes.resize(marks_end + MOST_DATA, 0);
-    bytes.extend_from_slice(&outcome.area);
+    // So may a queue's area; the bytes from the one on that the case names are there.
+    bytes.extend(outcome.area.iter().skip(outcome.shown));
     bytes.resize(marks_end + MOST_DATA + MOST_AREA, 0);
     bytes
 }

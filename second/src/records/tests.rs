@@ -3,7 +3,7 @@
 
 use super::*;
 use crate::device::units;
-use crate::rules::{Controller, Range, Sequence, Settings, Tracking};
+use crate::rules::{Controller, Queue, Range, Sequence, Settings, Tracking};
 use crate::structure::structure_bytes;
 use crate::tests::Random;
 
@@ -28,7 +28,7 @@ fn base(call: Call, id: u64) -> Case {
     record.controllers[2].suspended = true;
     record.controllers[2].ranges[0] = Range { start: 1048576, length: 3 };
     record.controllers[2].base = 8192;
-    Case { record, words: vec![0; 256], call, id, data: Vec::new(), area: Vec::new() }
+    Case { record, words: vec![0; 256], call, id, data: Vec::new(), area: Vec::new(), shown: 0 }
 }
 
 /// A batch of these notes: identifier, address and bytes.
@@ -44,7 +44,40 @@ fn part(indicator: u64, low: u64, data: &[u8]) -> Case {
     case
 }
 
-/// The base with each of the eight calls that look at the record; each is done there.
+/// A queue that isn't stopped.
+fn queue(size: u64, posted: u64, taken: u64, place: u64) -> Queue {
+    Queue { size, posted, taken, place, stopped: false }
+}
+
+/// An area whose places have one byte each.
+fn area_of(places: &[u8]) -> Vec<u8> {
+    places.iter().flat_map(|byte| vec![*byte; 32]).collect()
+}
+
+/// A call of controller 6's queue, with this area. There is none yet.
+fn queue_call(call: Call, area: &[u8]) -> Case {
+    let mut case = base(call, 6);
+    case.area = area.to_vec();
+    case
+}
+
+/// A post of 32 bytes of 99 to this queue.
+fn post(queue: Queue, area: &[u8]) -> Case {
+    let mut case = queue_call(Call::Post, area);
+    case.record.controllers[1].queue = Some(queue);
+    case.data = vec![99; 32];
+    case
+}
+
+/// A take from this queue, into so many stale bytes.
+fn take(queue: Queue, area: &[u8], asked: u64, bytes: usize) -> Case {
+    let mut case = queue_call(Call::Take { asked }, area);
+    case.record.controllers[1].queue = Some(queue);
+    case.data = vec![170; bytes];
+    case
+}
+
+/// The base with each of the eleven calls that look at the record; each is done there.
 fn calls() -> Vec<Case> {
     let mut start = base(Call::Start, 6);
     start.data = structure_bytes(0, &[Range { start: 65536, length: 1 }]);
@@ -59,10 +92,13 @@ fn calls() -> Vec<Case> {
         base(Call::Resume, 7),
         base(batch(&[(5, 69632, 1), (5, 65536, 1)]), 0),
         part(1, 0, &[1, 2, 3, 4]),
+        queue_call(Call::MakeQueue, &[1; 64]),
+        post(queue(3, 1, 0, 0), &[1; 96]),
+        take(queue(3, 1, 0, 0), &[1; 96], 1, 64),
     ]
 }
 
-/// What each of the eight calls answers once the base's record is changed so. A refused one must leave all as it was.
+/// What each of the eleven calls answers once the base's record is changed so. A refused one must leave all as it was.
 fn refusals(change: &dyn Fn(&mut Record)) -> Vec<Refusal> {
     let mut refusals = Vec::new();
     for mut case in calls() {
@@ -77,11 +113,18 @@ fn refusals(change: &dyn Fn(&mut Record)) -> Vec<Refusal> {
 }
 
 fn assert_unsound(change: &dyn Fn(&mut Record)) {
-    assert_eq!(refusals(change), [1; 8]);
+    assert_eq!(refusals(change), [1; 11]);
 }
 
 fn assert_sound(change: &dyn Fn(&mut Record)) {
-    assert_eq!(refusals(change), [0; 8]);
+    assert_eq!(refusals(change), [0; 11]);
+}
+
+/// Sound, and the start is refused so; all others are done.
+fn assert_start_refused(change: &dyn Fn(&mut Record), refusal: Refusal) {
+    let mut expected = [0; 11];
+    expected[0] = refusal;
+    assert_eq!(refusals(change), expected);
 }
 
 /// Puts these ranges, and no others, into the first controller's places.
@@ -179,7 +222,7 @@ fn ranges_at_and_past_their_limits() {
 fn counts_together_at_and_past_the_limit() {
     // 2 and 1 are tracked, and the start asks for one more.
     assert_sound(&|record| record.settings.limit = 4);
-    assert_eq!(refusals(&|record| record.settings.limit = 3), [12, 0, 0, 0, 0, 0, 0, 0]);
+    assert_start_refused(&|record| record.settings.limit = 3, 12);
     assert_unsound(&|record| record.settings.limit = 2);
 }
 
@@ -198,6 +241,7 @@ fn rubbish(record: &mut Record) {
         controller.tracking = Tracking::On { granularity: 255, count: 255 };
         controller.suspended = true;
         controller.base = 65535;
+        controller.queue = Some(queue(2, 9, 3, 65535));
     }
 }
 
@@ -428,6 +472,8 @@ fn sequences_that_are_sound_and_not() {
     assert_refused(&case, 1, 0);
     case.record.settings.number = 4;
     case.record.controllers[3].tracking = Tracking::Off;
+    assert_refused(&case, 1, 0);
+    case.record.controllers[3].queue = None;
     assert_refused(&case, 23, 0);
 }
 
@@ -493,7 +539,7 @@ fn every_other_call_carries_the_sequence_on() {
         let after = outcome(&open);
         assert_eq!(after.refusal, 0);
         let first = Sequence::Open { owner: 7, end: 4 };
-        let is_part = !case.area.is_empty();
+        let is_part = matches!(case.call, Call::Part { .. });
         assert_eq!(after.record.sequence, if is_part { first } else { open.record.sequence });
     }
     // A fresh device has none, and a closed one neither.
@@ -501,6 +547,295 @@ fn every_other_call_carries_the_sequence_on() {
     assert_eq!(outcome(&case).record.sequence, Sequence::Nothing);
     case.words.pop();
     assert_eq!(outcome(&case).record, Record::default());
+}
+
+// ---------------------------------------------------------------------------------------------------------------
+// Queues (W8)
+// ---------------------------------------------------------------------------------------------------------------
+
+const LAST_TOTAL: u64 = 4294967295;
+
+fn stopped(queue: Queue) -> Queue {
+    Queue { stopped: true, ..queue }
+}
+
+/// This post is done: so are the queue and the area after it, and all else is as it was.
+fn assert_posted(case: &Case, queue: Queue, area: &[u8]) {
+    let mut expected = Outcome { stopped: queue.stopped, area: area.to_vec(), ..untouched(case) };
+    expected.record.controllers[1].queue = Some(queue);
+    assert_eq!(outcome(case), expected);
+}
+
+/// This take is done and yields these entries, of one byte each. So is the queue after it; all else, and the rest of the
+/// buffer, is as it was.
+fn assert_taken(case: &Case, queue: Queue, entries: &[u8], closing: bool) {
+    let mut expected = Outcome { taken: entries.len() as u64, closing, ..untouched(case) };
+    expected.record.controllers[1].queue = Some(queue);
+    let bytes = area_of(entries);
+    expected.data[..bytes.len()].copy_from_slice(&bytes);
+    assert_eq!(outcome(case), expected);
+}
+
+#[test]
+fn queues_that_are_sound_and_not() {
+    // Of 5, which is tracked, and of 7, which is suspended. READINGS W8, and its neighbours.
+    for place in [0, 2].iter() {
+        for good in [
+            stopped(queue(2, 2, 0, 0)),
+            stopped(queue(2, 0, 0, 0)),
+            queue(2, 1, 0, 1),
+            queue(4, 2, LAST_TOTAL, 1),
+            queue(3, LAST_TOTAL, LAST_TOTAL, 0),
+            stopped(queue(1024, 1023, LAST_TOTAL, 1023)),
+            queue(1024, 1022, LAST_TOTAL, 1023),
+            // Sizes that no area has.
+            queue(1, 0, 0, 0),
+            stopped(queue(1, 0, LAST_TOTAL, 0)),
+            queue(1025, 1024, 0, 1024),
+            queue(65535, 65534, 0, 65534),
+            stopped(queue(65535, 65534, LAST_TOTAL, 65534)),
+        ]
+        .iter()
+        {
+            assert_sound(&|record| record.controllers[*place].queue = Some(*good));
+        }
+        for bad in [
+            queue(2, 2, 0, 0),
+            queue(2, 0, 1, 0),
+            stopped(queue(2, 0, 1, 0)),
+            queue(2, 0, 0, 2),
+            queue(2, 0, 0, 65535),
+            queue(2, 3, 0, 0),
+            stopped(queue(2, 3, 0, 0)),
+            stopped(queue(2, 1, 4294967294, 0)),
+            queue(1024, 1023, LAST_TOTAL, 1023),
+            stopped(queue(1024, 1024, LAST_TOTAL, 1023)),
+            queue(1, 1, 0, 0),
+            queue(0, 0, 0, 0),
+            stopped(queue(0, 0, 0, 0)),
+            queue(65535, 65535, 0, 0),
+            queue(65535, 0, 0, 65535),
+        ]
+        .iter()
+        {
+            assert_unsound(&|record| record.controllers[*place].queue = Some(*bad));
+            // In an unused place it is not looked at.
+            assert_sound(&|record| record.controllers[3].queue = Some(*bad));
+        }
+    }
+}
+
+#[test]
+fn worked_posts() {
+    let two = [3, 4];
+    assert_posted(&post(queue(2, 0, 0, 0), &area_of(&two)), queue(2, 1, 0, 0), &area_of(&[99, 4]));
+    assert_posted(&post(queue(2, 1, 0, 0), &area_of(&two)), stopped(queue(2, 2, 0, 0)), &area_of(&[3, 255]));
+    let four = [3, 4, 5, 6];
+    assert_posted(
+        &post(queue(4, 2, LAST_TOTAL, 1), &area_of(&four)),
+        stopped(queue(4, 3, LAST_TOTAL, 1)),
+        &area_of(&[255, 4, 5, 6]),
+    );
+    let three = [3, 4, 5];
+    assert_posted(
+        &post(queue(3, LAST_TOTAL, LAST_TOTAL, 0), &area_of(&three)),
+        queue(3, 0, LAST_TOTAL, 0),
+        &area_of(&[99, 4, 5]),
+    );
+    assert_posted(&post(queue(3, 0, 0, 1), &area_of(&three)), queue(3, 1, 0, 1), &area_of(&[3, 99, 5]));
+    // A posted entry of FFh is stored, and doesn't stop.
+    let mut case = post(queue(3, 0, 0, 2), &area_of(&three));
+    case.data = vec![255; 32];
+    assert_posted(&case, queue(3, 1, 0, 2), &area_of(&[3, 4, 255]));
+}
+
+#[test]
+fn worked_takes() {
+    let two = area_of(&[3, 255]);
+    assert_taken(&take(stopped(queue(2, 2, 0, 0)), &two, 10, 100), stopped(queue(2, 2, 2, 0)), &[3, 255], true);
+    assert_taken(&take(stopped(queue(2, 2, 2, 0)), &two, 10, 100), stopped(queue(2, 2, 2, 0)), &[], false);
+    // Of FFh, and posted.
+    let ffh = area_of(&[255, 4, 5]);
+    assert_taken(&take(queue(3, 1, 0, 0), &ffh, 1, 32), queue(3, 1, 1, 1), &[255], false);
+    let four = area_of(&[3, 4, 5, 255]);
+    let full = stopped(queue(4, 4, 0, 0));
+    assert_taken(&take(full, &four, 3, 128), stopped(queue(4, 4, 3, 3)), &[3, 4, 5], false);
+    assert_taken(&take(stopped(queue(4, 4, 3, 3)), &four, 1, 128), stopped(queue(4, 4, 4, 0)), &[255], true);
+    // The closing one is told by the record alone: these bytes are not of FFh.
+    let other = area_of(&[3, 4, 5, 6]);
+    assert_taken(&take(full, &other, 9, 1024), stopped(queue(4, 4, 4, 0)), &[3, 4, 5, 6], true);
+    for (bytes, entries) in [(0, 0), (31, 0), (32, 1), (63, 1), (64, 2), (95, 2), (96, 3), (127, 3), (128, 4)].iter() {
+        let after = stopped(queue(4, 4, *entries as u64, *entries as u64 % 4));
+        assert_taken(&take(full, &four, LAST_TOTAL, *bytes), after, &[3, 4, 5, 255][..*entries], *entries == 4);
+        assert_taken(&take(full, &four, 0, *bytes), full, &[], false);
+    }
+    assert_taken(&take(queue(3, 0, LAST_TOTAL, 0), &area_of(&[7, 8, 9]), 1, 32), queue(3, 0, 0, 1), &[7], false);
+    // Over the end of the places, and over 2^32.
+    assert_taken(
+        &take(queue(4, 1, 4294967294, 2), &area_of(&[3, 4, 5, 6]), 9, 1024),
+        queue(4, 1, 1, 1),
+        &[5, 6, 3],
+        false,
+    );
+}
+
+#[test]
+fn queues_are_made() {
+    for (bytes, size) in [(64, 2), (96, 3), (32736, 1023), (32768, 1024)].iter() {
+        let mut case = queue_call(Call::MakeQueue, &vec![7; *bytes]);
+        rubbish(&mut case.record);
+        let mut expected = untouched(&case);
+        expected.record.controllers[1].queue = Some(queue(*size, 0, 0, 0));
+        assert_eq!(outcome(&case), expected);
+        // Anew, whatever there was.
+        for before in [stopped(queue(2, 2, 0, 0)), queue(2, 6, 5, 1), queue(65535, 9, 9, 9)].iter() {
+            case.record.controllers[1].queue = Some(*before);
+            assert_eq!(outcome(&case), expected);
+        }
+    }
+    for bytes in [0, 1, 31, 32, 33, 63, 65, 95, 32767, 32769, 32799, 32800].iter() {
+        let mut case = queue_call(Call::MakeQueue, &vec![7; *bytes]);
+        assert_refused(&case, 28, 0);
+        case.record.controllers[1].queue = Some(queue(2, 1, 0, 0));
+        assert_refused(&case, 28, 0);
+    }
+}
+
+#[test]
+fn refusals_of_a_queue() {
+    // All that is wrong with a post to a stopped queue of two places, then ever less; a take has the first three.
+    let mut case = post(stopped(queue(2, 1, 1, 1)), &[7; 63]);
+    case.data.pop();
+    case.id = 9;
+    case.record.controllers[1].queue = Some(queue(2, 2, 0, 0));
+    let take_of = |case: &Case| Case { call: Call::Take { asked: 1 }, ..case.clone() };
+    let make_of = |case: &Case| Case { call: Call::MakeQueue, ..case.clone() };
+    for case in [case.clone(), take_of(&case), make_of(&case)].iter() {
+        assert_refused(case, 1, 0);
+    }
+    case.record.controllers[1].queue = Some(stopped(queue(2, 2, 0, 0)));
+    for id in [9, 1].iter() {
+        case.id = *id;
+        for case in [case.clone(), take_of(&case), make_of(&case)].iter() {
+            assert_refused(case, 2, 0);
+            let mut short = case.clone();
+            short.words.pop();
+            assert_refused(&short, 1, 0);
+        }
+    }
+    case.id = 6;
+    for bytes in [63, 65, 32, 0, 96, 32768, 32800].iter() {
+        case.area = vec![7; *bytes];
+        assert_refused(&case, 28, 0);
+        assert_refused(&take_of(&case), 28, 0);
+    }
+    // 5 has no queue.
+    case.id = 5;
+    for bytes in [64, 96, 32768].iter() {
+        case.area = vec![7; *bytes];
+        assert_refused(&case, 29, 0);
+        assert_refused(&take_of(&case), 29, 0);
+    }
+    case.area = vec![7; 63];
+    assert_refused(&case, 28, 0);
+    assert_refused(&take_of(&case), 28, 0);
+    case.id = 6;
+    case.area = vec![7; 64];
+    for bytes in [0, 1, 31, 33, 64, 1024].iter() {
+        case.data = vec![5; *bytes];
+        assert_refused(&case, 8, 0);
+    }
+    case.data = vec![5; 32];
+    assert_refused(&case, 30, 0);
+    assert_taken(&take_of(&case), stopped(queue(2, 2, 1, 1)), &[7], false);
+}
+
+#[test]
+fn sizes_that_no_area_has() {
+    for size in [1, 1025, 65535].iter() {
+        for bytes in [0, 32, 64, 32768, 32800].iter() {
+            assert_refused(&post(queue(*size, 0, 0, 0), &vec![7; *bytes]), 28, 0);
+            assert_refused(&take(queue(*size, 0, 0, 0), &vec![7; *bytes], 0, 0), 28, 0);
+        }
+    }
+}
+
+#[test]
+fn queues_in_a_record_full_of_rubbish() {
+    // 6 is tracked and suspended; marks are of every kind.
+    let change = |mut case: Case| {
+        rubbish(&mut case.record);
+        share(&mut case.record, 1, 500, 70);
+        case.record.controllers[1].suspended = true;
+        case.words = (0..256).map(|word| word * 0x0101_0101_0101_0101).collect();
+        case.record.sequence = Sequence::Open { owner: 7, end: 16 };
+        case
+    };
+    let area = area_of(&[3, 4, 5, 6]);
+    let first = change(post(queue(4, 9, 7, 1), &area));
+    assert_posted(&first, queue(4, 10, 7, 1), &area_of(&[3, 4, 5, 99]));
+    let last = change(post(queue(4, 9, 6, 1), &area));
+    assert_posted(&last, stopped(queue(4, 10, 6, 1)), &area_of(&[255, 4, 5, 6]));
+    assert_taken(&change(take(queue(4, 9, 7, 3), &area, 2, 200)), queue(4, 9, 9, 1), &[6, 3], false);
+}
+
+#[test]
+fn every_other_call_carries_the_queues_on() {
+    let of_5 = queue(7, 3, LAST_TOTAL, 6);
+    let of_7 = stopped(queue(2, 2, 0, 1));
+    for mut case in calls() {
+        case.record.controllers[0].queue = Some(of_5);
+        case.record.controllers[2].queue = Some(of_7);
+        case.record.controllers[5].queue = Some(queue(0, 1, 2, 3));
+        let after = outcome(&case);
+        assert_eq!(after.refusal, 0);
+        let queues: Vec<Option<Queue>> = after.record.controllers.iter().map(|controller| controller.queue).collect();
+        let of_6 = match case.call {
+            Call::MakeQueue => Some(queue(2, 0, 0, 0)),
+            Call::Post => Some(queue(3, 2, 0, 0)),
+            Call::Take { .. } => Some(queue(3, 1, 1, 1)),
+            _ => None,
+        };
+        assert_eq!(queues, [Some(of_5), of_6, Some(of_7), None, None, Some(queue(0, 1, 2, 3)), None, None]);
+    }
+    // A fresh device has none, and a closed one neither.
+    let mut case = base(Call::Fresh, 0);
+    case.record.controllers[0].queue = Some(of_5);
+    case.record.controllers[1].queue = Some(queue(0, 1, 2, 3));
+    let after = outcome(&case);
+    assert_eq!(after.refusal, 0);
+    assert!(after.record.controllers.iter().all(|controller| *controller == Controller::default()));
+    case.words.pop();
+    assert_eq!(outcome(&case).record, Record::default());
+}
+
+#[test]
+fn all_places_of_a_queue() {
+    // Every place, fill and total about 2^32 of queues of 2 to 5 places: where a post goes and what a take yields.
+    for size in 2..6u64 {
+        let bytes: Vec<u8> = (0..size as u8).collect();
+        let area = area_of(&bytes);
+        for place in 0..size {
+            for fill in 0..size {
+                for taken in [0, LAST_TOTAL - 3, LAST_TOTAL - 1, LAST_TOTAL].iter() {
+                    let total = |count: u64| (taken + count) % 4294967296;
+                    let before = queue(size, total(fill), *taken, place);
+                    let mut after = bytes.clone();
+                    let closes = fill + 1 == size;
+                    after[((place + fill) % size) as usize] = if closes { 255 } else { 99 };
+                    let posted = Queue { posted: total(fill + 1), stopped: closes, ..before };
+                    assert_posted(&post(before, &area), posted, &area_of(&after));
+                    for asked in 0..=fill {
+                        let entries: Vec<u8> = (0..asked).map(|number| ((place + number) % size) as u8).collect();
+                        let left = Queue { taken: total(asked), place: (place + asked) % size, ..before };
+                        assert_taken(&take(before, &area, asked, 200), left, &entries, false);
+                        let closing = asked > 0 && asked == fill;
+                        assert_taken(&take(stopped(before), &area, asked, 200), stopped(left), &entries, closing);
+                    }
+                }
+            }
+        }
+    }
 }
 
 // ---------------------------------------------------------------------------------------------------------------
@@ -634,7 +969,7 @@ fn shares_at_the_end_of_the_pool_and_past_it() {
         assert_unsound(&|record| record.controllers[0].base = *base);
     }
     // READINGS W7: 6 at 16,383 with one unit, at 16,384, and off at 60,000. A start of 6 meets 3, or is done.
-    assert_eq!(refusals(&|record| share(record, 1, 16383, 1)), [3, 0, 0, 0, 0, 0, 0, 0]);
+    assert_start_refused(&|record| share(record, 1, 16383, 1), 3);
     assert_unsound(&|record| share(record, 1, 16384, 1));
     assert_unsound(&|record| share(record, 1, 3, 1));
     assert_sound(&|record| record.controllers[1].base = 60000);
@@ -643,13 +978,12 @@ fn shares_at_the_end_of_the_pool_and_past_it() {
 #[test]
 fn a_full_pool() {
     // 16,381 units of 5 and 3 of 7: sound where they stand side by side, in either order. A start finds no room.
-    let full = [11, 0, 0, 0, 0, 0, 0, 0];
     for (base_of_5, base_of_7) in &[(0, 16381), (3, 0)] {
         let filled = |record: &mut Record, pages| {
             share(record, 0, *base_of_5, pages);
             record.controllers[2].base = *base_of_7;
         };
-        assert_eq!(refusals(&|record| filled(record, 16381)), full);
+        assert_start_refused(&|record| filled(record, 16381), 11);
         assert_sound(&|record| filled(record, 16380));
         assert_unsound(&|record| filled(record, 16382));
     }
@@ -659,7 +993,7 @@ fn a_full_pool() {
         record.controllers[2].tracking = Tracking::Off;
         share(record, 0, 0, 16384);
     };
-    assert_eq!(refusals(&alone), full);
+    assert_start_refused(&alone, 11);
 }
 
 /// The words with these bits set alone.
@@ -916,7 +1250,7 @@ fn a_row_of_cases_is_a_session() {
             };
             let id = device.record.settings.identifiers[place];
             let data = if call == Call::Start { structure_bytes(0, ranges) } else { vec![170; 48] };
-            let case = Case { record, words, call, id, data: data.clone(), area: Vec::new() };
+            let case = Case { record, words, call, id, data: data.clone(), area: Vec::new(), shown: 0 };
             let after = outcome(&case);
             let mut buffer = data;
             let (refusal, count) = match &case.call {
@@ -1042,7 +1376,7 @@ fn last_bits_of_ranges_that_overlap() {
 /// A whole case with each field's bytes at its offset in tests/RECORDS.md.
 fn case_bytes() -> Vec<u8> {
     let mut bytes = vec![0; CASE_BYTES];
-    let fields: [(usize, &[u8]); 27] = [
+    let fields: [(usize, &[u8]); 33] = [
         (0, &[1, 2]),                          // manager
         (2, &[3]),                             // least
         (3, &[4]),                             // greatest
@@ -1053,23 +1387,29 @@ fn case_bytes() -> Vec<u8> {
         (29, &[11, 12]),                       // the last identifier
         (31, &[1, 13, 14, 1]),                 // the first controller
         (35, &[51, 52]),                       // its base
-        (37, &[15, 0, 0, 0, 0, 0, 0, 16]),     // its first start
-        (45, &[17, 0, 0, 18]),                 // its first length
-        (229, &[1, 19, 20, 0, 53, 54]),        // the second controller
-        (1421, &[55, 56]),                     // the last controller's base
-        (1603, &[21, 0, 0, 0, 0, 0, 0, 22]),   // its last start
-        (1611, &[23, 0, 0, 24]),               // the last length
-        (1615, &[1, 37, 38, 39, 40]),          // an open sequence, its owner and its end
-        (1620, &[1, 1]),                       // 257 words
-        (1622, &[25, 0, 0, 0, 0, 0, 0, 26]),   // their mark
-        (1630, &[3, 27, 28]),                  // a write of this identifier
-        (1633, &[29, 0, 0, 0, 0, 0, 0, 30]),   // address
-        (1641, &[31, 0, 0, 0, 0, 0, 0, 32]),   // bytes
-        (1649, &[33, 3, 0, 34, 35, 36, 99]),   // type, 3 lent bytes, and one that isn't lent
-        (2678, &[41, 42, 0, 0, 43]),           // a part's indicator, and its offset's lower word
-        (2683, &[44, 0, 0, 45, 46, 0, 0, 47]), // the upper word, and the count
-        (2691, &[70, 0, 48, 49]),              // 70 bytes of state area, their fill, and the first of its front
-        (2757, &[50]),                         // the last of its front
+        (37, &[1, 57, 58]),                    // its queue, and that one's size
+        (40, &[59, 0, 0, 60, 61, 0, 0, 62]),   // the totals, posted and taken
+        (48, &[63, 64, 1]),                    // its place, and that it is stopped
+        (51, &[15, 0, 0, 0, 0, 0, 0, 16]),     // the first controller's first start
+        (59, &[17, 0, 0, 18]),                 // its first length
+        (243, &[1, 19, 20, 0, 53, 54]),        // the second controller
+        (1519, &[55, 56]),                     // the last controller's base
+        (1521, &[1, 65, 0, 0, 0, 0, 66]),      // its queue, whose size and posted total are of a byte each
+        (1528, &[67, 0, 0, 0, 68, 0, 0]),      // the taken total, the place, and that it isn't stopped
+        (1715, &[21, 0, 0, 0, 0, 0, 0, 22]),   // the last controller's last start
+        (1723, &[23, 0, 0, 24]),               // the last length
+        (1727, &[1, 37, 38, 39, 40]),          // an open sequence, its owner and its end
+        (1732, &[1, 1]),                       // 257 words
+        (1734, &[25, 0, 0, 0, 0, 0, 0, 26]),   // their mark
+        (1742, &[3, 27, 28]),                  // a write of this identifier
+        (1745, &[29, 0, 0, 0, 0, 0, 0, 30]),   // address
+        (1753, &[31, 0, 0, 0, 0, 0, 0, 32]),   // bytes
+        (1761, &[33, 3, 0, 34, 35, 36, 99]),   // type, 3 lent bytes, and one that isn't lent
+        (2790, &[41, 42, 0, 0, 43]),           // a part's indicator, and its offset's lower word
+        (2795, &[44, 0, 0, 45, 46, 0, 0, 47]), // the upper word, and the count
+        (2803, &[70, 0, 48, 49]),              // 70 bytes of area, their fill, and the first of its front
+        (2869, &[50]),                         // the last of its front
+        (2870, &[69, 0, 0, 70, 71, 72]),       // how many entries are asked for, and the first byte shown
     ];
     for (at, field) in &fields {
         bytes[*at..*at + field.len()].copy_from_slice(field);
@@ -1103,12 +1443,17 @@ fn fields_at_their_offsets() {
     assert_eq!(case.record.controllers[7].ranges[15], Range { start: high(21, 22), length: 402653207 });
     let bases: Vec<u64> = case.record.controllers.iter().map(|controller| controller.base).collect();
     assert_eq!(bases, [13363, 13877, 0, 0, 0, 0, 0, 14391]);
+    let stopped = Queue { stopped: true, ..queue(14905, 1006633019, 1040187453, 16447) };
+    let mut queues = [None; 8];
+    queues[0] = Some(stopped);
+    queues[7] = Some(queue(65, 1107296256, 67, 68));
+    assert_eq!(case.record.controllers.iter().map(|controller| controller.queue).collect::<Vec<_>>(), queues);
     assert_eq!((case.words.len(), case.words[0]), (257, high(25, 26)));
     assert_eq!(case.call, Call::Write { address: high(29, 30), bytes: high(31, 32) });
     assert_eq!((case.id, case.data), (7195, vec![34, 35, 36]));
     assert_eq!(case.record.sequence, Sequence::Open { owner: 9765, end: 10279 });
-    // Only a part has a state area.
-    assert_eq!(case.area, vec![]);
+    // Only a part and the calls of a queue have an area, and of a queue's alone a byte is named from which on it is shown.
+    assert_eq!((case.area, case.shown), (vec![], 0));
 }
 
 #[test]
@@ -1125,12 +1470,12 @@ fn words_of_a_mark() {
     // Zeros and ones stay as they are.
     for byte in [0, 255].iter() {
         let mut bytes = case_bytes();
-        bytes[1622..1630].copy_from_slice(&[*byte; 8]);
+        bytes[1734..1742].copy_from_slice(&[*byte; 8]);
         assert_eq!(read_case(&bytes).unwrap().words, vec![if *byte == 0 { 0 } else { u64::MAX }; 257]);
     }
     // A bit is in each word one place higher, and in word 64 where it was.
     let mut bytes = case_bytes();
-    bytes[1622..1630].copy_from_slice(&[1, 0, 0, 0, 0, 0, 0, 0]);
+    bytes[1734..1742].copy_from_slice(&[1, 0, 0, 0, 0, 0, 0, 0]);
     let words = read_case(&bytes).unwrap().words;
     assert_eq!((words[0], words[1], words[63], words[64], words[65]), (1, 2, 1 << 63, 1, 2));
 }
@@ -1138,7 +1483,7 @@ fn words_of_a_mark() {
 #[test]
 fn fields_of_a_part() {
     let mut bytes = case_bytes();
-    bytes[1630] = 8;
+    bytes[1742] = 8;
     let case = read_case(&bytes).unwrap();
     assert_eq!(case.call, Call::Part { indicator: 41, low: 721420330, high: 754974764, count: 788529198 });
     assert_eq!((case.id, case.data), (7195, vec![34, 35, 36]));
@@ -1147,12 +1492,48 @@ fn fields_of_a_part() {
     area.resize(63, 0);
     area.push(50);
     area.resize(70, 48);
-    assert_eq!(case.area, area);
+    assert_eq!((case.area, case.shown), (area, 0));
     // Areas no longer than the front, and as long as can be.
     for (length, low, high) in [(0, 0, 0), (1, 1, 0), (63, 63, 0), (64, 64, 0), (4200, 104, 16)].iter() {
-        bytes[2691] = *low;
-        bytes[2692] = *high;
+        bytes[2803] = *low;
+        bytes[2804] = *high;
         let mut expected = [vec![49], vec![0; 62], vec![50], vec![48; 4136]].concat();
+        expected.truncate(*length);
+        assert_eq!(read_case(&bytes).unwrap().area, expected);
+    }
+}
+
+#[test]
+fn fields_of_a_queue() {
+    let mut bytes = case_bytes();
+    for (number, call) in [Call::MakeQueue, Call::Post, Call::Take { asked: 1174405189 }].iter().enumerate() {
+        bytes[1742] = 9 + number as u8;
+        let case = read_case(&bytes).unwrap();
+        assert_eq!(case.call, *call);
+        assert_eq!((case.id, case.data, case.shown), (7195, vec![34, 35, 36], 18503));
+        // The 64 of the front, and the fill and 2 in each of six more.
+        let mut area = vec![49];
+        area.resize(63, 0);
+        area.push(50);
+        area.resize(70, 50);
+        assert_eq!(case.area, area);
+    }
+    // Areas no longer than the front, longer than a state area, and as long as can be.
+    bytes[2805] = 250;
+    for (length, low, high) in
+        [(0, 0, 0), (1, 1, 0), (64, 64, 0), (65, 65, 0), (4201, 105, 16), (32768, 0, 128), (32800, 32, 128)].iter()
+    {
+        bytes[2803] = *low;
+        bytes[2804] = *high;
+        let mut expected = [vec![49], vec![0; 62], vec![50]].concat();
+        // 252 to 255 in places 2 to 5, 0 in place 6, and 250 + 1024 = 4 * 256 + 250 in place 1024.
+        for place in 2..1025 {
+            expected.extend(vec![((250 + place) % 256) as u8; 32]);
+        }
+        assert_eq!(
+            (expected[64], expected[160], expected[191], expected[192], expected[32799]),
+            (252, 255, 255, 0, 250)
+        );
         expected.truncate(*length);
         assert_eq!(read_case(&bytes).unwrap().area, expected);
     }
@@ -1162,24 +1543,24 @@ fn fields_of_a_part() {
 fn data_of_a_part() {
     // 4,100 bytes, of which the case has room for 1,024: the others are zeros.
     let mut bytes = case_bytes();
-    bytes[1630] = 8;
-    bytes[1650] = 4;
-    bytes[1651] = 16;
-    bytes[2675] = 98;
+    bytes[1742] = 8;
+    bytes[1762] = 4;
+    bytes[1763] = 16;
+    bytes[2787] = 98;
     let mut expected = vec![34, 35, 36, 99];
     expected.resize(1023, 0);
     expected.push(98);
     expected.resize(4100, 0);
     assert_eq!(read_case(&bytes).unwrap().data, expected);
-    bytes[1650] = 5;
+    bytes[1762] = 5;
     assert_eq!(read_case(&bytes), None, "4,101 bytes");
 }
 
 #[test]
 fn record_is_written_as_it_was_read() {
     let bytes = case_bytes();
-    assert_eq!(record_bytes(&read_case(&bytes).unwrap().record), bytes[..1620].to_vec());
-    assert_eq!(record_bytes(&Record::default()), vec![0; 1620]);
+    assert_eq!(record_bytes(&read_case(&bytes).unwrap().record), bytes[..1732].to_vec());
+    assert_eq!(record_bytes(&Record::default()), vec![0; 1732]);
 }
 
 #[test]
@@ -1191,7 +1572,7 @@ fn each_call_by_its_number() {
             .iter()
             .enumerate()
     {
-        bytes[1630] = number as u8;
+        bytes[1742] = number as u8;
         assert_eq!(read_case(&bytes).unwrap().call, *call);
     }
     assert_eq!(read_case(&batch_bytes(0, 0)).unwrap().call, Call::Batch(Vec::new()));
@@ -1200,14 +1581,14 @@ fn each_call_by_its_number() {
 /// A batch with this many records, and as many lent bytes of two rows.
 fn batch_bytes(records: u64, lent: u8) -> Vec<u8> {
     let mut bytes = case_bytes();
-    bytes[1630] = 7;
-    bytes[1650] = lent;
-    bytes[1652..1688].copy_from_slice(&[
+    bytes[1742] = 7;
+    bytes[1762] = lent;
+    bytes[1764..1800].copy_from_slice(&[
         1, 2, 3, 0, 0, 0, 0, 0, 0, 4, 5, 0, 0, 0, 0, 0, 0, 6, // identifier, address, bytes
         7, 8, 9, 0, 0, 0, 0, 0, 0, 10, 11, 0, 0, 0, 0, 0, 0, 12,
     ]);
-    bytes[2676] = (records % 256) as u8;
-    bytes[2677] = (records / 256) as u8;
+    bytes[2788] = (records % 256) as u8;
+    bytes[2789] = (records / 256) as u8;
     bytes
 }
 
@@ -1225,7 +1606,7 @@ fn rows_of_a_batch() {
     // No row.
     assert_eq!(call(1025, 0), batch(&[(0, 0, 0); 1025]));
     // The rows are lent bytes like any other.
-    assert_eq!(read_case(&batch_bytes(5, 36)).unwrap().data, batch_bytes(0, 0)[1652..1688].to_vec());
+    assert_eq!(read_case(&batch_bytes(5, 36)).unwrap().data, batch_bytes(0, 0)[1764..1800].to_vec());
 }
 
 #[test]
@@ -1239,21 +1620,34 @@ fn bytes_that_are_no_batch() {
 
 #[test]
 fn bytes_that_are_no_case() {
-    // Rule 2, tracking 2, off with a granularity, suspended 2, sequence 2, none with an owner and an end or with one of
-    // them, 513 words, call 9, 1,025 lent bytes, 4,201 bytes of area.
-    let damages: [&[(usize, u8)]; 12] = [
+    // Rule 2, tracking 2, off with a granularity, suspended 2, queue 2, none with what only a queue has, stopped 2, sequence
+    // 2, none with an owner and an end or with one of them, 513 words, call 12, 1,025 lent bytes of a write and of a post,
+    // 4,201 bytes of area, and 32,801 of a queue's.
+    let damages: [&[(usize, u8)]; 24] = [
         &[(4, 2)],
         &[(31, 2)],
         &[(31, 0)],
         &[(34, 2)],
-        &[(1615, 2)],
-        &[(1615, 0)],
-        &[(1615, 0), (1616, 0), (1617, 0)],
-        &[(1615, 0), (1618, 0), (1619, 0)],
-        &[(1621, 2)],
-        &[(1630, 9)],
-        &[(1650, 1), (1651, 4)],
-        &[(2691, 105), (2692, 16)],
+        &[(37, 2)],
+        &[(37, 0)],
+        &[(50, 2)],
+        &[(249, 2)],
+        &[(250, 1)],
+        &[(255, 1)],
+        &[(256, 1)],
+        &[(261, 1)],
+        &[(262, 1)],
+        &[(1521, 0)],
+        &[(1727, 2)],
+        &[(1727, 0)],
+        &[(1727, 0), (1728, 0), (1729, 0)],
+        &[(1727, 0), (1730, 0), (1731, 0)],
+        &[(1733, 2)],
+        &[(1742, 12)],
+        &[(1762, 1), (1763, 4)],
+        &[(1742, 10), (1762, 1), (1763, 4)],
+        &[(2803, 105), (2804, 16)],
+        &[(1742, 11), (2803, 33), (2804, 128)],
     ];
     for damage in &damages {
         let mut bytes = case_bytes();
@@ -1273,28 +1667,32 @@ fn answers_at_their_offsets() {
     let case = read_case(&case_bytes()).unwrap();
     let report = [3, 4, 5, high(6, 7)];
     let numbers = Outcome { refusal: 200, row: 201, count: high(1, 2), report, ..untouched(&case) };
-    let mut after = Outcome { notes_done: high(8, 9), cut: 10, whole: high(11, 12), ..numbers };
+    let numbers = Outcome { notes_done: high(8, 9), cut: 10, whole: high(11, 12), ..numbers };
+    let mut after = Outcome { stopped: true, taken: high(13, 14), closing: true, ..numbers };
     after.words = vec![high(25, 26); 256];
     after.words.push(high(41, 42));
-    after.area = vec![43, 44];
-    let mut expected = vec![0; 10978];
-    let fields: [(usize, &[u8]); 9] = [
-        (0, &[200, 201]),                    // refusal and row
-        (2, &[1, 0, 0, 0, 0, 0, 0, 2]),      // count
-        (10, &[3, 4, 5]),                    // suspended, more, granularity
-        (13, &[6, 0, 0, 0, 0, 0, 0, 7]),     // number of runs
-        (21, &[8, 0, 0, 0, 0, 0, 0, 9, 10]), // notes done, and the refusal that cut the batch
-        (30, &[11, 0, 0, 0, 0, 0, 0, 12]),   // whole
-        (3706, &[41, 0, 0, 0, 0, 0, 0, 42]), // the last of 257 words
-        (5754, &[34, 35, 36]),               // 3 lent bytes
-        (6778, &[43, 44]),                   // 2 bytes of state area
+    after.area = vec![97, 98, 43, 44];
+    after.shown = 2;
+    let mut expected = vec![0; 11100];
+    let fields: [(usize, &[u8]); 11] = [
+        (0, &[200, 201]),                     // refusal and row
+        (2, &[1, 0, 0, 0, 0, 0, 0, 2]),       // count
+        (10, &[3, 4, 5]),                     // suspended, more, granularity
+        (13, &[6, 0, 0, 0, 0, 0, 0, 7]),      // number of runs
+        (21, &[8, 0, 0, 0, 0, 0, 0, 9, 10]),  // notes done, and the refusal that cut the batch
+        (30, &[11, 0, 0, 0, 0, 0, 0, 12]),    // whole
+        (38, &[1]),                           // stopped
+        (39, &[13, 0, 0, 0, 0, 0, 0, 14, 1]), // taken and closing
+        (3828, &[41, 0, 0, 0, 0, 0, 0, 42]),  // the last of 257 words
+        (5876, &[34, 35, 36]),                // 3 lent bytes
+        (6900, &[43, 44]),                    // the area, of which 2 bytes are shown
     ];
     for (at, field) in &fields {
         expected[*at..*at + field.len()].copy_from_slice(field);
     }
-    expected[38..1658].copy_from_slice(&case_bytes()[..1620]);
+    expected[48..1780].copy_from_slice(&case_bytes()[..1732]);
     for word in 0..256 {
-        expected[1658 + 8 * word..1666 + 8 * word].copy_from_slice(&[25, 0, 0, 0, 0, 0, 0, 26]);
+        expected[1780 + 8 * word..1788 + 8 * word].copy_from_slice(&[25, 0, 0, 0, 0, 0, 0, 26]);
     }
     assert_eq!(answer(&after), expected);
 }
@@ -1306,18 +1704,18 @@ fn answer_to_a_case_that_lends_the_most() {
     case.words = vec![u64::MAX; 512];
     case.data = vec![170; 1024];
     let mut expected = vec![1];
-    expected.resize(38, 0);
+    expected.resize(48, 0);
     expected.extend_from_slice(&record_bytes(&case.record));
-    expected.resize(5754, 255);
-    expected.resize(6778, 170);
-    expected.resize(10978, 0);
+    expected.resize(5876, 255);
+    expected.resize(6900, 170);
+    expected.resize(11100, 0);
     assert_eq!(answer(&outcome(&case)), expected);
     // So with a part: of its 4,100 bytes the first 1,024 are there, and the area is.
     let mut case = part(1, 0, &[170; 4100]);
     case.words = vec![u64::MAX; 512];
     case.area = vec![85; 4200];
-    expected.truncate(6778);
-    expected.resize(10978, 85);
+    expected.truncate(6900);
+    expected.resize(11100, 85);
     assert_eq!(answer(&outcome(&case)), expected);
 }
 
@@ -1326,15 +1724,15 @@ fn answer_to_a_start_that_names_a_row() {
     // 32 bytes are lent: a header and two ranges, of which the second is unaligned. All words are 0.
     let case = start_with(&[(65536, 4), (4097, 1)]);
     let mut expected = vec![20, 1];
-    expected.resize(38, 0);
+    expected.resize(48, 0);
     expected.extend_from_slice(&record_bytes(&case.record));
-    expected.resize(5754, 0);
+    expected.resize(5876, 0);
     expected.extend_from_slice(&[
         0, 0, 0, 0, 2, 0, 0, 0, // version, reserved, granularity, count
         0, 0, 1, 0, 0, 0, 0, 0, 4, 0, 0, 0, // 65536, 4
         1, 16, 0, 0, 0, 0, 0, 0, 1, 0, 0, 0, // 4097, 1
     ]);
-    expected.resize(10978, 0);
+    expected.resize(11100, 0);
     assert_eq!(answer(&outcome(&case)), expected);
 }
 
@@ -1345,10 +1743,10 @@ fn answer_to_a_batch_that_is_cut() {
     let mut expected = vec![0, 0, 2];
     expected.resize(21, 0);
     expected.extend_from_slice(&[3, 0, 0, 0, 0, 0, 0, 0, 2]);
-    expected.resize(38, 0);
+    expected.resize(48, 0);
     expected.extend_from_slice(&record_bytes(&case.record));
     expected.push(0b0110);
-    expected.resize(10978, 0);
+    expected.resize(11100, 0);
     assert_eq!(answer(&outcome(&case)), expected);
 }
 
@@ -1360,26 +1758,85 @@ fn answer_to_a_part_that_yields_a_state() {
     case.area[..20].copy_from_slice(&[0; 20]);
     let mut expected = vec![0; 30];
     expected.push(48);
-    expected.resize(38, 0);
+    expected.resize(48, 0);
     let mut record = case.record.clone();
     record.sequence = Sequence::Nothing;
     expected.extend_from_slice(&record_bytes(&record));
-    expected.resize(6778 + 48, 0);
-    expected.resize(6778 + 4096, 0xEE);
-    expected.resize(10978, 0);
+    expected.resize(6900 + 48, 0);
+    expected.resize(6900 + 4096, 0xEE);
+    expected.resize(11100, 0);
     assert_eq!(answer(&outcome(&case)), expected);
 }
 
 #[test]
+fn answer_to_a_post_that_stops() {
+    // The closing entry goes to place 2, of which the answer has the bytes from 80 on, and those behind it.
+    let mut case = post(queue(3, 1, LAST_TOTAL, 0), &area_of(&[3, 4, 5]));
+    case.shown = 80;
+    let mut expected = vec![0; 38];
+    expected.push(1);
+    expected.resize(48, 0);
+    let mut record = case.record.clone();
+    record.controllers[1].queue = Some(stopped(queue(3, 2, LAST_TOTAL, 0)));
+    expected.extend_from_slice(&record_bytes(&record));
+    expected.resize(5876, 0);
+    expected.resize(5876 + 32, 99);
+    expected.resize(6900, 0);
+    expected.resize(6900 + 16, 255);
+    expected.resize(11100, 0);
+    assert_eq!(answer(&outcome(&case)), expected);
+    // The queue's 14 bytes, at 48 + 31 + 212 + 6.
+    assert_eq!(expected[297..311], [1, 3, 0, 2, 0, 0, 0, 255, 255, 255, 255, 0, 0, 1]);
+}
+
+#[test]
+fn answer_to_a_take_that_closes() {
+    // Two entries, then 6 bytes as they were; of the area all but its first byte.
+    let mut case = take(stopped(queue(3, 3, 1, 1)), &area_of(&[3, 4, 5]), 258, 70);
+    case.shown = 1;
+    let mut expected = vec![0; 39];
+    expected.extend_from_slice(&[2, 0, 0, 0, 0, 0, 0, 0, 1]);
+    let mut record = case.record.clone();
+    record.controllers[1].queue = Some(stopped(queue(3, 3, 3, 0)));
+    expected.extend_from_slice(&record_bytes(&record));
+    expected.resize(5876, 0);
+    expected.extend_from_slice(&area_of(&[4, 5]));
+    expected.extend_from_slice(&[170; 6]);
+    expected.resize(6900, 0);
+    expected.extend_from_slice(&area_of(&[3, 4, 5])[1..]);
+    expected.resize(11100, 0);
+    assert_eq!(answer(&outcome(&case)), expected);
+}
+
+#[test]
+fn answers_that_show_an_area() {
+    // 32,800 bytes: 4,200 of them from each byte on, or as many as there are.
+    let area: Vec<u8> = (0..32800u32).map(|byte| (byte % 251) as u8).collect();
+    let mut case = queue_call(Call::MakeQueue, &area);
+    for shown in [0, 1, 31, 28599, 28600, 28601, 32799, 32800, 32801, 65535].iter() {
+        case.shown = *shown;
+        let mut expected: Vec<u8> = area.iter().cloned().skip(*shown).take(4200).collect();
+        expected.resize(4200, 0);
+        let given = answer(&outcome(&case));
+        assert_eq!((given[0], given.len()), (28, 11100));
+        assert_eq!(given[6900..], expected[..]);
+    }
+}
+
+#[test]
 fn controller_that_is_off_answers_zeros() {
-    // A stop of controller 5 zeroes its 198 bytes, from byte 31 of the record on, and the record stays in the form.
+    // A stop of controller 5 zeroes its 212 bytes, from byte 31 of the record on, and the record stays in the form.
     let mut case = base(Call::Stop, 5);
     case.record.controllers[0].base = 12345;
     let mut expected = record_bytes(&case.record);
-    for byte in &mut expected[31..229] {
+    for byte in &mut expected[31..243] {
         *byte = 0;
     }
-    assert_eq!(answer(&outcome(&case))[38..1658].to_vec(), expected);
+    assert_eq!(answer(&outcome(&case))[48..1780].to_vec(), expected);
+    // Of a queue it leaves the 14 bytes.
+    case.record.controllers[0].queue = Some(Queue { stopped: true, ..queue(3, 258, 257, 2) });
+    expected[37..51].copy_from_slice(&[1, 3, 0, 2, 1, 0, 0, 1, 1, 0, 0, 2, 0, 1]);
+    assert_eq!(answer(&outcome(&case))[48..1780].to_vec(), expected);
 }
 
 #[test]
@@ -1387,9 +1844,9 @@ fn an_answer_for_each_case() {
     // Two cases of zeros: a fresh whose settings have no identifiers. It answers 16 and is closed; no words, no bytes.
     let mut output = Vec::new();
     play(&mut &vec![0; 2 * CASE_BYTES][..], &mut output).unwrap();
-    let mut expected = vec![0; 2 * 10978];
+    let mut expected = vec![0; 2 * 11100];
     expected[0] = 16;
-    expected[10978] = 16;
+    expected[11100] = 16;
     assert_eq!(output, expected);
     let mut output = Vec::new();
     play(&mut &[][..], &mut output).unwrap();

@@ -1,6 +1,6 @@
 //! The lines of a shelf listing (READINGS 0.7).
 
-use crate::listing::{self, fitting, note, word_and_numbers, Line, BITS_16, BITS_32, BITS_8};
+use crate::listing::{self, fitting, note, word_and_numbers, Line, BITS_16, BITS_32, BITS_8, GREATEST_BUFFER};
 use crate::rules::Note;
 use crate::state::Part;
 
@@ -14,6 +14,10 @@ const MOST_TRIPLES: usize = 1100;
 const GREATEST_BURST: u64 = 2000;
 /// "hex of at most 4,100 bytes": more than a state has, so that 27 can be met.
 const MOST_PART_BYTES: usize = 4100;
+/// "size at most 32,800": a place more than a queue's area may have, so that 28 can be met at that end too.
+pub const GREATEST_SIZE: u64 = 32800;
+/// "hex of at most 64 bytes": more than an entry has, so that 8 can be met.
+const MOST_ENTRY_BYTES: usize = 64;
 
 /// A well-formed line.
 #[derive(Clone, Debug, PartialEq, Eq)]
@@ -22,12 +26,30 @@ pub enum ShelfLine {
     Session(Line),
     Batch(Vec<Note>),
     Part(Part),
+    /// The size of these three is how many bytes are lent of the controller's own area.
+    Queue {
+        id: u64,
+        size: u64,
+    },
+    Post {
+        id: u64,
+        size: u64,
+        entry: Vec<u8>,
+    },
+    Take {
+        id: u64,
+        size: u64,
+        asked: u64,
+        buffer: u64,
+    },
 }
 
 /// The line in these bytes. Nothing for "any other line".
 pub fn parse(line: &[u8]) -> Option<ShelfLine> {
-    if line.split(|byte| *byte == b' ').next() == Some(b"part") {
-        return part(line).map(ShelfLine::Part);
+    match line.split(|byte| *byte == b' ').next() {
+        Some(b"part") => return part(line),
+        Some(b"post") => return post(line),
+        _ => {}
     }
     let (word, numbers) = word_and_numbers(line)?;
     match (word, numbers.as_slice()) {
@@ -47,26 +69,51 @@ pub fn parse(line: &[u8]) -> Option<ShelfLine> {
             let n = fitting(*n, GREATEST_BURST)?;
             Some(ShelfLine::Batch(vec![note(fields)?; n as usize]))
         }
+        // "`queue` id size"
+        (b"queue", [id, size]) => {
+            Some(ShelfLine::Queue { id: fitting(*id, BITS_16)?, size: fitting(*size, GREATEST_SIZE)? })
+        }
+        // "`take` id size asked buffer": "asked 32 bits, buffer at most 4,096"
+        (b"take", [id, size, asked, buffer]) => Some(ShelfLine::Take {
+            id: fitting(*id, BITS_16)?,
+            size: fitting(*size, GREATEST_SIZE)?,
+            asked: fitting(*asked, BITS_32)?,
+            buffer: fitting(*buffer, GREATEST_BUFFER)?,
+        }),
         _ => listing::parse(line).map(ShelfLine::Session),
     }
 }
 
-/// "`part` id indicator low high count data": "16, 8, 32, 32, 32 bits, hex". What stands before the last space is a word
-/// and numbers.
-fn part(line: &[u8]) -> Option<Part> {
-    let data_at = line.iter().rposition(|byte| *byte == b' ')? + 1;
-    let (_, numbers) = word_and_numbers(&line[..data_at - 1])?;
+/// "`part` id indicator low high count data": "16, 8, 32, 32, 32 bits, hex".
+fn part(line: &[u8]) -> Option<ShelfLine> {
+    let (numbers, data) = numbers_and_bytes(line, MOST_PART_BYTES)?;
     match numbers.as_slice() {
-        [id, indicator, low, high, count] => Some(Part {
+        [id, indicator, low, high, count] => Some(ShelfLine::Part(Part {
             id: fitting(*id, BITS_16)?,
             indicator: fitting(*indicator, BITS_8)?,
             low: fitting(*low, BITS_32)?,
             high: fitting(*high, BITS_32)?,
             count: fitting(*count, BITS_32)?,
-            data: bytes_of(&line[data_at..], MOST_PART_BYTES)?,
-        }),
+            data,
+        })),
         _ => None,
     }
+}
+
+/// "`post` id size entry": "size as in `queue`; hex of at most 64 bytes".
+fn post(line: &[u8]) -> Option<ShelfLine> {
+    let (numbers, entry) = numbers_and_bytes(line, MOST_ENTRY_BYTES)?;
+    match numbers.as_slice() {
+        [id, size] => Some(ShelfLine::Post { id: fitting(*id, BITS_16)?, size: fitting(*size, GREATEST_SIZE)?, entry }),
+        _ => None,
+    }
+}
+
+/// Behind the last space of such a line are at most so many bytes in hex, and before it are a word and numbers.
+fn numbers_and_bytes(line: &[u8], most: usize) -> Option<(Vec<u64>, Vec<u8>)> {
+    let bytes_at = line.iter().rposition(|byte| *byte == b' ')? + 1;
+    let (_, numbers) = word_and_numbers(&line[..bytes_at - 1])?;
+    Some((numbers, bytes_of(&line[bytes_at..], most)?))
 }
 
 #[cfg(test)]
@@ -151,6 +198,108 @@ mod tests {
             assert_eq!(part(line), None, "{}", line);
         }
         for line in ["Part 5 1 2 3 4 -", "parts 5 1 2 3 4 -", "par 5 1 2 3 4 -", "part5 1 2 3 4 -"].iter() {
+            assert_eq!(parse(line.as_bytes()), None, "{}", line);
+        }
+    }
+
+    #[test]
+    fn queues() {
+        assert_eq!(parse(b"queue 5 64"), Some(ShelfLine::Queue { id: 5, size: 64 }));
+        assert_eq!(parse(b"queue 0 0"), Some(ShelfLine::Queue { id: 0, size: 0 }));
+        assert_eq!(parse(b"queue 65535 32800"), Some(ShelfLine::Queue { id: 65535, size: 32800 }));
+        let (id, size) = (5, 64);
+        assert_eq!(parse(b"post 5 64 00ff"), Some(ShelfLine::Post { id, size, entry: vec![0, 255] }));
+        assert_eq!(parse(b"post 5 64 -"), Some(ShelfLine::Post { id, size, entry: vec![] }));
+        assert_eq!(parse(b"take 5 64 1 2"), Some(ShelfLine::Take { id, size, asked: 1, buffer: 2 }));
+        assert_eq!(
+            parse(b"take 65535 32800 4294967295 4096"),
+            Some(ShelfLine::Take { id: 65535, size: 32800, asked: 4294967295, buffer: 4096 })
+        );
+        // The longest good line of the three.
+        let line = format!("post 65535 32800 {}", "5a".repeat(64));
+        assert_eq!(line.len(), 145);
+        assert_eq!(parse(line.as_bytes()), Some(ShelfLine::Post { id: 65535, size: 32800, entry: vec![0x5A; 64] }));
+        assert_eq!(parse(format!("{}5a", line).as_bytes()), None);
+        assert_eq!(parse(format!("{}5", line).as_bytes()), None);
+    }
+
+    #[test]
+    fn damaged_queues() {
+        for line in [
+            "queue",
+            "queue ",
+            "queue 5",
+            "queue 5 ",
+            "queue 5 64 ",
+            "queue 5 64 64",
+            "queue 5 64 -",
+            "queue 5 -",
+            "queue 5 32801",
+            "queue 5 65536",
+            "queue 5 4294967360",
+            "queue 65536 64",
+            "queue 5 064",
+            "queue 05 64",
+            "queue  5 64",
+            " queue 5 64",
+            "queue\t5 64",
+            "queue 5 64\r",
+            "Queue 5 64",
+            "queues 5 64",
+            "queu 5 64",
+            "queue5 64",
+            "post",
+            "post ",
+            "post -",
+            "post 5",
+            "post 5 -",
+            "post 5 64",
+            "post 5 64 ",
+            "post 5 64 - ",
+            "post 5 64 64 -",
+            "post 5 64 00 00",
+            "post 5 - 64",
+            "post 5 64 0",
+            "post 5 64 000",
+            "post 5 64 0F",
+            "post 5 64 0g",
+            "post 5 64 --",
+            "post 5 64 00\r",
+            "post 5 64 0x00",
+            "post 5 32801 00",
+            "post 65536 64 00",
+            "post 5 064 00",
+            "post 05 64 00",
+            "post 5 64  00",
+            "post  5 64 00",
+            " post 5 64 00",
+            "Post 5 64 00",
+            "posts 5 64 00",
+            "pos 5 64 00",
+            "take",
+            "take ",
+            "take 5",
+            "take 5 64",
+            "take 5 64 1",
+            "take 5 64 1 ",
+            "take 5 64 1 32 ",
+            "take 5 64 1 32 0",
+            "take 5 64 1 -",
+            "take 5 64 - 32",
+            "take 5 64 1 4097",
+            "take 5 64 4294967296 32",
+            "take 5 32801 1 32",
+            "take 65536 64 1 32",
+            "take 5 64 01 32",
+            "take 5 64 1 032",
+            "take 5 64  1 32",
+            " take 5 64 1 32",
+            "Take 5 64 1 32",
+            "takes 5 64 1 32",
+            "tak 5 64 1 32",
+        ]
+        .iter()
+        {
             assert_eq!(parse(line.as_bytes()), None, "{}", line);
         }
     }

@@ -6,29 +6,35 @@ mod listing;
 #[cfg(test)]
 mod part_tests;
 #[cfg(test)]
+mod queue_tests;
+#[cfg(test)]
 mod tests;
 
 use std::io::{self, Read, Write};
 
 use crate::lines::{play_lines, Cut};
-use crate::rules::{Reason, STATE_BYTES};
-use crate::session::{answer_line, Session};
+use crate::queue::ENTRY_BYTES;
+use crate::rules::{Reason, MOST_CONTROLLERS, STATE_BYTES};
+use crate::session::{answer_line, Session, STALE};
 
 use self::hex::hex_of;
-use self::listing::{parse, ShelfLine, MOST_BYTES};
+use self::listing::{parse, ShelfLine, GREATEST_SIZE, MOST_BYTES};
 
-/// The session whose device the shelf's own lines call as well, and the state area (W6), "handed on from part to part and
-/// used for nothing else": a new device leaves it as it was.
+/// The session whose device the shelf's own lines call as well; the state area (W6), "handed on from part to part and
+/// used for nothing else"; and for each place of an identifier the area of its controller's queue (W8), "a lent area of
+/// its own, handed on from call to call and used for nothing else". A new device leaves the areas as they were.
 #[derive(Clone, Debug, PartialEq, Eq)]
 pub struct Shelf {
     session: Session,
     area: Vec<u8>,
+    queue_areas: Vec<Vec<u8>>,
 }
 
 /// "The state area and the queues' areas begin as zeros"
 impl Default for Shelf {
     fn default() -> Shelf {
-        Shelf { session: Session::default(), area: vec![0; STATE_BYTES] }
+        let queue_areas = vec![vec![0; GREATEST_SIZE as usize]; MOST_CONTROLLERS];
+        Shelf { session: Session::default(), area: vec![0; STATE_BYTES], queue_areas }
     }
 }
 
@@ -59,6 +65,52 @@ impl Shelf {
                 }
                 Ok(answer)
             }
+            ShelfLine::Queue { id, size } => {
+                let area = self.lent(*id, *size);
+                self.session.device.make_queue(*id, &area)?;
+                Ok("0\n".to_string())
+            }
+            // "`0 stopped S`, S 0 or 1"
+            ShelfLine::Post { id, size, entry } => {
+                let mut area = self.lent(*id, *size);
+                let stopped = self.session.device.post(*id, &mut area, entry)?;
+                self.give_back(*id, &area);
+                Ok(format!("0 stopped {}\n", u8::from(stopped)))
+            }
+            // "`0 taken M closing C`, and a line of hex for each entry taken"
+            ShelfLine::Take { id, size, asked, buffer } => {
+                let area = self.lent(*id, *size);
+                // At most 4096 bytes: a line with more is bad.
+                let mut bytes = vec![STALE; *buffer as usize];
+                let take = self.session.device.take(*id, &area, *asked, &mut bytes)?;
+                let mut answer = format!("0 taken {} closing {}\n", take.entries, u8::from(take.closing));
+                for entry in bytes.chunks(ENTRY_BYTES).take(take.entries) {
+                    answer.push_str(&format!("{}\n", hex_of(entry)));
+                }
+                Ok(answer)
+            }
         }
+    }
+
+    /// "lends the first so many bytes of that controller's own area": a copy of them. An identifier that isn't in the
+    /// settings has no area, and what is lent there is all one: its call is refused with 1 or 2.
+    fn lent(&self, id: u64, size: u64) -> Vec<u8> {
+        let mut lent = match self.place(id) {
+            Some(place) => self.queue_areas[place].clone(),
+            None => Vec::new(),
+        };
+        lent.resize(size as usize, 0);
+        lent
+    }
+
+    /// The lent bytes as a call has left them.
+    fn give_back(&mut self, id: u64, lent: &[u8]) {
+        if let Some(place) = self.place(id) {
+            self.queue_areas[place][..lent.len()].copy_from_slice(lent);
+        }
+    }
+
+    fn place(&self, id: u64) -> Option<usize> {
+        self.session.device.record.settings.used_identifiers().iter().position(|identifier| *identifier == id)
     }
 }

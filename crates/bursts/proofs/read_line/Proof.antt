@@ -1,9 +1,7 @@
 -- `bursts::read_line` is safe: the word lies in the line.
-use mathlib.Core.Path.{sym}
 use native.Mathlib.Omega.{arith}
-use lib.Seq.{length-take-le}
-use borrow.Author.Needs.{needs}
 use Rattle.fields.proofs.FieldLaws.{firstField-within}
+use borrow.Author.Needs.{needs}
 use Rattle.bursts.proofs.read_line.Statement.{statement}
 use Rattle.bursts.proofs.read_line.Tie as tie
 
@@ -16,23 +14,20 @@ returns c = search needs
 field-end-requires : tie.Need-field-end-requires
 field-end-requires c κs = search needs
 
-slice-aggregate-same : tie.Need-slice-aggregate-same
-slice-aggregate-same c = sym (length-take-le _ _ (firstField-within _ _ _ (c .before .field-end .ensures) (omega arith) .1))
+slice-aggregate-begins : tie.Need-slice-aggregate-begins
+slice-aggregate-begins c = search needs
 
-slice-aggregate-same-2 : tie.Need-slice-aggregate-same-2
-slice-aggregate-same-2 c = search needs
-
-same-requires : tie.Need-same-requires
-same-requires c κs = search needs
+begins-requires : tie.Need-begins-requires
+begins-requires c κs = search needs
 
 batch-line-requires : tie.Need-batch-line-requires
-batch-line-requires c κs = firstField-within _ _ _ (c .before .before .before .before .field-end .ensures) (omega arith) .1
+batch-line-requires c κs = firstField-within _ _ _ (c .before .before .before .field-end .ensures) (omega arith) .1
 
 returns-2 : tie.Need-returns-2
 returns-2 c = search needs
 
 burst-line-requires : tie.Need-burst-line-requires
-burst-line-requires c κs = firstField-within _ _ _ (c .before .before .before .before .field-end .ensures) (omega arith) .1
+burst-line-requires c κs = firstField-within _ _ _ (c .before .before .before .field-end .ensures) (omega arith) .1
 
 returns-3 : tie.Need-returns-3
 returns-3 c = search needs
@@ -44,9 +39,8 @@ read-line-spec =
     bad-requires
     returns
     field-end-requires
-    slice-aggregate-same
-    slice-aggregate-same-2
-    same-requires
+    slice-aggregate-begins
+    begins-requires
     batch-line-requires
     returns-2
     burst-line-requires

@@ -5,17 +5,17 @@ use mathlib.Core.Path.{_≡_, sym}
 use native.Mathlib.Omega.{arith}
 use lib.ListN.{length}
 use lib.Seq.{length-take-le}
-use borrow.Author.Needs.{needs}
 use Rattle.listing.proofs.BoundLaws.{read-bounded}
+use borrow.Author.Needs.{needs}
 use Rattle.listings.proofs.run.Statement.{statement}
 use Rattle.listings.proofs.run.Tie as tie
 
 abbrev Inv-loop : tie.InvT-loop
-Inv-loop shelf marks₀ area₀ line₀ out₀ input₀ device₀ waiting₀ used₀ at₀ end₀ over₀ turns₀ marks area line out input device waiting used at end over turns =
-    (length marks ≡ length marks₀) × (length line ≡ length line₀) × (length input ≡ length input₀) × (used ≤ length line) × (end ≤ length input)
+Inv-loop shelf marks₀ area₀ areas₀ line₀ out₀ input₀ device₀ waiting₀ used₀ at₀ end₀ over₀ turns₀ marks area areas line out input device waiting used at end over turns =
+    (length marks ≡ length marks₀) × (length areas ≡ length areas₀) × (length line ≡ length line₀) × (length input ≡ length input₀) × (used ≤ length line) × (end ≤ length input)
 
 abbrev μ-loop : tie.MeasureT-loop
-μ-loop shelf marks₀ area₀ line₀ out₀ input₀ device₀ waiting₀ used₀ at₀ end₀ over₀ turns₀ marks area line out input device waiting used at end over turns = turns
+μ-loop shelf marks₀ area₀ areas₀ line₀ out₀ input₀ device₀ waiting₀ used₀ at₀ end₀ over₀ turns₀ marks area areas line out input device waiting used at end over turns = turns
 
 none-requires : tie.Need-none-requires Inv-loop μ-loop
 none-requires c κs = search needs
@@ -38,6 +38,9 @@ same-length-2 c = search needs
 same-length-3 : tie.Need-same-length-3 Inv-loop μ-loop
 same-length-3 c = search needs
 
+same-length-4 : tie.Need-same-length-4 Inv-loop μ-loop
+same-length-4 c = search needs
+
 returns : tie.Need-returns Inv-loop μ-loop
 returns c = search needs
 
@@ -47,14 +50,17 @@ refill-requires c κs = search needs
 failed-requires : tie.Need-failed-requires Inv-loop μ-loop
 failed-requires c κs = search needs
 
-same-length-4 : tie.Need-same-length-4 Inv-loop μ-loop
-same-length-4 c = search needs
-
 same-length-5 : tie.Need-same-length-5 Inv-loop μ-loop
 same-length-5 c = search needs
 
 same-length-6 : tie.Need-same-length-6 Inv-loop μ-loop
 same-length-6 c = search needs
+
+same-length-7 : tie.Need-same-length-7 Inv-loop μ-loop
+same-length-7 c = search needs
+
+same-length-8 : tie.Need-same-length-8 Inv-loop μ-loop
+same-length-8 c = search needs
 
 returns-2 : tie.Need-returns-2 Inv-loop μ-loop
 returns-2 c = search needs
@@ -66,22 +72,25 @@ slice-aggregate-take-in : tie.Need-slice-aggregate-take-in Inv-loop μ-loop
 slice-aggregate-take-in c = sym (length-take-le _ _ (let r = c .before .before .before .before .before .before .refill in omega (arith, r .ensures, r .kept .0)))
 
 take-in-requires : tie.Need-take-in-requires Inv-loop μ-loop
-take-in-requires c κs = let l = c .before .before .before .before .before .before .before .before .before .before .before .loop in omega (arith, l .inv .3)
+take-in-requires c κs = let l = c .before .before .before .before .before .before .before .before .before .before .before .loop in omega (arith, l .inv .4)
 
-slice-reshare-prefix-burst-line : tie.Need-slice-reshare-prefix-burst-line Inv-loop μ-loop
-slice-reshare-prefix-burst-line c = search needs
+slice-reshare-prefix-kind-of : tie.Need-slice-reshare-prefix-kind-of Inv-loop μ-loop
+slice-reshare-prefix-kind-of c = search needs
 
-slice-aggregate-burst-line : tie.Need-slice-aggregate-burst-line Inv-loop μ-loop
-slice-aggregate-burst-line c = sym (length-take-le _ _ (let t = c .before .before .before .before .take-in in omega (arith, t .ensures, t .kept .0)))
+slice-aggregate-kind-of : tie.Need-slice-aggregate-kind-of Inv-loop μ-loop
+slice-aggregate-kind-of c = sym (length-take-le _ _ (let t = c .before .before .before .before .take-in in omega (arith, t .ensures, t .kept .0)))
 
-burst-line-requires : tie.Need-burst-line-requires Inv-loop μ-loop
-burst-line-requires c κs = search needs
+kind-of-requires : tie.Need-kind-of-requires Inv-loop μ-loop
+kind-of-requires c κs = search needs
+
+enum-told : tie.Need-enum-told Inv-loop μ-loop
+enum-told c = search needs
 
 slice-reshare-prefix-answer : tie.Need-slice-reshare-prefix-answer Inv-loop μ-loop
 slice-reshare-prefix-answer c = search needs
 
 slice-aggregate-answer : tie.Need-slice-aggregate-answer Inv-loop μ-loop
-slice-aggregate-answer c = sym (length-take-le _ _ (let t = c .before .before .before .before .before .before .before .before .take-in in omega (arith, t .ensures, t .kept .0)))
+slice-aggregate-answer c = sym (length-take-le _ _ (let t = c .before .before .before .before .before .before .before .before .before .take-in in omega (arith, t .ensures, t .kept .0)))
 
 answer-requires : tie.Need-answer-requires Inv-loop μ-loop
 answer-requires c κs = search needs
@@ -92,43 +101,68 @@ loop-less c = search needs
 loop-again : tie.Need-loop-again Inv-loop μ-loop
 loop-again c = search needs
 
-slice-reshare-prefix-part-line : tie.Need-slice-reshare-prefix-part-line Inv-loop μ-loop
-slice-reshare-prefix-part-line c = search needs
-
-slice-aggregate-part-line : tie.Need-slice-aggregate-part-line Inv-loop μ-loop
-slice-aggregate-part-line c = sym (length-take-le _ _ (let t = c .before .before .before .before .before .before .before .take-in in omega (arith, t .ensures, t .kept .0)))
-
-part-line-requires : tie.Need-part-line-requires Inv-loop μ-loop
-part-line-requires c κs = search needs
+enum-told-2 : tie.Need-enum-told-2 Inv-loop μ-loop
+enum-told-2 c = search needs
 
 slice-reshare-prefix-play : tie.Need-slice-reshare-prefix-play Inv-loop μ-loop
 slice-reshare-prefix-play c = search needs
 
 slice-aggregate-play : tie.Need-slice-aggregate-play Inv-loop μ-loop
-slice-aggregate-play c = sym (length-take-le _ _ (let t = c .before .before .before .before .before .before .before .before .before .before .before .before .take-in in omega (arith, t .ensures, t .kept .0)))
+slice-aggregate-play c = sym (length-take-le _ _ (let t = c .before .before .before .before .before .before .before .before .before .before .take-in in omega (arith, t .ensures, t .kept .0)))
 
 play-requires : tie.Need-play-requires Inv-loop μ-loop
 play-requires c κs = search needs
 
 loop-less-2 : tie.Need-loop-less-2 Inv-loop μ-loop
-loop-less-2 c = omega (arith, c .before .before .before .before .before .before .before .before .before .before .before .before .before .before .before .before .before .before .before .before .before .before .before .before .before .before .loop-test .taken)
+loop-less-2 c = omega (arith, c .before .before .before .before .before .before .before .before .before .before .before .before .before .before .before .before .before .before .before .before .before .before .before .before .loop-test .taken)
 
 loop-again-2 : tie.Need-loop-again-2 Inv-loop μ-loop
 loop-again-2 c =
-    let inv = c .before .before .before .before .before .before .before .before .before .before .before .before .before .before .before .before .before .before .before .before .before .before .before .before .before .before .before .loop .inv in
-    let r = c .before .before .before .before .before .before .before .before .before .before .before .before .before .before .before .before .before .before .before .before .before .before .refill in (
+    let inv = c .before .before .before .before .before .before .before .before .before .before .before .before .before .before .before .before .before .before .before .before .before .before .before .before .before .loop .inv in
+    let r = c .before .before .before .before .before .before .before .before .before .before .before .before .before .before .before .before .before .before .before .before .refill in (
       inv .0,
-      omega (arith, c .before .before .before .before .before .before .before .before .before .before .before .before .before .before .before .take-in .kept .0, inv .1),
-      omega (arith, r .kept .0, inv .2),
+      inv .1,
+      omega (arith, c .before .before .before .before .before .before .before .before .before .before .before .before .before .take-in .kept .0, inv .2),
+      omega (arith, r .kept .0, inv .3),
       search needs,
       omega (arith, r .kept .0, r .ensures),
     )
+
+enum-told-3 : tie.Need-enum-told-3 Inv-loop μ-loop
+enum-told-3 c = search needs
+
+slice-reshare-prefix-play-2 : tie.Need-slice-reshare-prefix-play-2 Inv-loop μ-loop
+slice-reshare-prefix-play-2 c = search needs
+
+slice-aggregate-play-2 : tie.Need-slice-aggregate-play-2 Inv-loop μ-loop
+slice-aggregate-play-2 c = sym (length-take-le _ _ (let t = c .before .before .before .before .before .before .before .before .before .before .take-in in omega (arith, t .ensures, t .kept .0)))
+
+play-requires-2 : tie.Need-play-requires-2 Inv-loop μ-loop
+play-requires-2 c κs = search needs
+
+loop-less-3 : tie.Need-loop-less-3 Inv-loop μ-loop
+loop-less-3 c = omega (arith, c .before .before .before .before .before .before .before .before .before .before .before .before .before .before .before .before .before .before .before .before .before .before .before .before .before .before .loop-test .taken)
+
+loop-again-3 : tie.Need-loop-again-3 Inv-loop μ-loop
+loop-again-3 c =
+    let inv = c .before .before .before .before .before .before .before .before .before .before .before .before .before .before .before .before .before .before .before .before .before .before .before .before .before .before .before .loop .inv in
+    let r = c .before .before .before .before .before .before .before .before .before .before .before .before .before .before .before .before .before .before .before .before .before .before .refill in (
+      inv .0,
+      omega (arith, c .before .before .before .play2 .kept .1, inv .1),
+      omega (arith, c .before .before .before .before .before .before .before .before .before .before .before .before .before .before .before .take-in .kept .0, inv .2),
+      omega (arith, r .kept .0, inv .3),
+      search needs,
+      omega (arith, r .kept .0, r .ensures),
+    )
+
+enum-told-4 : tie.Need-enum-told-4 Inv-loop μ-loop
+enum-told-4 c = search needs
 
 slice-reshare-prefix-read-line : tie.Need-slice-reshare-prefix-read-line Inv-loop μ-loop
 slice-reshare-prefix-read-line c = search needs
 
 slice-aggregate-read-line : tie.Need-slice-aggregate-read-line Inv-loop μ-loop
-slice-aggregate-read-line c = sym (length-take-le _ _ (let t = c .before .before .before .before .before .before .before .before .before .before .take-in in omega (arith, t .ensures, t .kept .0)))
+slice-aggregate-read-line c = sym (length-take-le _ _ (let t = c .before .before .before .before .before .before .before .before .take-in in omega (arith, t .ensures, t .kept .0)))
 
 read-line-requires : tie.Need-read-line-requires Inv-loop μ-loop
 read-line-requires c κs = search needs
@@ -139,16 +173,17 @@ changes-requires c κs = search needs
 change-requires : tie.Need-change-requires Inv-loop μ-loop
 change-requires c κs = read-bounded _ _ (c .before .before .before .before .read-line .ensures)
 
-loop-less-3 : tie.Need-loop-less-3 Inv-loop μ-loop
-loop-less-3 c = omega (arith, c .before .before .before .before .before .before .before .before .before .before .before .before .before .before .before .before .before .before .before .before .before .before .before .before .before .before .before .before .before .before .loop-test .taken)
+loop-less-4 : tie.Need-loop-less-4 Inv-loop μ-loop
+loop-less-4 c = omega (arith, c .before .before .before .before .before .before .before .before .before .before .before .before .before .before .before .before .before .before .before .before .before .before .before .before .before .before .before .before .loop-test .taken)
 
-loop-again-3 : tie.Need-loop-again-3 Inv-loop μ-loop
-loop-again-3 c =
-    let inv = c .before .before .before .before .before .before .before .before .before .before .before .before .before .before .before .before .before .before .before .before .before .before .before .before .before .before .before .before .before .before .before .loop .inv in
-    let r = c .before .before .before .before .before .before .before .before .before .before .before .before .before .before .before .before .before .before .before .before .before .before .before .before .before .before .refill in (
+loop-again-4 : tie.Need-loop-again-4 Inv-loop μ-loop
+loop-again-4 c =
+    let inv = c .before .before .before .before .before .before .before .before .before .before .before .before .before .before .before .before .before .before .before .before .before .before .before .before .before .before .before .before .before .loop .inv in
+    let r = c .before .before .before .before .before .before .before .before .before .before .before .before .before .before .before .before .before .before .before .before .before .before .before .before .refill in (
       omega (arith, c .before .before .before .change .kept .1, inv .0),
-      omega (arith, c .before .before .before .before .before .before .before .before .before .before .before .before .before .before .before .before .before .before .before .take-in .kept .0, inv .1),
-      omega (arith, r .kept .0, inv .2),
+      inv .1,
+      omega (arith, c .before .before .before .before .before .before .before .before .before .before .before .before .before .before .before .before .before .take-in .kept .0, inv .2),
+      omega (arith, r .kept .0, inv .3),
       search needs,
       omega (arith, r .kept .0, r .ensures),
     )
@@ -156,34 +191,38 @@ loop-again-3 c =
 answer-requires-2 : tie.Need-answer-requires-2 Inv-loop μ-loop
 answer-requires-2 c κs = read-bounded _ _ (c .before .before .before .before .read-line .ensures)
 
-loop-less-4 : tie.Need-loop-less-4 Inv-loop μ-loop
-loop-less-4 c = omega (arith, c .before .before .before .before .before .before .before .before .before .before .before .before .before .before .before .before .before .before .before .before .before .before .before .before .before .before .before .before .before .loop-test .taken)
+loop-less-5 : tie.Need-loop-less-5 Inv-loop μ-loop
+loop-less-5 c = omega (arith, c .before .before .before .before .before .before .before .before .before .before .before .before .before .before .before .before .before .before .before .before .before .before .before .before .before .before .before .loop-test .taken)
 
-loop-again-4 : tie.Need-loop-again-4 Inv-loop μ-loop
-loop-again-4 c =
-    let inv = c .before .before .before .before .before .before .before .before .before .before .before .before .before .before .before .before .before .before .before .before .before .before .before .before .before .before .before .before .before .before .loop .inv in
-    let r = c .before .before .before .before .before .before .before .before .before .before .before .before .before .before .before .before .before .before .before .before .before .before .before .before .before .refill in (
+loop-again-5 : tie.Need-loop-again-5 Inv-loop μ-loop
+loop-again-5 c =
+    let inv = c .before .before .before .before .before .before .before .before .before .before .before .before .before .before .before .before .before .before .before .before .before .before .before .before .before .before .before .before .loop .inv in
+    let r = c .before .before .before .before .before .before .before .before .before .before .before .before .before .before .before .before .before .before .before .before .before .before .before .refill in (
       omega (arith, c .before .before .answer2 .kept .1, inv .0),
-      omega (arith, c .before .before .before .before .before .before .before .before .before .before .before .before .before .before .before .before .before .before .take-in .kept .0, inv .1),
-      omega (arith, r .kept .0, inv .2),
+      inv .1,
+      omega (arith, c .before .before .before .before .before .before .before .before .before .before .before .before .before .before .before .before .take-in .kept .0, inv .2),
+      omega (arith, r .kept .0, inv .3),
       search needs,
       omega (arith, r .kept .0, r .ensures),
     )
 
-loop-less-5 : tie.Need-loop-less-5 Inv-loop μ-loop
-loop-less-5 c = search needs
+loop-less-6 : tie.Need-loop-less-6 Inv-loop μ-loop
+loop-less-6 c = search needs
 
-loop-again-5 : tie.Need-loop-again-5 Inv-loop μ-loop
-loop-again-5 c = search needs
-
-same-length-7 : tie.Need-same-length-7 Inv-loop μ-loop
-same-length-7 c = search needs
-
-same-length-8 : tie.Need-same-length-8 Inv-loop μ-loop
-same-length-8 c = search needs
+loop-again-6 : tie.Need-loop-again-6 Inv-loop μ-loop
+loop-again-6 c = search needs
 
 same-length-9 : tie.Need-same-length-9 Inv-loop μ-loop
 same-length-9 c = search needs
+
+same-length-10 : tie.Need-same-length-10 Inv-loop μ-loop
+same-length-10 c = search needs
+
+same-length-11 : tie.Need-same-length-11 Inv-loop μ-loop
+same-length-11 c = search needs
+
+same-length-12 : tie.Need-same-length-12 Inv-loop μ-loop
+same-length-12 c = search needs
 
 returns-3 : tie.Need-returns-3 Inv-loop μ-loop
 returns-3 c = search needs
@@ -201,45 +240,54 @@ run-spec =
     same-length
     same-length-2
     same-length-3
+    same-length-4
     returns
     refill-requires
     failed-requires
-    same-length-4
     same-length-5
     same-length-6
+    same-length-7
+    same-length-8
     returns-2
     slice-reshare-prefix-take-in
     slice-aggregate-take-in
     take-in-requires
-    slice-reshare-prefix-burst-line
-    slice-aggregate-burst-line
-    burst-line-requires
+    slice-reshare-prefix-kind-of
+    slice-aggregate-kind-of
+    kind-of-requires
+    enum-told
     slice-reshare-prefix-answer
     slice-aggregate-answer
     answer-requires
     loop-less
     loop-again
-    slice-reshare-prefix-part-line
-    slice-aggregate-part-line
-    part-line-requires
+    enum-told-2
     slice-reshare-prefix-play
     slice-aggregate-play
     play-requires
     loop-less-2
     loop-again-2
+    enum-told-3
+    slice-reshare-prefix-play-2
+    slice-aggregate-play-2
+    play-requires-2
+    loop-less-3
+    loop-again-3
+    enum-told-4
     slice-reshare-prefix-read-line
     slice-aggregate-read-line
     read-line-requires
     changes-requires
     change-requires
-    loop-less-3
-    loop-again-3
-    answer-requires-2
     loop-less-4
     loop-again-4
+    answer-requires-2
     loop-less-5
     loop-again-5
-    same-length-7
-    same-length-8
+    loop-less-6
+    loop-again-6
     same-length-9
+    same-length-10
+    same-length-11
+    same-length-12
     returns-3)

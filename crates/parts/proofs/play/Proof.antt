@@ -13,20 +13,20 @@ field-end-requires c κs = search needs
 read-numbers-requires : tie.Need-read-numbers-requires
 read-numbers-requires c κs = firstField-within _ _ _ (c .field-end .ensures) (omega arith) .1
 
-put-bad-requires : tie.Need-put-bad-requires
-put-bad-requires c κs = search needs
+bad-requires : tie.Need-bad-requires
+bad-requires c κs = search needs
 
 returns : tie.Need-returns
 returns c = search needs
 
-slice-aggregate-take-hex : tie.Need-slice-aggregate-take-hex
-slice-aggregate-take-hex c = search needs
+slice-aggregate-take : tie.Need-slice-aggregate-take
+slice-aggregate-take c = search needs
 
-take-hex-requires : tie.Need-take-hex-requires
-take-hex-requires c κs = search needs
+take-requires : tie.Need-take-requires
+take-requires c κs = search needs
 
-put-bad-requires-2 : tie.Need-put-bad-requires-2
-put-bad-requires-2 c κs = search needs
+bad-requires-2 : tie.Need-bad-requires-2
+bad-requires-2 c κs = search needs
 
 returns-2 : tie.Need-returns-2
 returns-2 c = search needs
@@ -35,7 +35,7 @@ array-share-prefix-data : tie.Need-array-share-prefix-data
 array-share-prefix-data c = search needs
 
 slice-aggregate-set-state : tie.Need-slice-aggregate-set-state
-slice-aggregate-set-state c = sym (length-take-le _ _ (let t = c .before .before .before .before .before .take-hex in omega (arith, t .ensures, t .kept .1)))
+slice-aggregate-set-state c = sym (length-take-le _ _ (let t = c .before .before .before .before .before .take in omega (arith, t .ensures, t .kept .1)))
 
 set-state-requires : tie.Need-set-state-requires
 set-state-requires c κs = search needs
@@ -52,11 +52,11 @@ play-spec =
     (tie.spec
     field-end-requires
     read-numbers-requires
-    put-bad-requires
+    bad-requires
     returns
-    slice-aggregate-take-hex
-    take-hex-requires
-    put-bad-requires-2
+    slice-aggregate-take
+    take-requires
+    bad-requires-2
     returns-2
     array-share-prefix-data
     slice-aggregate-set-state

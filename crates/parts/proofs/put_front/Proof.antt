@@ -1,50 +1,26 @@
--- `parts::put_front` is safe and ends. The measure is the number of bytes left.
-use Prim.Native.Nat.{_≤_, _-_}
+-- `parts::put_front` is safe: what it puts lies in the area.
+use mathlib.Core.Path.{sym}
+use lib.Seq.{length-take-le}
 use borrow.Author.Needs.{needs}
 use Rattle.parts.proofs.put_front.Statement.{statement}
 use Rattle.parts.proofs.put_front.Tie as tie
 
-abbrev Inv-loop : tie.InvT-loop
-Inv-loop out₀ area whole waiting₀ i₀ out waiting i = i ≤ whole
+slice-aggregate-put-line : tie.Need-slice-aggregate-put-line
+slice-aggregate-put-line c = sym (length-take-le _ _ (search needs))
 
-abbrev μ-loop : tie.MeasureT-loop
-μ-loop out₀ area whole waiting₀ i₀ out waiting i = whole - i
+put-line-requires : tie.Need-put-line-requires
+put-line-requires c κs = search needs
 
-loop-holds : tie.Need-loop-holds Inv-loop μ-loop
-loop-holds c = search needs
-
-element-copy-out-put-hex : tie.Need-element-copy-out-put-hex Inv-loop μ-loop
-element-copy-out-put-hex c = search needs
-
-put-hex-requires : tie.Need-put-hex-requires Inv-loop μ-loop
-put-hex-requires c κs = search needs
-
-add-i : tie.Need-add-i Inv-loop μ-loop
-add-i c = search needs
-
-loop-less : tie.Need-loop-less Inv-loop μ-loop
-loop-less c = search needs
-
-loop-again : tie.Need-loop-again Inv-loop μ-loop
-loop-again c = search needs
-
-put-byte-requires : tie.Need-put-byte-requires Inv-loop μ-loop
-put-byte-requires c κs = search needs
-
-returns : tie.Need-returns Inv-loop μ-loop
+returns : tie.Need-returns
 returns c = search needs
+
+put-line-requires-2 : tie.Need-put-line-requires-2
+put-line-requires-2 c κs = search needs
+
+returns-2 : tie.Need-returns-2
+returns-2 c = search needs
 
 pub put-front-spec : {M : Type 1} → statement M
 put-front-spec =
     tie.close
-    (tie.spec
-    Inv-loop
-    μ-loop
-    loop-holds
-    element-copy-out-put-hex
-    put-hex-requires
-    add-i
-    loop-less
-    loop-again
-    put-byte-requires
-    returns)
+    (tie.spec slice-aggregate-put-line put-line-requires returns put-line-requires-2 returns-2)

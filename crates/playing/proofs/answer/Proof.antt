@@ -16,11 +16,8 @@ enum-known-call-2 c = search needs
 receive-into-requires : tie.Need-receive-into-requires
 receive-into-requires c κs = recv-small _ (c .before .before .before .before .before .before .pre) _ _ (c .before .before .before .call2 .given .1)
 
-slice-aggregate-put-bytes : tie.Need-slice-aggregate-put-bytes
-slice-aggregate-put-bytes c = search needs
-
-put-bytes-requires : tie.Need-put-bytes-requires
-put-bytes-requires c κs = search needs
+put-bad-requires : tie.Need-put-bad-requires
+put-bad-requires c κs = search needs
 
 same-length : tie.Need-same-length
 same-length c = search needs
@@ -45,8 +42,7 @@ answer-spec =
     write-requires
     enum-known-call-2
     receive-into-requires
-    slice-aggregate-put-bytes
-    put-bytes-requires
+    put-bad-requires
     same-length
     returns
     same-length-2

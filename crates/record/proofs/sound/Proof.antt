@@ -1,5 +1,5 @@
--- `record::sound` is right because settings that fail are a rule that is broken, a sequence that fails is one, and so are weights past the limit; past them the
--- pool is left, which is as it may be where the shares lie one behind the other by as many units as they have at most (`soundDevice-lined`). Settings that pass make the walk
+-- `record::sound` is right because settings that fail are a rule that is broken, a sequence that fails is one, and so are weights past the limit and a queue that fails;
+-- past them the pool is left, which is as it may be where the shares lie one behind the other by as many units as they have at most (`soundDevice-lined`). Settings that pass make the walk
 -- safe: 1 to 8 controllers, granularities up to 20.
 use Prim.Native.Nat.{_≤_}
 use mathlib.Core.Path.{_≡_, sym, ap, _∙_}
@@ -8,11 +8,11 @@ use native.Mathlib.Omega.{arith}
 use borrow.Author.Needs.{needs}
 use borrow.Author.Tests.{not-true, not-false}
 use Rattle.rules.specs.Settings.{settingsOk}
-use Rattle.rules.specs.Device.{controllersOf, sequenceOk}
+use Rattle.rules.specs.Device.{controllersOf, sequenceOk, queuesOk}
 use Rattle.record.specs.Record.{weightsOf}
 use Rattle.record.specs.declared.Walked.{Walked}
-use Rattle.record.proofs.WalkLaws.{walkOf-weight}
-use Rattle.record.proofs.RecordLaws.{soundDevice-settings-not, soundDevice-sequence-not, soundDevice-heavy, soundDevice-all-held, soundDevice-pool, soundDevice-lined}
+use Rattle.record.proofs.WalkLaws.{walkOf-weight, walkOf-queues}
+use Rattle.record.proofs.RecordLaws.{soundDevice-settings-not, soundDevice-sequence-not, soundDevice-queues-not, soundDevice-heavy, soundDevice-all-held, soundDevice-pool, soundDevice-lined}
 use Rattle.record.proofs.sound.Statement.{statement}
 use Rattle.record.proofs.sound.Tie as tie
 
@@ -30,6 +30,13 @@ weighed c = ap (λ (w : Walked). w .weight) (c .walk .ensures) ∙ walkOf-weight
 -- past the third test it is within the limit
 light : (c : tie.Else3) → let d = c .before .before .before .before .before .before .before .before .before .args .d in weightsOf d ≤ d .settings .limit
 light c = omega (arith, weighed (c .before .before .before), c .if3 .left)
+
+-- what was asked of the queues, and past the fourth test they are as they may be
+queued : (c : tie.After-walk) → c .walk .result .queues ≡ queuesOk (c .before .before .before .before .before .before .args .d)
+queued c = ap (λ (w : Walked). w .queues) (c .walk .ensures) ∙ walkOf-queues (c .before .before .before .before .before .before .args .d)
+
+in-order : (c : tie.Else4) → queuesOk (c .before .before .before .before .before .before .before .before .before .before .before .args .d) ≡ true
+in-order c = sym (queued (c .before .before .before .before .before)) ∙ not-false _ (c .if4 .left)
 
 settings-ok-requires : tie.Need-settings-ok-requires
 settings-ok-requires c κs = search needs
@@ -61,24 +68,31 @@ returns-3 c =
 
 returns-4 : tie.Need-returns-4
 returns-4 c =
-    let l = c .before .before in
-    let w = l .before .before .before in
-    let q = w .before in
-    let p = q .before .before in
-    sym (soundDevice-lined (p .before .before .before .args .d) (passed p) (light l) (follows q) (omega (arith, ap (λ (w : Walked). w .end) (w .walk .ensures), c .if4 .taken)))
-
-pool-ok-requires : tie.Need-pool-ok-requires
-pool-ok-requires c κs =
-    let l = c .before .before in
-    let p = l .before .before .before .before .before .before in
-    (passed p, soundDevice-all-held (p .before .before .before .args .d) (passed p) (light l))
+    let w = c .before .before .before .before .before in
+    sym (soundDevice-queues-not (w .before .before .before .before .before .before .args .d) (sym (queued w) ∙ not-true _ (c .if4 .taken)))
 
 returns-5 : tie.Need-returns-5
 returns-5 c =
-    let l = c .before .before .before in
+    let z = c .before .before in
+    let l = z .before .before in
+    let w = l .before .before .before in
+    let q = w .before in
+    let p = q .before .before in
+    sym (soundDevice-lined (p .before .before .before .args .d) (passed p) (light l) (follows q) (in-order z) (omega (arith, ap (λ (w : Walked). w .end) (w .walk .ensures), c .if5 .taken)))
+
+pool-ok-requires : tie.Need-pool-ok-requires
+pool-ok-requires c κs =
+    let l = c .before .before .before .before in
+    let p = l .before .before .before .before .before .before in
+    (passed p, soundDevice-all-held (p .before .before .before .args .d) (passed p) (light l))
+
+returns-6 : tie.Need-returns-6
+returns-6 c =
+    let z = c .before .before .before in
+    let l = z .before .before in
     let q = l .before .before .before .before in
     let p = q .before .before in
-    c .pool-ok .ensures ∙ sym (soundDevice-pool (p .before .before .before .args .d) (passed p) (light l) (follows q))
+    c .pool-ok .ensures ∙ sym (soundDevice-pool (p .before .before .before .args .d) (passed p) (light l) (follows q) (in-order z))
 
 pub sound-spec : {M : Type 1} → statement M
 sound-spec =
@@ -92,5 +106,6 @@ sound-spec =
     cast-if3
     returns-3
     returns-4
+    returns-5
     pool-ok-requires
-    returns-5)
+    returns-6)

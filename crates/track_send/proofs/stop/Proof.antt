@@ -1,4 +1,4 @@
--- `track_send::stop` is right: it refuses in the order of its table; done, the share is clear and the controller is as fresh. Assumes nothing.
+-- `track_send::stop` is right: it refuses in the order of its table; done, the share is clear and the controller is as fresh but for its queue. Assumes nothing.
 use mathlib.Core.Path.{_≡_, sym, ap, _∙_}
 use Prim.Native.Nat.{_<_}
 use native.Mathlib.Omega.{arith}
@@ -104,8 +104,8 @@ clear-share-requires c κs =
 no-ranges-requires : tie.Need-no-ranges-requires
 no-ranges-requires c κs = search needs
 
-mul-t29 : tie.Need-mul-t29
-mul-t29 c = omega (arith, below (c .before .before .before .before .before .before .before .before .before .before .before .before .before))
+mul-t30 : tie.Need-mul-t30
+mul-t30 c = omega (arith, below (c .before .before .before .before .before .before .before .before .before .before .before .before .before))
 
 element-set-from-e : tie.Need-element-set-from-e
 element-set-from-e c = omega (arith, below (c .before .before .before .before .before .before .before .before .before .before .before .before .before))
@@ -144,7 +144,7 @@ stop-spec =
     cast-clear-share
     clear-share-requires
     no-ranges-requires
-    mul-t29
+    mul-t30
     element-set-from-e
     same-length
     returns-4)

@@ -2,9 +2,9 @@
 use mathlib.Core.Path.{_≡_, refl, sym, _∙_}
 use Prim.Native.Nat.{_<_}
 use denote.Ref.{now}
-use lib.ListN.{length}
+use lib.ListN.{length, getD}
 use borrow.Author.Needs.{needs}
-use Rattle.record.specs.Record.{whereIs}
+use Rattle.record.specs.Record.{noController, whereIs}
 use Rattle.record.specs.declared.Place.the-variants.{At}
 use Rattle.record.proofs.RecordLaws.{whereIs-at}
 use Rattle.rules.proofs.LoopLaws.{length-mapped}
@@ -59,7 +59,8 @@ note-one-requires : tie.Need-note-one-requires
 note-one-requires c κs =
     let k = c .before .before .before .before .before in
     let o = sym (c .before .before .is-one .ensures) ∙ c .before .if1 .taken in
-    (o, one-may _ _ (c .before .before .before .before .single-at .ensures) o _ _ (may-note _ _ _ _ (found k) _ refl (eight k) ((c .before .before .before .before .single-at .ensures) .1) _ (same-base _ _ ((c .before .before .before .before .single-at .ensures) .0))))
+    let r = getD (k .before .before .before .before .before .before .args .t1 .controllers) (k .before .i .given .0 .0) noController in
+    (o, one-may r _ (c .before .before .before .before .single-at .ensures) o _ _ (may-note _ _ _ _ (found k) _ refl (eight k) ((c .before .before .before .before .single-at .ensures) .1) _ (same-base _ _ ((c .before .before .before .before .single-at .ensures) .0))))
 
 same-length : tie.Need-same-length
 same-length c = search needs
