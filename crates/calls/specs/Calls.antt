@@ -1,5 +1,6 @@
 -- What each call answers and leaves, as a total function of what it is given: any record, any words, any bytes. The refusals are the tables of
--- `rules` (Order.antt), and what is done is done by the rules' own functions on the controller's units and marks.
+-- `rules` (Order.antt), and what is done is done by the rules' own functions on the controller's units and marks. The calls that touch marks are said once for
+-- any engine (W9), which is a way to hold marks in an area; `…Change`, `writeNote` and `receiveReceipt` are those of the engine that holds them in words.
 use Prim.Native.Nat.{ℕ, suc, _+_, _*_, _/_}
 use mathlib.Core.Bool.{Bool, false, _||_, cond}
 use mathlib.Core.List.{List, [], _∷_, map}
@@ -87,6 +88,32 @@ packedDevice d = record { settings = d .settings; controllers = packedFrom (size
 unfoldable pub packedWords : List ℕ → List ℕ → List ℕ → ℕ → List ℕ
 packedWords ws bases sizes i = pack (length ws) (packed (flat ws) bases sizes i)
 
+-- ---- an engine (W9)
+
+-- how marks are held in an area: for how many words it stands, of which 1 asks, the marks of so many units from a place on, and what it is after a fresh, after a
+-- write to the units from a place on, after a report of them with room for so many runs, with so many of them clear, and with its shares packed
+pub record Engine : Type 0 where
+  pub words : List ℕ → ℕ
+  pub marks : List ℕ → ℕ → ℕ → List Bool
+  pub emptied : List ℕ → List ℕ
+  pub marked : List ℕ → ℕ → Write → List Unit → List ℕ
+  pub reported : List ℕ → ℕ → ℕ → List Unit → List ℕ
+  pub cleared : List ℕ → ℕ → ℕ → List ℕ
+  pub packed : List ℕ → List ℕ → List ℕ → ℕ → List ℕ
+
+-- in words, one bit a unit
+abbrev pub inWords : Engine
+inWords =
+    record {
+      words = λ ws. length ws;
+      marks = marksAt;
+      emptied = λ ws. replicate (length ws) 0;
+      marked = λ ws base w us. withMarks ws base (mark w us (marksAt ws base (length us)));
+      reported = λ ws base k us. withMarks ws base (marksLeft k us (marksAt ws base (length us)));
+      cleared = withClear;
+      packed = packedWords;
+    }
+
 -- ---- what a call answers, and the marks that it leaves
 
 pub record Change (A : Type 0) : Type 0 where
@@ -104,43 +131,52 @@ startedWith n row d ws = record { answer = record { number = n; row = row; devic
 -- ---- calls that may change the record
 
 -- fresh: done, all marks are 0; refused, the device is closed
-unfoldable pub freshChange : Settings → List ℕ → Change Changed
-freshChange s ws =
-    verdict (freshOrder s (length ws))
-    (changed 0 (freshOf s (length ws)) (replicate (length ws) 0))
-    (λ n i. changed n (freshOf s (length ws)) ws)
+unfoldable pub freshBy : Engine → Settings → List ℕ → Change Changed
+freshBy e s ws =
+    verdict (freshOrder s (e .words ws))
+    (changed 0 (freshOf s (e .words ws)) (e .emptied ws))
+    (λ n i. changed n (freshOf s (e .words ws)) ws)
+
+abbrev pub freshChange : Settings → List ℕ → Change Changed
+freshChange s ws = freshBy inWords s ws
 
 -- a start records granularity, count and ranges, with zeros in the other places, and packs the shares, its own clear among them
 abbrev pub started : Controller → List ℕ → Controller
 started c x = record { tracking = On (granularityOf x) (countOf x); base = 0; suspended = c .suspended; ranges = placed (rangesOf x); queue = c .queue }
 
-abbrev pub startDone : Device → List ℕ → List ℕ → Option ℕ → Change Started
-startDone d ws x none = startedWith 0 0 d ws
-startDone d ws x (some i) =
-    let e = withController d i (started (controllerAt d (some i)) x) in
-    startedWith 0 0 (packedDevice e) (packedWords ws (basesOf d) (sizesOf e) i)
+abbrev pub startDone : Engine → Device → List ℕ → List ℕ → Option ℕ → Change Started
+startDone e d ws x none = startedWith 0 0 d ws
+startDone e d ws x (some i) =
+    let d′ = withController d i (started (controllerAt d (some i)) x) in
+    startedWith 0 0 (packedDevice d′) (e .packed ws (basesOf d) (sizesOf d′) i)
 
-abbrev pub startAt : Device → List ℕ → List ℕ → Option ℕ → Change Started
-startAt d ws x p = verdict (startOrder (d .settings) (seenIn d (length ws) p) x) (startDone d ws x p) (λ n i. startedWith n i d ws)
+abbrev pub startAt : Engine → Device → List ℕ → List ℕ → Option ℕ → Change Started
+startAt e d ws x p = verdict (startOrder (d .settings) (seenIn d (e .words ws) p) x) (startDone e d ws x p) (λ n i. startedWith n i d ws)
 
-unfoldable pub startChange : Device → List ℕ → ℕ → List ℕ → Change Started
-startChange d ws id x = startAt d ws x (placeOf (d .settings) id)
+unfoldable pub startBy : Engine → Device → List ℕ → ℕ → List ℕ → Change Started
+startBy e d ws id x = startAt e d ws x (placeOf (d .settings) id)
+
+abbrev pub startChange : Device → List ℕ → ℕ → List ℕ → Change Started
+startChange d ws id x = startBy inWords d ws id x
 
 -- a stop forgets the ranges and clears the share; no other moves
 abbrev pub stopped : Controller → Controller
 stopped c = record { tracking = Off; base = 0; suspended = c .suspended; ranges = placed []; queue = c .queue }
 
-abbrev pub stopDone : Device → List ℕ → Option ℕ → Change Changed
-stopDone d ws none = changed 0 d ws
-stopDone d ws (some i) =
+abbrev pub stopDone : Engine → Device → List ℕ → Option ℕ → Change Changed
+stopDone e d ws none = changed 0 d ws
+stopDone e d ws (some i) =
     let c = controllerAt d (some i) in
-    changed 0 (withController d i (stopped c)) (withClear ws (c .base) (heldUnits (heldOf c)))
+    changed 0 (withController d i (stopped c)) (e .cleared ws (c .base) (heldUnits (heldOf c)))
 
-abbrev pub stopAt : Device → List ℕ → Option ℕ → Change Changed
-stopAt d ws p = verdict (stopOrder (seenIn d (length ws) p)) (stopDone d ws p) (λ n i. changed n d ws)
+abbrev pub stopAt : Engine → Device → List ℕ → Option ℕ → Change Changed
+stopAt e d ws p = verdict (stopOrder (seenIn d (e .words ws) p)) (stopDone e d ws p) (λ n i. changed n d ws)
 
-unfoldable pub stopChange : Device → List ℕ → ℕ → Change Changed
-stopChange d ws id = stopAt d ws (placeOf (d .settings) id)
+unfoldable pub stopBy : Engine → Device → List ℕ → ℕ → Change Changed
+stopBy e d ws id = stopAt e d ws (placeOf (d .settings) id)
+
+abbrev pub stopChange : Device → List ℕ → ℕ → Change Changed
+stopChange d ws id = stopBy inWords d ws id
 
 -- a suspend changes the flag alone
 abbrev pub flagged : Controller → Bool → Controller
@@ -181,21 +217,23 @@ abbrev pub noted : ℕ → ℕ → List ℕ → Note
 noted n count ws = record { answer = record { number = n; count = count }; marks = ws }
 
 -- touched units of tracked ranges become pending, and those that were not are counted
-abbrev pub noteIn : List ℕ → ℕ → Tracking → List Range → Write → Note
-noteIn ws base Off rs w = noted 0 0 ws
-noteIn ws base (On g n) rs w =
-    noted 0 (newly w (units g (take n rs)) (marksAt ws base (length (units g (take n rs)))))
-    (withMarks ws base (mark w (units g (take n rs)) (marksAt ws base (length (units g (take n rs))))))
+abbrev pub noteIn : Engine → List ℕ → ℕ → Tracking → List Range → Write → Note
+noteIn e ws base Off rs w = noted 0 0 ws
+noteIn e ws base (On g n) rs w =
+    noted 0 (newly w (units g (take n rs)) (e .marks ws base (length (units g (take n rs))))) (e .marked ws base w (units g (take n rs)))
 
-abbrev pub writeDone : Device → List ℕ → Write → Option ℕ → Note
-writeDone d ws w none = noted 0 0 ws
-writeDone d ws w (some i) = noteIn ws (controllerAt d (some i) .base) (controllerAt d (some i) .tracking) (controllerAt d (some i) .ranges) w
+abbrev pub writeDone : Engine → Device → List ℕ → Write → Option ℕ → Note
+writeDone e d ws w none = noted 0 0 ws
+writeDone e d ws w (some i) = noteIn e ws (controllerAt d (some i) .base) (controllerAt d (some i) .tracking) (controllerAt d (some i) .ranges) w
 
-abbrev pub writeAt : Device → List ℕ → Write → Option ℕ → Note
-writeAt d ws w p = verdict (writeOrder (seenIn d (length ws) p) w) (writeDone d ws w p) (λ n i. noted n 0 ws)
+abbrev pub writeAt : Engine → Device → List ℕ → Write → Option ℕ → Note
+writeAt e d ws w p = verdict (writeOrder (seenIn d (e .words ws) p) w) (writeDone e d ws w p) (λ n i. noted n 0 ws)
 
-unfoldable pub writeNote : Device → List ℕ → ℕ → Write → Note
-writeNote d ws id w = writeAt d ws w (placeOf (d .settings) id)
+unfoldable pub writeBy : Engine → Device → List ℕ → ℕ → Write → Note
+writeBy e d ws id w = writeAt e d ws w (placeOf (d .settings) id)
+
+abbrev pub writeNote : Device → List ℕ → ℕ → Write → Note
+writeNote d ws id w = writeBy inWords d ws id w
 
 -- ---- a batch of notes (W4)
 
@@ -207,14 +245,17 @@ abbrev pub batched : ℕ → ℕ → ℕ → ℕ → List ℕ → Change Batched
 batched number done count refusal ws = record { answer = record { number = number; done = done; count = count; refusal = refusal }; marks = ws }
 
 -- the notes of a list, one after another, up to the first that is refused, after so many done and so many units
-abbrev pub notesFrom : Device → List ℕ → ℕ → ℕ → List WriteRecord → Change Batched
-notesFrom d ws done count [] = batched 0 done count 0 ws
-notesFrom d ws done count (r ∷ rs) =
-    let n = writeNote d ws (r .id) (writeIn r) in
-    cond (eqb (n .answer .number) 0) (notesFrom d (n .marks) (done + 1) (count + n .answer .count) rs) (batched 0 done count (n .answer .number) (n .marks))
+abbrev pub notesFrom : Engine → Device → List ℕ → ℕ → ℕ → List WriteRecord → Change Batched
+notesFrom e d ws done count [] = batched 0 done count 0 ws
+notesFrom e d ws done count (r ∷ rs) =
+    let n = writeBy e d ws (r .id) (writeIn r) in
+    cond (eqb (n .answer .number) 0) (notesFrom e d (n .marks) (done + 1) (count + n .answer .count) rs) (batched 0 done count (n .answer .number) (n .marks))
 
-unfoldable pub batchChange : Device → List ℕ → List WriteRecord → Change Batched
-batchChange d ws rs = verdict (batchOrder (soundWith d (length ws)) (length rs)) (notesFrom d ws 0 0 rs) (λ n i. batched n 0 0 0 ws)
+unfoldable pub batchBy : Engine → Device → List ℕ → List WriteRecord → Change Batched
+batchBy e d ws rs = verdict (batchOrder (soundWith d (e .words ws)) (length rs)) (notesFrom e d ws 0 0 rs) (λ n i. batched n 0 0 0 ws)
+
+abbrev pub batchChange : Device → List ℕ → List WriteRecord → Change Batched
+batchChange d ws rs = batchBy inWords d ws rs
 
 -- ---- receive
 
@@ -241,29 +282,29 @@ received n r ws x =
       buffer = x;
     }
 
--- the report of a tracked controller, whose units are us and whose marks are p: the reported units are made clear, and the report is stored at the
--- buffer's front
-abbrev pub reportIn : List ℕ → ℕ → ℕ → Bool → ℕ → List Unit → List Bool → List ℕ → Receipt
-reportIn ws base id b g us p x =
-    received 0 (reportOn b g (room (length x)) us p)
-    (withMarks ws base (marksLeft (room (length x)) us p))
-    (put x 0 (reportBytes id (reportOn b g (room (length x)) us p)))
+-- the report of a tracked controller, whose units are us: the reported units are made clear, and the report is stored at the buffer's front
+abbrev pub reportIn : Engine → List ℕ → ℕ → ℕ → Bool → ℕ → List Unit → List ℕ → Receipt
+reportIn e ws base id b g us x =
+    let r = reportOn b g (room (length x)) us (e .marks ws base (length us)) in
+    received 0 r (e .reported ws base (room (length x)) us) (put x 0 (reportBytes id r))
 
-abbrev pub receiveIn : List ℕ → ℕ → ℕ → Bool → Tracking → List Range → List ℕ → Receipt
-receiveIn ws base id b Off rs x = received 0 noReport ws x
-receiveIn ws base id b (On g n) rs x =
-    reportIn ws base id b g (units g (take n rs)) (marksAt ws base (length (units g (take n rs)))) x
+abbrev pub receiveIn : Engine → List ℕ → ℕ → ℕ → Bool → Tracking → List Range → List ℕ → Receipt
+receiveIn e ws base id b Off rs x = received 0 noReport ws x
+receiveIn e ws base id b (On g n) rs x = reportIn e ws base id b g (units g (take n rs)) x
 
-abbrev pub receiveDone : Device → List ℕ → ℕ → List ℕ → Option ℕ → Receipt
-receiveDone d ws id x none = received 0 noReport ws x
-receiveDone d ws id x (some i) =
-    receiveIn ws (controllerAt d (some i) .base) id (controllerAt d (some i) .suspended) (controllerAt d (some i) .tracking) (controllerAt d (some i) .ranges) x
+abbrev pub receiveDone : Engine → Device → List ℕ → ℕ → List ℕ → Option ℕ → Receipt
+receiveDone e d ws id x none = received 0 noReport ws x
+receiveDone e d ws id x (some i) =
+    receiveIn e ws (controllerAt d (some i) .base) id (controllerAt d (some i) .suspended) (controllerAt d (some i) .tracking) (controllerAt d (some i) .ranges) x
 
-abbrev pub receiveAt : Device → List ℕ → ℕ → List ℕ → Option ℕ → Receipt
-receiveAt d ws id x p = verdict (receiveOrder (seenIn d (length ws) p) x) (receiveDone d ws id x p) (λ n i. received n noReport ws x)
+abbrev pub receiveAt : Engine → Device → List ℕ → ℕ → List ℕ → Option ℕ → Receipt
+receiveAt e d ws id x p = verdict (receiveOrder (seenIn d (e .words ws) p) x) (receiveDone e d ws id x p) (λ n i. received n noReport ws x)
 
-unfoldable pub receiveReceipt : Device → List ℕ → ℕ → List ℕ → Receipt
-receiveReceipt d ws id x = receiveAt d ws id x (placeOf (d .settings) id)
+unfoldable pub receiveBy : Engine → Device → List ℕ → ℕ → List ℕ → Receipt
+receiveBy e d ws id x = receiveAt e d ws id x (placeOf (d .settings) id)
+
+abbrev pub receiveReceipt : Device → List ℕ → ℕ → List ℕ → Receipt
+receiveReceipt d ws id x = receiveBy inWords d ws id x
 
 -- ---- a part of a state (W6)
 

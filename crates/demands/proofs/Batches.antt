@@ -24,7 +24,7 @@ use Rattle.rules.specs.declared.Device.{Device}
 use Rattle.record.specs.Record.{soundWith, controllerAt, seenIn}
 use Rattle.calls.specs.declared.WriteRecord.{WriteRecord}
 use Rattle.calls.specs.declared.Batched.{Batched}
-use Rattle.calls.specs.Calls.{Change, withMarks, Note, noted, noteIn, writeDone, writeNote, writeIn, batched, notesFrom, batchChange}
+use Rattle.calls.specs.Calls.{batchBy, inWords, writeBy, Change, withMarks, Note, noted, noteIn, writeDone, writeNote, writeIn, batched, notesFrom, batchChange}
 use Rattle.demands.specs.View.{run}
 use Rattle.demands.specs.Sessions.{Left, Step, one, batch, next, leftAfter, answersTo, stepped, leftBy, noteOf, tried, callsOf, expand, begun, callsIn, historyIn}
 use Rattle.demands.specs.Demand2.{Stands}
@@ -58,7 +58,7 @@ summed-next : (k c x : ℕ) (note : Call) (es : List Event) → summed (k + 1) (
 summed-next k c x note es = alike _ _ _ _ _ _ (omega arith) (omega arith) (sym (last-after note x es))
 
 -- the notes of a list, after k done and c units
-notes-are : (d : Device) (area : List ℕ) (qs : ℕ → List ℕ) (rs : List WriteRecord) (m : List ℕ) (k c : ℕ) → Are (record { device = d; marks = m; area = area; queues = qs }) k c rs (notesFrom d m k c rs)
+notes-are : (d : Device) (area : List ℕ) (qs : ℕ → List ℕ) (rs : List WriteRecord) (m : List ℕ) (k c : ℕ) → Are (record { device = d; marks = m; area = area; queues = qs }) k c rs (notesFrom inWords d m k c rs)
 unfolding run
 notes-are d area qs [] m k c = record { leaves = refl; says = alike _ _ _ _ _ _ (omega arith) (omega arith) refl }
 notes-are d area qs (r ∷ rs) m k c =
@@ -67,7 +67,7 @@ notes-are d area qs (r ∷ rs) m k c =
   where
     go : (b : Bool) → eqb (writeNote d m (r .id) (writeIn r) .answer .number) 0 ≡ b
         → let n = writeNote d m (r .id) (writeIn r) in
-        let rest = notesFrom d (n .marks) (k + 1) (c + n .answer .count) rs in
+        let rest = notesFrom inWords d (n .marks) (k + 1) (c + n .answer .count) rs in
         Are (record { device = d; marks = n .marks; area = area; queues = qs }) (k + 1) (c + n .answer .count) rs rest
         → Are (record { device = d; marks = m; area = area; queues = qs }) k c (r ∷ rs) (cond b rest (batched 0 k c (n .answer .number) (n .marks)))
     go true e ih =
@@ -85,19 +85,19 @@ module _ (l : Left) (rs : List WriteRecord) where
   abbrev order : List Test
   order = batchOrder (soundWith (l .device) (length (l .marks))) (length rs)
 
-  are : Are l 0 0 rs (notesFrom (l .device) (l .marks) 0 0 rs)
+  are : Are l 0 0 rs (notesFrom inWords (l .device) (l .marks) 0 0 rs)
   are = notes-are (l .device) (l .area) (l .queues) rs (l .marks) 0 0
 
   from-zero : (es : List Event) → summed 0 0 es ≡ record { number = 0; done = doneIn es; count = newlyIn es; refusal = lastNumber es }
   from-zero es = alike _ _ _ _ _ _ (omega arith) (omega arith) refl
 
   is-notes : IsNotes l rs
-  unfolding batchChange
+  unfolding batchBy
   is-notes =
       record {
         answers =
             answers (Change Batched) (λ c. c .answer .number) (λ c. (c .answer .done ≡ 0) × (c .answer .count ≡ 0) × (c .answer .refusal ≡ 0) × (c .marks ≡ l .marks))
-            order (notesFrom (l .device) (l .marks) 0 0 rs) (λ n i. batched n 0 0 0 (l .marks)) (ap (λ (b : Batched). b .number) (are .says)) (λ n i. refl) (λ n i. (refl, refl, refl, refl));
+            order (notesFrom inWords (l .device) (l .marks) 0 0 rs) (λ n i. batched n 0 0 0 (l .marks)) (ap (λ (b : Batched). b .number) (are .says)) (λ n i. refl) (λ n i. (refl, refl, refl, refl));
         unsound = λ e. rw e;
         many = λ e h. rw (e, lt-leb (length rs) mostNotes h);
         few = λ e h. rw (e, le-leb (length rs) mostNotes h) (ap (λ (b : Batched). b .number) (are .says));
@@ -107,17 +107,17 @@ module _ (l : Left) (rs : List WriteRecord) where
             rw (whole e) (ap (λ (b : Batched). b .done) a, ap (λ (b : Batched). b .count) a, ap (λ (b : Batched). b .refusal) a);
       }
     where
-      whole : batchChange (l .device) (l .marks) rs .answer .number ≡ 0 → batchChange (l .device) (l .marks) rs ≡ notesFrom (l .device) (l .marks) 0 0 rs
+      whole : batchChange (l .device) (l .marks) rs .answer .number ≡ 0 → batchChange (l .device) (l .marks) rs ≡ notesFrom inWords (l .device) (l .marks) 0 0 rs
       whole e =
-          verdict-done (λ (c : Change Batched). c .answer .number) order (notesFrom (l .device) (l .marks) 0 0 rs) (λ n i. batched n 0 0 0 (l .marks)) (λ n i. refl)
+          verdict-done (λ (c : Change Batched). c .answer .number) order (notesFrom inWords (l .device) (l .marks) 0 0 rs) (λ n i. batched n 0 0 0 (l .marks)) (λ n i. refl)
           (omega arith, (omega arith, tt)) e .0
 
 -- ---- by its first note
 
 -- notes after k done and c units, from those after none
 shifted : (d : Device) (rs : List WriteRecord) (m : List ℕ) (k c : ℕ)
-    → let others = notesFrom d m 0 0 rs in
-    notesFrom d m k c rs ≡ record { answer = record { number = others .answer .number; done = k + others .answer .done; count = c + others .answer .count; refusal = others .answer .refusal }; marks = others .marks }
+    → let others = notesFrom inWords d m 0 0 rs in
+    notesFrom inWords d m k c rs ≡ record { answer = record { number = others .answer .number; done = k + others .answer .done; count = c + others .answer .count; refusal = others .answer .refusal }; marks = others .marks }
 shifted d rs m k c =
     ap₂ {A = Batched} (λ (a : Batched) (w : List ℕ). record { answer = a; marks = w }) (some .says ∙ sym told) (ap (λ (q : Left). q .marks) (some .leaves ∙ sym (zero .leaves)))
   where
@@ -127,13 +127,13 @@ shifted d rs m k c =
     es : List Event
     es = answersTo l (tried l rs)
 
-    some : Are l k c rs (notesFrom d m k c rs)
+    some : Are l k c rs (notesFrom inWords d m k c rs)
     some = notes-are d [] (λ i. []) rs m k c
 
-    zero : Are l 0 0 rs (notesFrom d m 0 0 rs)
+    zero : Are l 0 0 rs (notesFrom inWords d m 0 0 rs)
     zero = notes-are d [] (λ i. []) rs m 0 0
 
-    told : record { number = notesFrom d m 0 0 rs .answer .number; done = k + notesFrom d m 0 0 rs .answer .done; count = c + notesFrom d m 0 0 rs .answer .count; refusal = notesFrom d m 0 0 rs .answer .refusal } ≡ summed k c es
+    told : record { number = notesFrom inWords d m 0 0 rs .answer .number; done = k + notesFrom inWords d m 0 0 rs .answer .done; count = c + notesFrom inWords d m 0 0 rs .answer .count; refusal = notesFrom inWords d m 0 0 rs .answer .refusal } ≡ summed k c es
     told =
         ap (λ (b : Batched). record { number = b .number; done = k + b .done; count = c + b .count; refusal = b .refusal }) (zero .says)
         ∙ alike _ _ _ _ _ _ (omega arith) (omega arith) refl
@@ -141,16 +141,16 @@ shifted d rs m k c =
 module _ (d : Device) (ws : List ℕ) where
   -- a note leaves as many words
   note-words : (id : ℕ) (w : Write) → length (writeNote d ws id w .marks) ≡ length ws
-  unfolding writeNote withMarks
+  unfolding writeBy withMarks
   note-words id w =
-      verdict-has (λ (n : Note). length (n .marks) ≡ length ws) (λ n i. noted n 0 ws) (λ n i. refl) (writeOrder (seenIn d (length ws) (placeOf (d .settings) id)) w) (writeDone d ws w (placeOf (d .settings) id))
+      verdict-has (λ (n : Note). length (n .marks) ≡ length ws) (λ n i. noted n 0 ws) (λ n i. refl) (writeOrder (seenIn d (length ws) (placeOf (d .settings) id)) w) (writeDone inWords d ws w (placeOf (d .settings) id))
       (λ p. done (placeOf (d .settings) id))
     where
-      in-share : (base : ℕ) (t : Tracking) (rs : List Range) → length (noteIn ws base t rs w .marks) ≡ length ws
+      in-share : (base : ℕ) (t : Tracking) (rs : List Range) → length (noteIn inWords ws base t rs w .marks) ≡ length ws
       in-share base Off rs = refl
       in-share base (On g n) rs = pack-length (length ws) _
 
-      done : (p : Option ℕ) → length (writeDone d ws w p .marks) ≡ length ws
+      done : (p : Option ℕ) → length (writeDone inWords d ws w p .marks) ≡ length ws
       done none = refl
       done (some i) = in-share (controllerAt d (some i) .base) (controllerAt d (some i) .tracking) (controllerAt d (some i) .ranges)
 
@@ -182,14 +182,14 @@ module _ (d : Device) (ws : List ℕ) where
       go false e = (λ z. note-one id w e, λ z. is-notes (record { device = d; marks = ws; area = []; queues = λ i. [] }) rs .unsound e)
 
   -- a done batch is its notes, on a sound record, and there are few
-  done-is : (rs : List WriteRecord) → batchChange d ws rs .answer .number ≡ 0 → (batchChange d ws rs ≡ notesFrom d ws 0 0 rs) × Passed (order (record { device = d; marks = ws; area = []; queues = λ i. [] }) rs)
-  unfolding batchChange
+  done-is : (rs : List WriteRecord) → batchChange d ws rs .answer .number ≡ 0 → (batchChange d ws rs ≡ notesFrom inWords d ws 0 0 rs) × Passed (order (record { device = d; marks = ws; area = []; queues = λ i. [] }) rs)
+  unfolding batchBy
   done-is rs e =
-      verdict-done (λ (c : Change Batched). c .answer .number) (order (record { device = d; marks = ws; area = []; queues = λ i. [] }) rs) (notesFrom d ws 0 0 rs) (λ n i. batched n 0 0 0 ws) (λ n i. refl)
+      verdict-done (λ (c : Change Batched). c .answer .number) (order (record { device = d; marks = ws; area = []; queues = λ i. [] }) rs) (notesFrom inWords d ws 0 0 rs) (λ n i. batched n 0 0 0 ws) (λ n i. refl)
       (omega arith, (omega arith, tt)) e
 
-passed-is : (d : Device) (ws : List ℕ) (rs : List WriteRecord) → soundWith d (length ws) ≡ true → leb (length rs) mostNotes ≡ true → batchChange d ws rs ≡ notesFrom d ws 0 0 rs
-unfolding batchChange
+passed-is : (d : Device) (ws : List ℕ) (rs : List WriteRecord) → soundWith d (length ws) ≡ true → leb (length rs) mostNotes ≡ true → batchChange d ws rs ≡ notesFrom inWords d ws 0 0 rs
+unfolding batchBy
 passed-is d ws rs e f = rw (e, f)
 
 by-first : (l : Left) → ByNote l
@@ -203,7 +203,7 @@ by-first l =
       goes-on = λ r rs e z.
           let n = writeNote (l .device) (l .marks) (r .id) (writeIn r) in
           let p = done-is (l .device) (l .marks) (r ∷ rs) e in
-          let so : batchChange (l .device) (n .marks) rs ≡ notesFrom (l .device) (n .marks) 0 0 rs =
+          let so : batchChange (l .device) (n .marks) rs ≡ notesFrom inWords (l .device) (n .marks) 0 0 rs =
           passed-is (l .device) (n .marks) rs (rw (note-words (l .device) (l .marks) (r .id) (writeIn r)) (p .1 .0)) (le-leb (length rs) mostNotes (omega (arith, leb-true (length (r ∷ rs)) mostNotes (p .1 .1 .0)))) in
           p .0 ∙ rw (eq-eqb (n .answer .number) 0 z, so) (shifted (l .device) rs (n .marks) (0 + 1) (0 + n .answer .count) ∙ alike-change _ _ _ _ _ _ _ (omega arith) (omega arith));
     }

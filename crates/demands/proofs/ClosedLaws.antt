@@ -18,7 +18,7 @@ use Rattle.rules.specs.Demands.{sessionEnd, sessionHistory, lentBytes}
 use Rattle.rules.specs.Demands as rules-demands
 use Rattle.rules.specs.declared.Settings.{Settings}
 use Rattle.record.specs.Record.{soundWith}
-use Rattle.calls.specs.Calls.{freshChange, startChange, stopChange, writeNote, receiveReceipt, suspendChange, resumeChange, partChange, makeChange, postChange, takeChange}
+use Rattle.calls.specs.Calls.{receiveBy, startBy, stopBy, writeBy, freshChange, startChange, stopChange, writeNote, receiveReceipt, suspendChange, resumeChange, partChange, makeChange, postChange, takeChange}
 use Rattle.demands.specs.View.{view, Outcome, runAs, run}
 use Rattle.demands.specs.Sessions.{Left, Given, Sized, begun, outcome, leftAfter, endOf, historyIn, bytesIn}
 use Rattle.demands.specs.Demand2.{Equals}
@@ -42,7 +42,7 @@ closed-unsound words = refl
 
 closed-run : (ws area : List ℕ) (qs : ℕ → List ℕ) (id : ℕ) (o : Op)
     → runAs closedDevice ws area qs id o ≡ record { answer = refused 1 0; device = closedDevice; marks = ws; area = area; queues = qs; bytes = lent o }
-unfolding startChange stopChange writeNote receiveReceipt suspendChange resumeChange partChange makeChange postChange takeChange
+unfolding startBy stopBy writeBy receiveBy suspendChange resumeChange partChange makeChange postChange takeChange
 closed-run ws area qs id (start x) = rw (closed-unsound (length ws))
 closed-run ws area qs id stop = rw (closed-unsound (length ws))
 closed-run ws area qs id (write w) = rw (closed-unsound (length ws))

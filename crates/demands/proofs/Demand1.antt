@@ -26,7 +26,7 @@ use Rattle.record.specs.Record.{isOn, soundWith, controllerAt, placesOf, hasSto
 use Rattle.start_data.specs.Answer.{Said}
 use Rattle.start_data.proofs.Answers.{headerOf-says, startData-says, startData-none, startWritten-refused}
 use Rattle.report_reader.proofs.AnswerLaws.{refused-answer, index-zero}
-use Rattle.calls.specs.Calls.{Change, changed, startedWith, startDone, startChange, stopDone, stopChange, flagDone, suspendChange, resumeDone, resumeChange, Note, noted, writeDone, writeNote, Receipt, received, receiveDone, receiveReceipt, Arrival, arrival, partDone, partChange, makeDone, makeChange, Posting, posting, postDone, postChange, Taking, taking, takeDone, takeChange}
+use Rattle.calls.specs.Calls.{inWords, receiveBy, startBy, stopBy, writeBy, Change, changed, startedWith, startDone, startChange, stopDone, stopChange, flagDone, suspendChange, resumeDone, resumeChange, Note, noted, writeDone, writeNote, Receipt, received, receiveDone, receiveReceipt, Arrival, arrival, partDone, partChange, makeDone, makeChange, Posting, posting, postDone, postChange, Taking, taking, takeDone, takeChange}
 use Rattle.calls.specs.declared.Changed.{Changed}
 use Rattle.calls.specs.declared.Started.{Started}
 use Rattle.demands.specs.Demand1.{Answers, Demand1}
@@ -36,10 +36,10 @@ use Rattle.demands.proofs.AnswerLaws.{answers, fresh-answers, start-zer
 start-number : (d : Device) (ws : List ℕ) (id : ℕ) (x : List ℕ)
     → Answers (startChange d ws id x .answer .number) (startOrder (d .settings) (seenIn d (length ws) (placeOf (d .settings) id)) x)
     ((startChange d ws id x .answer .device ≡ d) × (startChange d ws id x .marks ≡ ws))
-unfolding startChange
+unfolding startBy
 start-number d ws id x =
     answers (Change Started) (λ c. c .answer .number) (λ c. (c .answer .device ≡ d) × (c .marks ≡ ws))
-    (startOrder (d .settings) (seenIn d (length ws) (placeOf (d .settings) id)) x) (startDone d ws x (placeOf (d .settings) id)) (λ n i. startedWith n i d ws)
+    (startOrder (d .settings) (seenIn d (length ws) (placeOf (d .settings) id)) x) (startDone inWords d ws x (placeOf (d .settings) id)) (λ n i. startedWith n i d ws)
     (start-zero d ws x (placeOf (d .settings) id)) (λ n i. refl) (λ n i. (refl, refl))
 
 -- a count over 16, and a smaller one, to the structure's reader
@@ -94,7 +94,7 @@ unfolding soundWith
 sees-sound d words = refl
 
 pub demand-1 : Demand1
-unfolding stopChange writeNote receiveReceipt suspendChange resumeChange partChange makeChange postChange takeChange
+unfolding stopBy writeBy receiveBy suspendChange resumeChange partChange makeChange postChange takeChange
 demand-1 =
     record {
       fresh = fresh-answers;
@@ -116,16 +116,16 @@ demand-1 =
           rw (start-number d ws id x .first, row-is d ws id x) (names (d .settings) v x, early (d .settings) v x);
       stop = λ d ws id.
           answers (Change Changed) (λ c. c .answer .number) (λ c. (c .answer .device ≡ d) × (c .marks ≡ ws))
-          (stopOrder (seenIn d (length ws) (placeOf (d .settings) id))) (stopDone d ws (placeOf (d .settings) id)) (λ n i. changed n d ws)
+          (stopOrder (seenIn d (length ws) (placeOf (d .settings) id))) (stopDone inWords d ws (placeOf (d .settings) id)) (λ n i. changed n d ws)
           (stop-zero d ws (placeOf (d .settings) id)) (λ n i. refl) (λ n i. (refl, refl));
       write = λ d ws id w.
           answers Note (λ c. c .answer .number) (λ c. (c .answer .count ≡ 0) × (c .marks ≡ ws))
-          (writeOrder (seenIn d (length ws) (placeOf (d .settings) id)) w) (writeDone d ws w (placeOf (d .settings) id)) (λ n i. noted n 0 ws)
+          (writeOrder (seenIn d (length ws) (placeOf (d .settings) id)) w) (writeDone inWords d ws w (placeOf (d .settings) id)) (λ n i. noted n 0 ws)
           (write-zero d ws w (placeOf (d .settings) id)) (λ n i. refl) (λ n i. (refl, refl));
       receive = λ d ws id x.
           answers Receipt (λ r. r .answer .number)
           (λ r. (r .answer ≡ record { number = r .answer .number; suspended = false; more = false; granularity = 0; runs = 0 }) × (r .marks ≡ ws) × (r .buffer ≡ x))
-          (receiveOrder (seenIn d (length ws) (placeOf (d .settings) id)) x) (receiveDone d ws id x (placeOf (d .settings) id)) (λ n i. received n noReport ws x)
+          (receiveOrder (seenIn d (length ws) (placeOf (d .settings) id)) x) (receiveDone inWords d ws id x (placeOf (d .settings) id)) (λ n i. received n noReport ws x)
           (receive-zero d ws id x (placeOf (d .settings) id)) (λ n i. refl) (λ n i. (refl, refl, refl));
       suspend = λ d words id kind.
           answers Changed (λ c. c .number) (λ c. c .device ≡ d)

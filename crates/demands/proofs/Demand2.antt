@@ -21,7 +21,7 @@ use Rattle.rules.specs.Settings.{markWords, mostUnits, identifiersOf, placeOf, 
 use Rattle.rules.specs.Units.{Unit, Write, units, touches, mark, newly}
 use Rattle.rules.specs.Ranges.{powersOk}
 use Rattle.rules.specs.StartData.{granularityOf, countOf, rangesOf, headerTests}
-use Rattle.rules.specs.Report.{descriptor, room, marksLeft, reportedRuns, reportBytes}
+use Rattle.rules.specs.Report.{descriptor, room, reportOn, marksLeft, reportedRuns, reportBytes}
 use Rattle.rules.specs.Order.{Op, start, stop, write, receive, Part, Seen, order, startWho, startListed, startOwn, startShared, startOrder, stopOrder, writeOrder, receiveOrder, suspendOrder, resumeOrder, partOrder, isLast, joinedWith, offsetOf}
 use Rattle.rules.specs.Device.{cleaned, freshDevice, freshOf, soundDevice}
 use Rattle.rules.specs.Machine.{off, on, Slot, isSuspended, refused, noReport, State, pendingIn, countsIn, unitsIn, seenAt, slotOf, slotAt, Call, step, fresh, lent}
@@ -53,7 +53,7 @@ use Rattle.report_reader.proofs.ReadBack.{reads-back}
 use Rattle.calls.specs.declared.Changed.{Changed}
 use Rattle.calls.specs.declared.Started.{Started as StartAnswer}
 use Rattle.calls.specs.declared.StateSet.{StateSet}
-use Rattle.calls.specs.Calls.{marksAt, withMarks, freshChange, Change, changed, startedWith, startDone, startChange, stopDone, stopChange, flagDone, suspendChange, dropped, resumeDone, resumeChange, Note, noted, noteIn, writeDone, writeNote, Receipt, received, reportIn, receiveIn, receiveDone, receiveReceipt, Arrival, partChange, partDone, arrival}
+use Rattle.calls.specs.Calls.{freshBy, inWords, receiveBy, startBy, stopBy, writeBy, marksAt, withMarks, freshChange, Change, changed, startedWith, startDone, startChange, stopDone, stopChange, flagDone, suspendChange, dropped, resumeDone, resumeChange, Note, noted, noteIn, writeDone, writeNote, Receipt, received, receiveIn, receiveDone, receiveReceipt, Arrival, partChange, partDone, arrival}
 use Rattle.demands.specs.View.{marksOf, slotOf as slotSeen, frontAt, view, run}
 use Rattle.demands.specs.Sessions.{Left, Given, Sized, begun, outcome, next, endOf, historyIn}
 use Rattle.demands.specs.Parts.{wholeBy, IsFinal, arriving, Arrives}
@@ -76,7 +76,7 @@ use Rattle.demands.proofs.Parts.{arrives, part-unknown}
 -- ---- fresh
 
 fresh-is : (s : Settings) (ws : List ℕ) → freshChange s ws .answer .number ≡ 0 → (freshChange s ws .answer .device ≡ freshDevice s) × (freshChange s ws .marks ≡ replicate markWords 0)
-unfolding freshChange freshOf
+unfolding freshBy freshOf
 fresh-is s ws e = let f = fresh-done s ws e in rw (f .0, eq-eqb (length ws) markWords (f .1), f .1) (refl, refl)
 
 -- ---- places
@@ -141,9 +141,9 @@ module _ (l : Left) (fits : Fits (l .device) (l .marks) (l .area)) (a i : ℕ) (
   starts-so : (x : List ℕ)
       → let r = startChange dev ws a x in
       r .answer .number ≡ 0 → Started dev ws i (granularityOf x) (countOf x) (rangesOf x) (r .answer .device) (r .marks)
-  unfolding startChange order
+  unfolding startBy order
   starts-so x e =
-      let r = verdict-done (λ (k : Change StartAnswer). k .answer .number) (startOrder (dev .settings) (seenIn dev (length ws) (some i)) x) (startDone dev ws x (some i)) (λ n j. startedWith n j dev ws)
+      let r = verdict-done (λ (k : Change StartAnswer). k .answer .number) (startOrder (dev .settings) (seenIn dev (length ws) (some i)) x) (startDone inWords dev ws x (some i)) (λ n j. startedWith n j dev ws)
       (λ n j. refl) (order-numbers (dev .settings) (seenIn dev (length ws) (some i)) (arrivingIn (dev .sequence) (l .area) a) (start x)) (rw at at e) in
       let running : own .suspended ≡ false = not-true (own .suspended) (r .1 .1 .1 .0) in
       let p = startOrder-passed (dev .settings) (seenIn dev (length ws) (some i)) x (r .1) in
@@ -151,9 +151,9 @@ module _ (l : Left) (fits : Fits (l .device) (l .marks) (l .area)) (a i : ℕ) (
       (packs-start dev ws (l .area) fits (sound-from (r .1 .0)) i in-use x running (not-on (own .tracking) (p .untracked)) p))
 
   stops-so : let r = stopChange dev ws a in r .answer .number ≡ 0 → Stopped dev ws i (r .answer .device) (r .marks)
-  unfolding stopChange order
+  unfolding stopBy order
   stops-so e =
-      let r = verdict-done (λ (k : Change Changed). k .answer .number) (stopOrder (seenIn dev (length ws) (some i))) (stopDone dev ws (some i)) (λ n j. changed n dev ws)
+      let r = verdict-done (λ (k : Change Changed). k .answer .number) (stopOrder (seenIn dev (length ws) (some i))) (stopDone inWords dev ws (some i)) (λ n j. changed n dev ws)
       (λ n j. refl) (order-numbers (dev .settings) (seenIn dev (length ws) (some i)) (arrivingIn (dev .sequence) (l .area) a) stop) (rw at at e) in
       let running : own .suspended ≡ false = not-true (own .suspended) (r .1 .1 .1 .0) in
       let o = is-on (own .tracking) (r .1 .1 .1 .1 .0) in
@@ -189,22 +189,22 @@ module _ (l : Left) (fits : Fits (l .device) (l .marks) (l .area)) (a i : ℕ) (
     put-so q k = subst (λ m. Elsewhere (own .base) m ws (withMarks ws (own .base) q)) (k ∙ sym size-of) (put-elsewhere ws (fits .words) (own .base) q (omega (arith, k, in-words)))
 
   writes-so : (w : Write) → Elsewhere (baseAt dev i) (sizeAt dev i) ws (writeNote dev ws a w .marks)
-  unfolding writeNote
+  unfolding writeBy
   writes-so w =
       rw at (verdict-has (λ (k : Note). Elsewhere (baseAt dev i) (sizeAt dev i) ws (k .marks)) (λ n j. noted n 0 ws) (λ n j. as-were)
-      (writeOrder (seenIn dev (length ws) (some i)) w) (writeDone dev ws w (some i)) (λ p. go (sound-from (p .0)) (own .tracking) refl))
+      (writeOrder (seenIn dev (length ws) (some i)) w) (writeDone inWords dev ws w (some i)) (λ p. go (sound-from (p .0)) (own .tracking) refl))
     where
-      go : soundDevice dev ≡ true → (t : Tracking) → own .tracking ≡ t → Elsewhere (baseAt dev i) (sizeAt dev i) ws (noteIn ws (own .base) t (own .ranges) w .marks)
+      go : soundDevice dev ≡ true → (t : Tracking) → own .tracking ≡ t → Elsewhere (baseAt dev i) (sizeAt dev i) ws (noteIn inWords ws (own .base) t (own .ranges) w .marks)
       go sure Off e = as-were
       go sure (On g n) e = put-so sure g n e (mark w (mine sure g n e) (marksAt ws (own .base) (length (mine sure g n e)))) (mark-length w (mine sure g n e) _ (as-many sure g n e))
 
   receives-so : (x : List ℕ) → Elsewhere (baseAt dev i) (sizeAt dev i) ws (receiveReceipt dev ws a x .marks)
-  unfolding receiveReceipt
+  unfolding receiveBy
   receives-so x =
       rw at (verdict-has (λ (k : Receipt). Elsewhere (baseAt dev i) (sizeAt dev i) ws (k .marks)) (λ n j. received n noReport ws x) (λ n j. as-were)
-      (receiveOrder (seenIn dev (length ws) (some i)) x) (receiveDone dev ws a x (some i)) (λ p. go (sound-from (p .0)) (own .tracking) refl))
+      (receiveOrder (seenIn dev (length ws) (some i)) x) (receiveDone inWords dev ws a x (some i)) (λ p. go (sound-from (p .0)) (own .tracking) refl))
     where
-      go : soundDevice dev ≡ true → (t : Tracking) → own .tracking ≡ t → Elsewhere (baseAt dev i) (sizeAt dev i) ws (receiveIn ws (own .base) a (own .suspended) t (own .ranges) x .marks)
+      go : soundDevice dev ≡ true → (t : Tracking) → own .tracking ≡ t → Elsewhere (baseAt dev i) (sizeAt dev i) ws (receiveIn inWords ws (own .base) a (own .suspended) t (own .ranges) x .marks)
       go sure Off e = as-were
       go sure (On g n) e =
           let us = units g (take n (own .ranges)) in
@@ -349,7 +349,7 @@ module _ (s : Settings) (m : Given) (ks : List Call) (sizes : Sized s m) (made :
       -- ---- what is not refused
 
       may-write : (w : Write) → suspendedBy false h ≡ false → w .address + w .bytes ≤ 2 ^ 64 → writeNote d l a w .answer .number ≡ 0
-      unfolding writeNote
+      unfolding writeBy
       may-write w e k = rw (place, sure, flag-is, e, le-leb (w .address + w .bytes) (2 ^ 64) k) (write-zero d l w (some i))
 
       -- the settings say the same of a structure once unused places are zeros
@@ -360,7 +360,7 @@ module _ (s : Settings) (m : Given) (ks : List Call) (sizes : Sized s m) (made :
       may-start : (x : List ℕ) → suspendedBy false h ≡ false → tracksBy none h ≡ none → passes (headerTests x ++ startListed s x) ≡ true
           → length (units (granularityOf x) (rangesOf x)) + unitsIn (sessionEnd s (length (m .marks)) ks) ≤ 16384
           → countOf x + countsIn (sessionEnd s (length (m .marks)) ks) ≤ s .limit → startChange d l a x .answer .number ≡ 0
-      unfolding startChange
+      unfolding startBy
       may-start x e idle ok fit few =
           let v = seenIn d (length l) (some i) in
           let seen = subst (λ q. seenIn d (length l) q ≡ seenAt (view d l area qs) q) place (seen-same d l area qs fits a) in
@@ -375,14 +375,14 @@ module _ (s : Settings) (m : Given) (ks : List Call) (sizes : Sized s m) (made :
           ) in
           rw place
           (ap (λ (k : Change StartAnswer). k .answer .number)
-          (verdict-passed (startOrder (d .settings) v x) (startDone d l x (some i)) (λ n j. startedWith n j d l)
+          (verdict-passed (startOrder (d .settings) v x) (startDone inWords d l x (some i)) (λ n j. startedWith n j d l)
           (All-append (λ (t : Test). t .ok ≡ true) (startOwn (d .settings) v x) (startShared (d .settings) (v .counts) (v .units) x)
           (All-append (λ (t : Test). t .ok ≡ true) (startWho v) (headerTests x ++ startListed (d .settings) x) who structure) shared)))
 
       -- ---- suspended, as its calls and answers tell
 
       is-refused : suspendedBy false h ≡ true → (o : Op) → Moves o → outcome (endOf s m ks) (record { id = a; op = o }) ≡ record { answer = refused 4 0; device = d; marks = l; area = area; queues = qs; bytes = lent o }
-      unfolding run startChange stopChange writeNote
+      unfolding run startBy stopBy writeBy
       is-refused e o (starts x) = rw (place, sure, flag-is, e)
       is-refused e o stops = rw (place, sure, flag-is, e)
       is-refused e o (writes w) = rw (place, sure, flag-is, e)
@@ -464,17 +464,19 @@ module _ (s : Settings) (m : Given) (ks : List Call) (sizes : Sized s m) (made :
             }
 
         is-written : (w : Write) → writeNote d l a w .answer .number ≡ 0 → Wrote h (c .base) us w l (writeNote d l a w .answer .count) (writeNote d l a w .marks)
-        unfolding writeNote order
+        unfolding writeBy order
         is-written w e =
-            let r = verdict-done (λ (k : Note). k .answer .number) (writeOrder (seenIn d (length l) (some i)) w) (writeDone d l w (some i)) (λ n j. noted n 0 l)
+            let r = verdict-done (λ (k : Note). k .answer .number) (writeOrder (seenIn d (length l) (some i)) w) (writeDone inWords d l w (some i)) (λ n j. noted n 0 l)
             (λ n j. refl) (order-numbers (d .settings) (seenIn d (length l) (some i)) (arrivingIn (d .sequence) area a) (write w)) (rw place at e) in
-            let is : writeDone d l w (some i) ≡ noted 0 (newly w us p) (withMarks l (c .base) (mark w us p)) = rw (held .tracking, held .ranges, held .marks) in
+            let is : writeDone inWords d l w (some i) ≡ noted 0 (newly w us p) (withMarks l (c .base) (mark w us p)) = rw (held .tracking, held .ranges, held .marks) in
             rw place (subst (λ (k : Note). Wrote h (c .base) us w l (k .answer .count) (k .marks)) (sym (r .0 ∙ is)) (written w))
 
         -- ---- an accepted receive
 
         abbrev made-of : List ℕ → Receipt
-        made-of x = reportIn l (c .base) a (suspendedBy false h) g us p x
+        made-of x =
+            let r = reportOn (suspendedBy false h) g (room (length x)) us p in
+            received 0 r (withMarks l (c .base) (marksLeft (room (length x)) us p)) (put x 0 (reportBytes a r))
 
         stored : (x : List ℕ) → 32 ≤ length x → Received h a (c .base) g us x l (made-of x)
         stored x long =
@@ -500,20 +502,20 @@ module _ (s : Settings) (m : Given) (ks : List Call) (sizes : Sized s m) (made :
             }
 
         is-received : (x : List ℕ) → receiveReceipt d l a x .answer .number ≡ 0 → Received h a (c .base) g us x l (receiveReceipt d l a x)
-        unfolding receiveReceipt order
+        unfolding receiveBy order
         is-received x e =
-            let r = verdict-done (λ (k : Receipt). k .answer .number) (receiveOrder (seenIn d (length l) (some i)) x) (receiveDone d l a x (some i)) (λ n j. received n noReport l x)
+            let r = verdict-done (λ (k : Receipt). k .answer .number) (receiveOrder (seenIn d (length l) (some i)) x) (receiveDone inWords d l a x (some i)) (λ n j. received n noReport l x)
             (λ n j. refl) (order-numbers (d .settings) (seenIn d (length l) (some i)) (arrivingIn (d .sequence) area a) (receive x)) (rw place at e) in
             rw place (subst (Received h a (c .base) g us x l) (sym (r .0 ∙ rw (held .tracking, held .ranges, held .marks, flag-is))) (stored x (leb-true 32 (length x) (r .1 .1 .1 .1 .0))))
 
         -- ---- what is not refused
 
         may-stop : suspendedBy false h ≡ false → stopChange d l a .answer .number ≡ 0
-        unfolding stopChange
+        unfolding stopBy
         may-stop e = rw (place, sure, flag-is, e, held .tracking)
 
         may-receive : (x : List ℕ) → 32 ≤ length x → receiveReceipt d l a x .answer .number ≡ 0
-        unfolding receiveReceipt
+        unfolding receiveBy
         may-receive x k = rw (place, sure, held .tracking, le-leb 32 (length x) k)
 
         is-tracked : Tracked (endOf s m ks) h a i g rs
@@ -531,16 +533,16 @@ module _ (s : Settings) (m : Given) (ks : List Call) (sizes : Sized s m) (made :
     -- ---- any controller
 
     is-idle : (w : Write) → tracksBy none h ≡ none → (writeNote d l a w .answer .count ≡ 0) × (writeNote d l a w .marks ≡ l)
-    unfolding writeNote
+    unfolding writeBy
     is-idle w e = go (placeOf s a) refl
       where
         Idle : Note → Type 0
         Idle n = (n .answer .count ≡ 0) × (n .marks ≡ l)
 
         go : (q : Option ℕ) → placeOf s a ≡ q → Idle (writeNote d l a w)
-        go none k = rw (place-of ∙ k) (verdict-has Idle (λ n i. noted n 0 l) (λ n i. (refl, refl)) (writeOrder (seenIn d (length l) none) w) (writeDone d l w none) (λ t. (refl, refl)))
+        go none k = rw (place-of ∙ k) (verdict-has Idle (λ n i. noted n 0 l) (λ n i. (refl, refl)) (writeOrder (seenIn d (length l) none) w) (writeDone inWords d l w none) (λ t. (refl, refl)))
         go (some i) k =
-            rw (place i k) (verdict-has Idle (λ n i. noted n 0 l) (λ n i. (refl, refl)) (writeOrder (seenIn d (length l) (some i)) w) (writeDone d l w (some i)) (λ t. rw (is-off i k e) (refl, refl)))
+            rw (place i k) (verdict-has Idle (λ n i. noted n 0 l) (λ n i. (refl, refl)) (writeOrder (seenIn d (length l) (some i)) w) (writeDone inWords d l w (some i)) (λ t. rw (is-off i k e) (refl, refl)))
 
     is-suspended : suspendedBy false h ≡ true → (o : Op) → Moves o → outcome (endOf s m ks) (record { id = a; op = o }) ≡ record { answer = refused 4 0; device = d; marks = l; area = area; queues = qs; bytes = lent o }
     is-suspended e = go (placeOf s a) refl

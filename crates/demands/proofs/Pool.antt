@@ -29,7 +29,7 @@ use Rattle.rules.proofs.StartLaws.{rangesOf-length}
 use Rattle.ranges.proofs.RangeLaws.{HeldFacts, listTests-facts}
 use Rattle.record.specs.Record.{noController, controllerAt, withController, seenIn, unitsOf}
 use Rattle.record.proofs.RecordLaws.{sharesOf-at, soundDevice-facts, soundDevice-inside}
-use Rattle.calls.specs.Calls.{marksAt, basesOf, sizesOf, started, startDone, stopDone, packedDevice, packedWords}
+use Rattle.calls.specs.Calls.{inWords, marksAt, basesOf, sizesOf, started, startDone, stopDone, packedDevice, packedWords}
 use Rattle.calls.proofs.PoolLaws.{getD-map, sharesOf-none, sharesOf-length, sharesOf-with, sizesOf-at, sizesOf-share, packedAt, packed-at, packed-eight, packed-alike, packed-size, newBase-sum, take-all, start-packs}
 use Rattle.demands.specs.Soundness.{baseAt}
 use Rattle.demands.specs.Demand2.{bitOf, sizeAt, Started, Stopped}
@@ -49,7 +49,7 @@ module _ (d : Device) (ws area : List ℕ) (fits : Fits d ws area) (sound : soun
   -- ---- an accepted stop
 
   pub clears-stop : (g n : ℕ) → c .tracking ≡ On g n → 1 ≤ length (c .ranges) → c .suspended ≡ false
-      → Stopped d ws i (stopDone d ws (some i) .answer .device) (stopDone d ws (some i) .marks)
+      → Stopped d ws i (stopDone inWords d ws (some i) .answer .device) (stopDone inWords d ws (some i) .marks)
   clears-stop g n t listed running =
       let size : heldUnits (heldOf c) ≡ length (units g (take n (c .ranges))) = rw t in
       let inside : c .base + heldUnits (heldOf c) ≤ 64 * markWords = omega (arith, size, soundDevice-inside d i g n sound used there t listed) in
@@ -185,7 +185,7 @@ module _ (d : Device) (ws area : List ℕ) (fits : Fits d ws area) (sound : soun
       ∙ ap sum (take-all sizes 8 (omega (arith, length-map (sharesOf e) (λ (a : Share). a .size), sharesOf-length e eight few)))
       ∙ ap sum (sym all-sizes)
 
-  pub packs-start : Started d ws i (granularityOf x) (countOf x) (rangesOf x) (startDone d ws x (some i) .answer .device) (startDone d ws x (some i) .marks)
+  pub packs-start : Started d ws i (granularityOf x) (countOf x) (rangesOf x) (startDone inWords d ws x (some i) .answer .device) (startDone inWords d ws x (some i) .marks)
   packs-start =
       record {
         settings = refl;

@@ -21,7 +21,7 @@ use Rattle.rules.specs.declared.Controller.{Controller}
 use Rattle.rules.specs.declared.Settings.{Settings}
 use Rattle.rules.proofs.ListLaws.{All, and-intro}
 use Rattle.settings.proofs.SettingsLaws.{settingsOk-count}
-use Rattle.calls.specs.Calls.{freshChange}
+use Rattle.calls.specs.Calls.{freshBy, freshChange}
 use Rattle.demands.specs.View.{slotsFrom, view, run}
 use Rattle.demands.specs.Sessions.{Left, Given, Sized, begun, outcome, next, leftAfter, answersTo, bytesTo}
 use Rattle.demands.proofs.ViewLaws.{Listed, Totalled, Fits}
@@ -70,7 +70,7 @@ pub record Begins (s : Settings) (l : Left) : Type 0 where
   pub fits : Fits (l .device) (l .marks) (l .area)
 
 pub begins : (s : Settings) (m : Given) → Sized s m → settingsOk s ≡ true → length (m .marks) ≡ markWords → Begins s (begun s m)
-unfolding freshChange freshOf
+unfolding freshBy freshOf
 begins s m sized e whole =
     let few : s .count ≤ length (s .identifiers) = omega (arith, sized .places, settingsOk-count s e) in
     rw (e, eq-eqb (length (m .marks)) markWords whole, whole)

@@ -39,7 +39,7 @@ use Rattle.settings.proofs.SettingsLaws.{settingsOk-at, settingsOk-some, settin
 use Rattle.record.specs.Record.{soundWith, noController, controllerAt}
 use Rattle.record.proofs.RecordLaws.{sharesOf-at, sharesOf-sizes, soundDevice-facts, soundDevice-sequence, soundDevice-all, soundDevice-inside, soundDevice-apart, soundDevice-queue}
 use Rattle.record.proofs.QueueLaws.{RingFacts, ring-facts, ring-intro}
-use Rattle.calls.specs.Calls.{startChange, stopChange, suspendChange, resumeChange, writeNote, receiveReceipt, partChange, fillIn, makeChange, postChange, takeChange}
+use Rattle.calls.specs.Calls.{receiveBy, startBy, stopBy, writeBy, startChange, stopChange, suspendChange, resumeChange, writeNote, receiveReceipt, partChange, fillIn, makeChange, postChange, takeChange}
 use Rattle.calls.proofs.PoolLaws.{sharesOf-none, sharesOf-length}
 use Rattle.demands.specs.View.{run, runAs}
 use Rattle.demands.specs.Sessions.{Left, outcome, begun, endOf}
@@ -204,7 +204,7 @@ module _ (d : Device) (whole : Whole d) where
 
 -- an unsound record, or marks of another number of words
 unsound-run : (d : Device) (ws area : List ℕ) (qs : ℕ → List ℕ) (id : ℕ) (o : Op) → soundWith d (length ws) ≡ false → runAs d ws area qs id o .answer ≡ refused 1 0
-unfolding startChange stopChange writeNote receiveReceipt suspendChange resumeChange partChange makeChange postChange takeChange
+unfolding startBy stopBy writeBy receiveBy suspendChange resumeChange partChange makeChange postChange takeChange
 unsound-run d ws area qs id (start x) e = rw e
 unsound-run d ws area qs id stop e = rw e
 unsound-run d ws area qs id (write w) e = rw e

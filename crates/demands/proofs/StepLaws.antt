@@ -56,7 +56,7 @@ use Rattle.calls.proofs.PoolLaws.{take-set, sharesOf-with, sizesOf-at, base-at,
 use Rattle.pool.specs.Pool.{newBase, Packs}
 use Rattle.state_bytes.proofs.StateLaws.{stateOk-true}
 use Rattle.controller_state.proofs.ArrivalLaws.{joined-stored}
-use Rattle.calls.specs.Calls.{marksAt, withMarks, withClear, basesOf, sizesOf, withBase, packedFrom, packedDevice, packedWords, Change, changed, started, startedWith, startDone, startChange, stopped, stopDone, stopChange, flagged, flagDone, suspendChange, dropped, resumeDone, resumeChange, Note, noted, noteIn, writeDone, writeNote, Receipt, received, receiveIn, receiveDone, receiveReceipt, Arrival, arrival, partDone, partAt, partChange, queuing, withQueue, madeRing, makeDone, makeChange, fillIn, queuedIn, ringPosted, ringTaken, Posting, posting, postIn, postDone, postAt, postChange, Taking, taking, takeIn, takeDone, takeAt, takeChange}
+use Rattle.calls.specs.Calls.{inWords, receiveBy, startBy, stopBy, writeBy, marksAt, withMarks, withClear, basesOf, sizesOf, withBase, packedFrom, packedDevice, packedWords, Change, changed, started, startedWith, startDone, startChange, stopped, stopDone, stopChange, flagged, flagDone, suspendChange, dropped, resumeDone, resumeChange, Note, noted, noteIn, writeDone, writeNote, Receipt, received, receiveIn, receiveDone, receiveReceipt, Arrival, arrival, partDone, partAt, partChange, queuing, withQueue, madeRing, makeDone, makeChange, fillIn, queuedIn, ringPosted, ringTaken, Posting, posting, postIn, postDone, postAt, postChange, Taking, taking, takeIn, takeDone, takeAt, takeChange}
 use Rattle.calls.specs.declared.Changed.{Changed}
 use Rattle.calls.specs.declared.Started.{Started}
 use Rattle.demands.specs.View.{marksOf, queueOf, slotOf, frontAt, strayIn, amissIn, view, Outcome, answered, starts, stops, flags, notes, receipts, arrives, lentAt, handedOn, posts, takes, runAs, run}
@@ -327,7 +327,7 @@ module _ (d : Device) (ws area : List ℕ) (qs : ℕ → List ℕ) (fits : Fits 
     -- ---- start
 
     start-done : (x : List ℕ) → StartPassed (d .settings) (seenIn d (length ws) (some i)) x → c .tracking ≡ Off
-        → Does x (starts area qs x (startDone d ws x (some i))) (some i) (start x)
+        → Does x (starts area qs x (startDone inWords d ws x (some i))) (some i) (start x)
     unfolding getShare
     start-done x q idle =
         rw own (record { answer = refl; state = state; bytes = refl; fits = packed-fits })
@@ -457,7 +457,7 @@ module _ (d : Device) (ws area : List ℕ) (qs : ℕ → List ℕ) (fits : Fits 
 
     -- ---- stop
 
-    stop-done : (g n : ℕ) → c .tracking ≡ On g n → Does [] (stops area qs (stopDone d ws (some i))) (some i) stop
+    stop-done : (g n : ℕ) → c .tracking ≡ On g n → Does [] (stops area qs (stopDone inWords d ws (some i))) (some i) stop
     stop-done g n t =
         let size : heldUnits (heldOf c) ≡ sizeOf i g n = rw t in
         let inside : c .base + heldUnits (heldOf c) ≤ 64 * markWords = omega (arith, size, within i g n used t) in
@@ -521,12 +521,12 @@ module _ (d : Device) (ws area : List ℕ) (qs : ℕ → List ℕ) (fits : Fits 
         → length (marksAt ws (c .base) (length (units g (take n (c .ranges))))) ≡ length (units g (take n (c .ranges)))
     marks-sized g n e = getShare-length _ (c .base) (length (units g (take n (c .ranges)))) (omega (arith, within i g n used e, flat-length ws, fits .words))
 
-    write-done : (w : Write) → Does [] (notes d area qs (writeDone d ws w (some i))) (some i) (write w)
+    write-done : (w : Write) → Does [] (notes d area qs (writeDone inWords d ws w (some i))) (some i) (write w)
     write-done w = rw own (go (c .tracking) refl)
       where
         go : (t : Tracking) → c .tracking ≡ t
             → let r = wroteIn w (marksOf ws (c .base) t (c .ranges)) in
-            Like id [] (notes d area qs (noteIn ws (c .base) t (c .ranges) w)) (r .0) (withSlot st (some i) (withMarksOf (slotOf ws c (front i) (qs i)) (r .1)))
+            Like id [] (notes d area qs (noteIn inWords ws (c .base) t (c .ranges) w)) (r .0) (withSlot st (some i) (withMarksOf (slotOf ws c (front i) (qs i)) (r .1)))
         go Off e =
             record {
               answer = refl;
@@ -547,12 +547,12 @@ module _ (d : Device) (ws area : List ℕ) (qs : ℕ → List ℕ) (fits : Fits 
 
     -- ---- receive
 
-    receive-done : (x : List ℕ) → isOn (c .tracking) ≡ true → Does x (receipts d area qs (receiveDone d ws id x (some i))) (some i) (receive x)
+    receive-done : (x : List ℕ) → isOn (c .tracking) ≡ true → Does x (receipts d area qs (receiveDone inWords d ws id x (some i))) (some i) (receive x)
     receive-done x q = rw own (go (c .tracking) refl q)
       where
         go : (t : Tracking) → c .tracking ≡ t → isOn t ≡ true
             → let r = reportedIn (c .suspended) (length x) (marksOf ws (c .base) t (c .ranges)) in
-            Like id x (receipts d area qs (receiveIn ws (c .base) id (c .suspended) t (c .ranges) x)) (r .0)
+            Like id x (receipts d area qs (receiveIn inWords ws (c .base) id (c .suspended) t (c .ranges) x)) (r .0)
             (withSlot st (some i) (withMarksOf (slotOf ws c (front i) (qs i)) (r .1)))
         go Off e f = absurd (true≢false (sym f))
         go (On g n) e f =
@@ -831,16 +831,16 @@ module _ (d : Device) (ws area : List ℕ) (qs : ℕ → List ℕ) (fits : Fits 
       rw e (take-done i e s bytes (made .0) (made .1) (q .1 .1 .0) asked x)))
 
   every-call : (o : Op) → Like id (lent o) (runAs d ws area qs id o) ((stepAt st (placeOf (d .settings) id) o) .0) ((stepAt st (placeOf (d .settings) id) o) .1)
-  unfolding order startChange stopChange writeNote receiveReceipt suspendChange resumeChange makeChange
+  unfolding order startBy stopBy writeBy receiveBy suspendChange resumeChange makeChange
   every-call (start x) =
-      at-place (start x) (Change Started) x (starts area qs x) (startDone d ws x) (λ n i. startedWith n i d ws) (start-refuses x)
+      at-place (start x) (Change Started) x (starts area qs x) (startDone inWords d ws x) (λ n i. startedWith n i d ws) (start-refuses x)
       (λ i e s q. let p = startOrder-passed (d .settings) (seenIn d (length ws) (some i)) x q in start-done i e s x p (not-on (controllerAt d (some i) .tracking) (p .untracked)))
   every-call stop =
-      at-place stop (Change Changed) [] (stops area qs) (stopDone d ws) (λ n i. changed n d ws) (λ v a. (refl, (refl, (refl, (refl, tt))))) (λ i e s q. let o = is-on (controllerAt d (some i) .tracking) (q .1 .1 .1 .0) in stop-done i e s (o .0) (o .1) (o .2))
+      at-place stop (Change Changed) [] (stops area qs) (stopDone inWords d ws) (λ n i. changed n d ws) (λ v a. (refl, (refl, (refl, (refl, tt))))) (λ i e s q. let o = is-on (controllerAt d (some i) .tracking) (q .1 .1 .1 .0) in stop-done i e s (o .0) (o .1) (o .2))
   every-call (write w) =
-      at-place (write w) Note [] (notes d area qs) (writeDone d ws w) (λ n i. noted n 0 ws) (λ v a. (refl, (refl, (refl, (refl, tt))))) (λ i e s q. write-done i e s w)
+      at-place (write w) Note [] (notes d area qs) (writeDone inWords d ws w) (λ n i. noted n 0 ws) (λ v a. (refl, (refl, (refl, (refl, tt))))) (λ i e s q. write-done i e s w)
   every-call (receive x) =
-      at-place (receive x) Receipt x (receipts d area qs) (receiveDone d ws id x) (λ n i. received n noReport ws x) (λ v a. (refl, (refl, (refl, (refl, tt)))))
+      at-place (receive x) Receipt x (receipts d area qs) (receiveDone inWords d ws id x) (λ n i. received n noReport ws x) (λ v a. (refl, (refl, (refl, (refl, tt)))))
       (λ i e s q. receive-done i e s x (q .1 .1 .0))
   every-call (suspend kind) =
       at-place (suspend kind) Changed [] (flags ws area qs) (λ p. flagDone d p (controllerAt d p .suspended || eqb kind 1)) (λ n i. record { number = n; device = d })

@@ -15,7 +15,7 @@ use Rattle.bits.proofs.Span.{fill-whole}
 use Rattle.rules.specs.Settings.{markWords, settingsOk}
 use Rattle.rules.specs.Device.{freshDevice, closedDevice, freshOf}
 use Rattle.rules.specs.declared.Settings.{Settings}
-use Rattle.calls.specs.Calls.{freshChange, changed}
+use Rattle.calls.specs.Calls.{Engine, freshBy, changed}
 
 -- ---- settings with zeros from a place on
 
@@ -58,14 +58,14 @@ clear-words n ws ws′ e h f =
 
 -- ---- what fresh answers, by case
 
-pub fresh-settings : (s : Settings) (ws : List ℕ) → settingsOk s ≡ false → freshChange s ws ≡ changed 16 closedDevice ws
-unfolding freshChange freshOf
-fresh-settings s ws e = rw e
+pub fresh-settings : (en : Engine) (s : Settings) (ws : List ℕ) → settingsOk s ≡ false → freshBy en s ws ≡ changed 16 closedDevice ws
+unfolding freshBy freshOf
+fresh-settings en s ws e = rw e
 
-pub fresh-words : (s : Settings) (ws : List ℕ) → settingsOk s ≡ true → (length ws ≡ markWords → ⊥) → freshChange s ws ≡ changed 1 closedDevice ws
-unfolding freshChange freshOf
-fresh-words s ws e h = rw (e, ne-eqb (length ws) markWords h)
+pub fresh-words : (en : Engine) (s : Settings) (ws : List ℕ) → settingsOk s ≡ true → (en .words ws ≡ markWords → ⊥) → freshBy en s ws ≡ changed 1 closedDevice ws
+unfolding freshBy freshOf
+fresh-words en s ws e h = rw (e, ne-eqb (en .words ws) markWords h)
 
-pub fresh-done : (s : Settings) (ws : List ℕ) → settingsOk s ≡ true → length ws ≡ markWords → freshChange s ws ≡ changed 0 (freshDevice s) (replicate (length ws) 0)
-unfolding freshChange freshOf
-fresh-done s ws e h = rw (e, eq-eqb (length ws) markWords h)
+pub fresh-done : (en : Engine) (s : Settings) (ws : List ℕ) → settingsOk s ≡ true → en .words ws ≡ markWords → freshBy en s ws ≡ changed 0 (freshDevice s) (en .emptied ws)
+unfolding freshBy freshOf
+fresh-done en s ws e h = rw (e, eq-eqb (en .words ws) markWords h)

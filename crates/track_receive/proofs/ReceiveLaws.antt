@@ -1,7 +1,7 @@
 -- What a receive answers, case by case of its table; what its loop lists and its header say together is the report. Assumes nothing.
 use mathlib.Core.Path.{_≡_, sym, ap, ap₂, _∙_}
 use mathlib.Core.Bool.{Bool, false}
-use mathlib.Core.List.{List}
+use mathlib.Core.List.{List, map}
 use Prim.Native.Nat.{ℕ, _≤_, _<_}
 use native.Mathlib.Omega.{arith}
 use lib.ListN.{length, getD, take, drop, length-take, length-map}
@@ -9,11 +9,12 @@ use borrow.Author.Tests.{le-leb, lt-leb}
 use Rattle.bits.specs.Flat.{flat, Words}
 use Rattle.bits.specs.Share.{getShare, putShare}
 use Rattle.bits.proofs.Pack.{pack-only}
-use Rattle.little.specs.Little.{put}
+use Rattle.little.specs.Little.{put, records}
 use Rattle.report_data.proofs.Blocks.{report-done}
+use Rattle.rules.specs.Lists.{nonEmpty}
 use Rattle.rules.specs.Settings.{placeOf}
 use Rattle.rules.specs.Units.{Unit, units, pending}
-use Rattle.rules.specs.Report.{runs, Report, descriptor, room, reportOn, reportHeader, reportedRuns, marksLeft}
+use Rattle.rules.specs.Report.{runs, Report, descriptor, descriptorBytes, room, reportOn, reportHeader, reportedRuns, laterRuns, marksLeft}
 use Rattle.rules.specs.Order.{receiveOrder}
 use Rattle.rules.specs.Machine.{noReport}
 use Rattle.rules.specs.declared.Device.{Device}
@@ -23,7 +24,7 @@ use Rattle.rules.proofs.RunLaws.{runs-length-le, pending-length-le}
 use Rattle.record.specs.Record.{noController, whereIs, seenIn}
 use Rattle.record.specs.declared.Place.the-variants.{At, Refused}
 use Rattle.record.proofs.RecordLaws.{Located, whereIs-at, whereIs-refused}
-use Rattle.calls.specs.Calls.{withMarks, marksAt, Receipt, received, reportIn, receiveDone, receiveReceipt}
+use Rattle.calls.specs.Calls.{Engine, inWords, withMarks, Receipt, received, reportIn, receiveDone, receiveBy}
 use Rattle.scan.specs.Scan.{Lists}
 use Rattle.calls.specs.declared.Received.{Received}
 
@@ -46,30 +47,30 @@ lists-few g rs l base x room count more l′ x′ s =
 
 -- ---- the cases
 
-module _ (d : Device) (ws : List ℕ) (id : ℕ) (x : List ℕ) where
-  pub receive-refused : (n : ℕ) → whereIs d (length ws) id ≡ Refused n → receiveReceipt d ws id x ≡ received n noReport ws x
-  unfolding receiveReceipt
+module _ (en : Engine) (d : Device) (ws : List ℕ) (id : ℕ) (x : List ℕ) where
+  pub receive-refused : (n : ℕ) → whereIs d (en .words ws) id ≡ Refused n → receiveBy en d ws id x ≡ received n noReport ws x
+  unfolding receiveBy
   receive-refused n e =
-      whereIs-refused d (length ws) id n e (drop 2 (receiveOrder (seenIn d (length ws) (placeOf (d .settings) id)) x)) (receiveDone d ws id x (placeOf (d .settings) id)) (λ n i. received n noReport ws x)
+      whereIs-refused d (en .words ws) id n e (drop 2 (receiveOrder (seenIn d (en .words ws) (placeOf (d .settings) id)) x)) (receiveDone en d ws id x (placeOf (d .settings) id)) (λ n i. received n noReport ws x)
 
-  module _ (i : ℕ) (e : whereIs d (length ws) id ≡ At i) where
-    l : Located d (length ws) id i
-    l = whereIs-at d (length ws) id i e
+  module _ (i : ℕ) (e : whereIs d (en .words ws) id ≡ At i) where
+    l : Located d (en .words ws) id i
+    l = whereIs-at d (en .words ws) id i e
 
-    pub receive-off : getD (d .controllers) i noController .tracking ≡ Off → receiveReceipt d ws id x ≡ received 5 noReport ws x
-    unfolding receiveReceipt
+    pub receive-off : getD (d .controllers) i noController .tracking ≡ Off → receiveBy en d ws id x ≡ received 5 noReport ws x
+    unfolding receiveBy
     receive-off t = rw (l .place, l .seen, t)
 
     module _ (g n : ℕ) (t : getD (d .controllers) i noController .tracking ≡ On g n) where
-      pub receive-short : length x < 32 → receiveReceipt d ws id x ≡ received 8 noReport ws x
-      unfolding receiveReceipt
+      pub receive-short : length x < 32 → receiveBy en d ws id x ≡ received 8 noReport ws x
+      unfolding receiveBy
       receive-short h = rw (l .place, l .seen, t, lt-leb 32 (length x) h)
 
       abbrev us : List Unit
       us = units g (take n (getD (d .controllers) i noController .ranges))
 
       abbrev p : List Bool
-      p = marksAt ws (getD (d .controllers) i noController .base) (length us)
+      p = en .marks ws (getD (d .controllers) i noController .base) (length us)
 
       abbrev b : Bool
       b = getD (d .controllers) i noController .suspended
@@ -77,20 +78,27 @@ module _ (d : Device) (ws : List ℕ) (id : ℕ) (x : List ℕ) where
       abbrev k : ℕ
       k = room (length x)
 
-      receive-on : 32 ≤ length x → receiveReceipt d ws id x ≡ reportIn ws (getD (d .controllers) i noController .base) id b g us p x
-      unfolding receiveReceipt
+      receive-on : 32 ≤ length x → receiveBy en d ws id x ≡ reportIn en ws (getD (d .controllers) i noController .base) id b g us x
+      unfolding receiveBy
       receive-on h = rw (l .place, l .seen, t, le-leb 32 (length x) h)
 
       -- what is listed, with the header, is the report
       pub receive-done : 32 ≤ length x → (ws′ x′ x″ : List ℕ) (runs : ℕ) (more : Bool)
-          → Lists g (take n (getD (d .controllers) i noController .ranges)) (flat ws) (getD (d .controllers) i noController .base) x k runs more (flat ws′) x′
-          → Words ws′ → length ws′ ≡ length ws → x″ ≡ put x′ 0 (reportHeader id b more runs g)
-          → Receives (receiveReceipt d ws id x) (record { number = 0; suspended = b; more = more; granularity = g; runs = runs }) ws′ x″
-      unfolding withMarks
-      receive-done h ws′ x′ x″ runs more s f m q =
+          → runs ≡ length (reportedRuns k us p) → more ≡ nonEmpty (laterRuns k us p) → ws′ ≡ en .reported ws (getD (d .controllers) i noController .base) k us
+          → x′ ≡ put x 16 (records descriptorBytes (map descriptor (reportedRuns k us p))) → x″ ≡ put x′ 0 (reportHeader id b more runs g)
+          → Receives (receiveBy en d ws id x) (record { number = 0; suspended = b; more = more; granularity = g; runs = runs }) ws′ x″
+      receive-done h ws′ x′ x″ runs more count-is more-is marks-are bytes-are q =
           let r : Report = reportOn b g k us p in
-          let c : runs ≡ length (r .descriptors) = s .count-is ∙ sym (length-map (reportedRuns k us p) descriptor) in (
-            ap₂ (λ a z. record { number = 0; suspended = b; more = a; granularity = g; runs = z }) (s .more-is) c ∙ sym (ap (λ (y : Receipt). y .answer) (receive-on h)),
-            pack-only (length ws) ws′ (putShare (flat ws) (getD (d .controllers) i noController .base) (marksLeft k us p)) m f (s .bits-are) ∙ sym (ap (λ (y : Receipt). y .marks) (receive-on h)),
-            report-done id r x x′ x″ runs c (s .bytes-are) (q ∙ ap (λ a. put x′ 0 (reportHeader id b a runs g)) (s .more-is)) ∙ sym (ap (λ (y : Receipt). y .buffer) (receive-on h)),
+          let c : runs ≡ length (r .descriptors) = count-is ∙ sym (length-map (reportedRuns k us p) descriptor) in (
+            ap₂ (λ a z. record { number = 0; suspended = b; more = a; granularity = g; runs = z }) more-is c ∙ sym (ap (λ (y : Receipt). y .answer) (receive-on h)),
+            marks-are ∙ sym (ap (λ (y : Receipt). y .marks) (receive-on h)),
+            report-done id r x x′ x″ runs c bytes-are (q ∙ ap (λ a. put x′ 0 (reportHeader id b a runs g)) more-is) ∙ sym (ap (λ (y : Receipt). y .buffer) (receive-on h)),
           )
+
+-- ---- in words
+
+pub lists-words : (g : ℕ) (rs : List Range) (ws : List ℕ) (base : ℕ) (x : List ℕ) (room count : ℕ) (more : Bool) (ws′ x′ : List ℕ)
+    → Lists g rs (flat ws) base x room count more (flat ws′) x′ → Words ws′ → length ws′ ≡ length ws → ws′ ≡ inWords .reported ws base room (units g rs)
+unfolding withMarks
+lists-words g rs ws base x room count more ws′ x′ s f m =
+    pack-only (length ws) ws′ (putShare (flat ws) base (marksLeft room (units g rs) (getShare (flat ws) base (length (units g rs))))) m f (s .bits-are)

@@ -32,7 +32,7 @@ use Rattle.record.proofs.RecordLaws.{Located, whereIs-at, whereIs-refused}
 use Rattle.ranges.proofs.RangeLaws.{listTests-numbers}
 use Rattle.start_data.specs.Answer.{headerSays}
 use Rattle.start_data.proofs.Answers.{headerOf-is, HeaderIs, headerOf-refused, HeaderRefused, noHeader, otherVersion}
-use Rattle.calls.specs.Calls.{startedWith, basesOf, sizesOf, packedDevice, packedWords, startDone, startChange}
+use Rattle.calls.specs.Calls.{Engine, startBy, startedWith, basesOf, sizesOf, packedDevice, startDone}
 use Rattle.track_send.specs.Inner.{tracking}
 
 -- the tests of a start after those of its header: 7, 8 (listed ranges), 18 to 21, 10, 11 and 12
@@ -154,31 +154,31 @@ module _ (s : Settings) (counts held : ℕ) (x : List ℕ) (g n : ℕ) (e : head
 
 -- ---- the start
 
-module _ (d : Device) (ws : List ℕ) (id : ℕ) (x : List ℕ) where
-  pub start-refused : (n : ℕ) → whereIs d (length ws) id ≡ Refused n → startChange d ws id x ≡ startedWith n 0 d ws
-  unfolding startChange
+module _ (en : Engine) (d : Device) (ws : List ℕ) (id : ℕ) (x : List ℕ) where
+  pub start-refused : (n : ℕ) → whereIs d (en .words ws) id ≡ Refused n → startBy en d ws id x ≡ startedWith n 0 d ws
+  unfolding startBy
   start-refused n e =
-      whereIs-refused d (length ws) id n e (drop 2 (startOrder (d .settings) (seenIn d (length ws) (placeOf (d .settings) id)) x)) (startDone d ws x (placeOf (d .settings) id)) (λ n i. startedWith n i d ws)
+      whereIs-refused d (en .words ws) id n e (drop 2 (startOrder (d .settings) (seenIn d (en .words ws) (placeOf (d .settings) id)) x)) (startDone en d ws x (placeOf (d .settings) id)) (λ n i. startedWith n i d ws)
 
-  module _ (i : ℕ) (e : whereIs d (length ws) id ≡ At i) where
-    l : Located d (length ws) id i
-    l = whereIs-at d (length ws) id i e
+  module _ (i : ℕ) (e : whereIs d (en .words ws) id ≡ At i) where
+    l : Located d (en .words ws) id i
+    l = whereIs-at d (en .words ws) id i e
 
-    pub start-suspended : getD (d .controllers) i noController .suspended ≡ true → startChange d ws id x ≡ startedWith 4 0 d ws
-    unfolding startChange
+    pub start-suspended : getD (d .controllers) i noController .suspended ≡ true → startBy en d ws id x ≡ startedWith 4 0 d ws
+    unfolding startBy
     start-suspended f = rw (l .place, l .seen, f)
 
     module _ (f : getD (d .controllers) i noController .suspended ≡ false) where
-      pub start-tracked : (g n : ℕ) → getD (d .controllers) i noController .tracking ≡ On g n → startChange d ws id x ≡ startedWith 3 0 d ws
-      unfolding startChange
+      pub start-tracked : (g n : ℕ) → getD (d .controllers) i noController .tracking ≡ On g n → startBy en d ws id x ≡ startedWith 3 0 d ws
+      unfolding startBy
       start-tracked g n t = rw (l .place, l .seen, f, t)
 
       module _ (t : getD (d .controllers) i noController .tracking ≡ Off) where
-        pub start-header : (k m at : ℕ) → headerOf x ≡ header.Refused k at → m ≡ headerSays (headerOf x) .number → startChange d ws id x ≡ startedWith m 0 d ws
-        unfolding startChange
+        pub start-header : (k m at : ℕ) → headerOf x ≡ header.Refused k at → m ≡ headerSays (headerOf x) .number → startBy en d ws id x ≡ startedWith m 0 d ws
+        unfolding startBy
         start-header k m at q r = go k at (headerOf-refused x k at q) ∙ ap (λ n. startedWith n 0 d ws) (sym (r ∙ ap (λ h. headerSays h .number) q))
           where
-            go : (k at : ℕ) → HeaderRefused x k at → startChange d ws id x ≡ startedWith k 0 d ws
+            go : (k at : ℕ) → HeaderRefused x k at → startBy en d ws id x ≡ startedWith k 0 d ws
             go k at (noHeader a) = rw (l .place, l .seen, f, t, a)
             go k at (otherVersion a b) = rw (l .place, l .seen, f, t, a, b)
 
@@ -186,20 +186,20 @@ module _ (d : Device) (ws : List ℕ) (id : ℕ) (x : List ℕ) where
           abbrev tests : List Test
           tests = listedTests (d .settings) (countsOf d) (unitsOf d) x
 
-          to-list : startChange d ws id x ≡ verdict tests (startDone d ws x (some i)) (λ k j. startedWith k j d ws)
-          unfolding startChange
+          to-list : startBy en d ws id x ≡ verdict tests (startDone en d ws x (some i)) (λ k j. startedWith k j d ws)
+          unfolding startBy
           to-list = let p = headerOf-is x g n q in rw (l .place, l .seen, f, t, p .there, p .version)
 
-          pub start-listed : (r : Refusal) → r ≡ refusalAt tests → r .number ≢ 0 → startChange d ws id x ≡ startedWith (r .number) (r .row) d ws
+          pub start-listed : (r : Refusal) → r ≡ refusalAt tests → r .number ≢ 0 → startBy en d ws id x ≡ startedWith (r .number) (r .row) d ws
           start-listed r a b =
               let is : r ≡ record { number = refusal tests; row = placeIn tests } = a ∙ refusalAt-is tests in
-              to-list ∙ verdict-refused tests (startDone d ws x (some i)) (λ k j. startedWith k j d ws) (λ z. b (ap (λ (q : Refusal). q .number) is ∙ z))
+              to-list ∙ verdict-refused tests (startDone en d ws x (some i)) (λ k j. startedWith k j d ws) (λ z. b (ap (λ (q : Refusal). q .number) is ∙ z))
               ∙ ap (λ (q : Refusal). startedWith (q .number) (q .row) d ws) (sym is)
 
           pub start-done : (r : Refusal) → r ≡ refusalAt tests → r .number ≡ 0
               → let y = tracking d i g n (placed (recordsAt rangeAt 12 x 8 n)) in
-              startChange d ws id x ≡ startedWith 0 0 (packedDevice y) (packedWords ws (basesOf d) (sizesOf y) i)
+              startBy en d ws id x ≡ startedWith 0 0 (packedDevice y) (en .packed ws (basesOf d) (sizesOf y) i)
           unfolding rangesOf
           start-done r a b =
               let p = headerOf-is x g n q in
-              to-list ∙ verdict-passed tests (startDone d ws x (some i)) (λ k j. startedWith k j d ws) (listed-all (d .settings) (countsOf d) (unitsOf d) x g n q r a b) ∙ rw (f, p .granularity, p .count)
+              to-list ∙ verdict-passed tests (startDone en d ws x (some i)) (λ k j. startedWith k j d ws) (listed-all (d .settings) (countsOf d) (unitsOf d) x g n q r a b) ∙ rw (f, p .granularity, p .count)

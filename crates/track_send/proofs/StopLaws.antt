@@ -15,37 +15,37 @@ use Rattle.rules.specs.declared.Tracking.the-variants.{Off, On}
 use Rattle.record.specs.Record.{noController, withController, whereIs, seenIn}
 use Rattle.record.specs.declared.Place.the-variants.{At, Refused}
 use Rattle.record.proofs.RecordLaws.{Located, whereIs-at, whereIs-refused}
-use Rattle.calls.specs.Calls.{changed, withClear, stopped, stopDone, stopChange}
+use Rattle.calls.specs.Calls.{Engine, stopBy, changed, withClear, stopped, stopDone}
 
 -- words that have a share clear
 pub cleared : (ws ws′ : List ℕ) (base size : ℕ) → length ws′ ≡ length ws → Words ws′ → flat ws′ ≡ fill false (flat ws) base size → ws′ ≡ withClear ws base size
 unfolding withClear
 cleared ws ws′ base size n h e = pack-only (length ws) ws′ (fill false (flat ws) base size) n h e
 
-module _ (d : Device) (id : ℕ) where
+module _ (en : Engine) (d : Device) (id : ℕ) where
   -- ---- stop
 
   module _ (ws : List ℕ) where
-    pub stop-refused : (n : ℕ) → whereIs d (length ws) id ≡ Refused n → stopChange d ws id ≡ changed n d ws
-    unfolding stopChange
+    pub stop-refused : (n : ℕ) → whereIs d (en .words ws) id ≡ Refused n → stopBy en d ws id ≡ changed n d ws
+    unfolding stopBy
     stop-refused n e =
-        whereIs-refused d (length ws) id n e (drop 2 (stopOrder (seenIn d (length ws) (placeOf (d .settings) id)))) (stopDone d ws (placeOf (d .settings) id)) (λ n i. changed n d ws)
+        whereIs-refused d (en .words ws) id n e (drop 2 (stopOrder (seenIn d (en .words ws) (placeOf (d .settings) id)))) (stopDone en d ws (placeOf (d .settings) id)) (λ n i. changed n d ws)
 
-    module _ (i : ℕ) (e : whereIs d (length ws) id ≡ At i) where
-      l : Located d (length ws) id i
-      l = whereIs-at d (length ws) id i e
+    module _ (i : ℕ) (e : whereIs d (en .words ws) id ≡ At i) where
+      l : Located d (en .words ws) id i
+      l = whereIs-at d (en .words ws) id i e
 
-      pub stop-suspended : getD (d .controllers) i noController .suspended ≡ true → stopChange d ws id ≡ changed 4 d ws
-      unfolding stopChange
+      pub stop-suspended : getD (d .controllers) i noController .suspended ≡ true → stopBy en d ws id ≡ changed 4 d ws
+      unfolding stopBy
       stop-suspended f = rw (l .place, l .seen, f)
 
-      pub stop-off : getD (d .controllers) i noController .suspended ≡ false → getD (d .controllers) i noController .tracking ≡ Off → stopChange d ws id ≡ changed 5 d ws
-      unfolding stopChange
+      pub stop-off : getD (d .controllers) i noController .suspended ≡ false → getD (d .controllers) i noController .tracking ≡ Off → stopBy en d ws id ≡ changed 5 d ws
+      unfolding stopBy
       stop-off f t = rw (l .place, l .seen, f, t)
 
       pub stop-done : (g n : ℕ) → getD (d .controllers) i noController .suspended ≡ false → getD (d .controllers) i noController .tracking ≡ On g n
           → let c = getD (d .controllers) i noController in
-          stopChange d ws id
-          ≡ changed 0 (withController d i (record { tracking = Off; base = 0; suspended = false; ranges = stopped noController .ranges; queue = c .queue })) (withClear ws (c .base) (length (units g (take n (c .ranges)))))
-      unfolding stopChange
+          stopBy en d ws id
+          ≡ changed 0 (withController d i (record { tracking = Off; base = 0; suspended = false; ranges = stopped noController .ranges; queue = c .queue })) (en .cleared ws (c .base) (length (units g (take n (c .ranges)))))
+      unfolding stopBy
       stop-done g n f t = rw (l .place, l .seen, f, t)

@@ -31,7 +31,7 @@ use Rattle.record.specs.Record.{soundWith, controllerAt, seenIn}
 use Rattle.calls.specs.declared.Written.{Written}
 use Rattle.calls.specs.declared.WriteRecord.{WriteRecord}
 use Rattle.calls.specs.declared.Batched.{Batched}
-use Rattle.calls.specs.Calls.{Change, marksAt, Note, noted, noteIn, writeDone, writeNote, writeIn, batched, notesFrom, batchChange}
+use Rattle.calls.specs.Calls.{batchBy, inWords, writeBy, Change, marksAt, Note, noted, noteIn, writeDone, writeNote, writeIn, batched, notesFrom, batchChange}
 use Rattle.writes.specs.Inner.{beginOf, isDue, tallyOf}
 use Rattle.writes.proofs.BatchLaws.{due-left, due-cut, due-is, tally-cut, tally-done}
 
@@ -51,17 +51,17 @@ unfolding getShare
 marks-most ws base n = omega (arith, length-take n (drop base (flat ws)), length-drop base (flat ws), flat-length ws)
 
 note-most : (d : Device) (ws : List ℕ) (id : ℕ) (w : Write) → writeNote d ws id w .answer .count ≤ 64 * length ws
-unfolding writeNote
+unfolding writeBy
 note-most d ws id w =
     verdict-has (λ (n : Note). n .answer .count ≤ 64 * length ws) (λ n i. noted n 0 ws) (λ n i. omega arith)
-    (writeOrder (seenIn d (length ws) (placeOf (d .settings) id)) w) (writeDone d ws w (placeOf (d .settings) id)) (λ p. done (placeOf (d .settings) id))
+    (writeOrder (seenIn d (length ws) (placeOf (d .settings) id)) w) (writeDone inWords d ws w (placeOf (d .settings) id)) (λ p. done (placeOf (d .settings) id))
   where
-    in-share : (base : ℕ) (t : Tracking) (rs : List Range) → noteIn ws base t rs w .answer .count ≤ 64 * length ws
+    in-share : (base : ℕ) (t : Tracking) (rs : List Range) → noteIn inWords ws base t rs w .answer .count ≤ 64 * length ws
     in-share base Off rs = omega arith
     in-share base (On g n) rs =
         omega (arith, newly-most w (units g (take n rs)) (marksAt ws base (length (units g (take n rs)))), marks-most ws base (length (units g (take n rs))))
 
-    done : (p : Option ℕ) → writeDone d ws w p .answer .count ≤ 64 * length ws
+    done : (p : Option ℕ) → writeDone inWords d ws w p .answer .count ≤ 64 * length ws
     done none = omega arith
     done (some i) = in-share (controllerAt d (some i) .base) (controllerAt d (some i) .tracking) (controllerAt d (some i) .ranges)
 
@@ -74,7 +74,7 @@ module _ (d : Device) (m₀ : List ℕ) (rs : List WriteRecord) where
   n = length rs
 
   abbrev pub left : Batched → List ℕ → Change Batched
-  left b m = cond (isDue b n) (notesFrom d m (b .done) (b .count) (drop (b .done) rs)) (record { answer = b; marks = m })
+  left b m = cond (isDue b n) (notesFrom inWords d m (b .done) (b .count) (drop (b .done) rs)) (record { answer = b; marks = m })
 
   abbrev pub μ : Batched → ℕ
   μ b = cond (isDue b n) (n - b .done) 0
@@ -85,19 +85,19 @@ module _ (d : Device) (m₀ : List ℕ) (rs : List WriteRecord) where
     pub inv : left b m ≡ batchChange d m₀ rs
 
   -- k notes are done and none was refused: those that are left give the answer, also where none is
-  go-at : (m : List ℕ) (k c : ℕ) → k ≤ n → cond (ltb k n) (notesFrom d m k c (drop k rs)) (batched 0 k c 0 m) ≡ notesFrom d m k c (drop k rs)
+  go-at : (m : List ℕ) (k c : ℕ) → k ≤ n → cond (ltb k n) (notesFrom inWords d m k c (drop k rs)) (batched 0 k c 0 m) ≡ notesFrom inWords d m k c (drop k rs)
   go-at m k c le = go (ltb k n) refl
     where
-      go : (b : Bool) → ltb k n ≡ b → cond b (notesFrom d m k c (drop k rs)) (batched 0 k c 0 m) ≡ notesFrom d m k c (drop k rs)
+      go : (b : Bool) → ltb k n ≡ b → cond b (notesFrom inWords d m k c (drop k rs)) (batched 0 k c 0 m) ≡ notesFrom inWords d m k c (drop k rs)
       go true e = refl
       go false e =
           let z : k ≡ n = omega (arith, ltb-false k n e) in
-          sym (ap (λ (l : List WriteRecord). notesFrom d m k c l) (ap (λ (j : ℕ). drop j rs) z ∙ drop-length rs))
+          sym (ap (λ (l : List WriteRecord). notesFrom inWords d m k c l) (ap (λ (j : ℕ). drop j rs) z ∙ drop-length rs))
 
   -- ---- the loop begins
 
   starts-inv : left (beginOf d (length m₀) n) m₀ ≡ batchChange d m₀ rs
-  unfolding beginOf batchChange isDue
+  unfolding beginOf batchBy isDue
   starts-inv = go (soundWith d (length m₀)) (leb n mostNotes) refl refl
     where
       go : (a b : Bool) → soundWith d (length m₀) ≡ a → leb n mostNotes ≡ b → left (beginOf d (length m₀) n) m₀ ≡ batchChange d m₀ rs
@@ -141,7 +141,7 @@ module _ (d : Device) (m₀ : List ℕ) (rs : List WriteRecord) where
     few = omega (arith, note-most d m (elem .id) (writeIn elem), words)
 
     -- what is left, the record apart
-    before : left b m ≡ cond (eqb (note .answer .number) 0) (notesFrom d (note .marks) (b .done + 1) (b .count + note .answer .count) (drop (b .done + 1) rs))
+    before : left b m ≡ cond (eqb (note .answer .number) 0) (notesFrom inWords d (note .marks) (b .done + 1) (b .count + note .answer .count) (drop (b .done + 1) rs))
         (batched 0 (b .done) (b .count) (note .answer .number) (note .marks))
     before = rw (on, cons-at)
       where
@@ -156,7 +156,7 @@ module _ (d : Device) (m₀ : List ℕ) (rs : List WriteRecord) where
       done-due = sym (due-left next n (is .0) (is .1))
 
       abbrev rest : Change Batched
-      rest = notesFrom d (note .marks) (b .done + 1) (b .count + note .answer .count) (drop (b .done + 1) rs)
+      rest = notesFrom inWords d (note .marks) (b .done + 1) (b .count + note .answer .count) (drop (b .done + 1) rs)
 
       after : left next (note .marks) ≡ rest
       after = rw (done-due, is .0, is .1) (go-at (note .marks) (b .done + 1) (b .count + note .answer .count) (omega (arith, is .2)))
@@ -187,7 +187,7 @@ module _ (d : Device) (m₀ : List ℕ) (rs : List WriteRecord) where
       stays : left cut (note .marks) ≡ ended
       stays = rw (cut-due, is .0)
 
-      so-cut : cond (eqb (note .answer .number) 0) (notesFrom d (note .marks) (b .done + 1) (b .count + note .answer .count) (drop (b .done + 1) rs)) ended ≡ ended
+      so-cut : cond (eqb (note .answer .number) 0) (notesFrom inWords d (note .marks) (b .done + 1) (b .count + note .answer .count) (drop (b .done + 1) rs)) ended ≡ ended
       so-cut = rw (ne-eqb (note .answer .number) 0 e)
 
       cut-inv : left cut (note .marks) ≡ batchChange d m₀ rs
@@ -230,4 +230,4 @@ module _ (d : Device) (m₀ : List ℕ) (rs : List WriteRecord) where
   stopped b m off f = (ap (λ (c : Change Batched). c .answer) e, ap (λ (c : Change Batched). c .marks) e)
     where
       e : record { answer = b; marks = m } ≡ batchChange d m₀ rs
-      e = sym (ap (λ (y : Bool). cond y (notesFrom d m (b .done) (b .count) (drop (b .done) rs)) (record { answer = b; marks = m })) off) ∙ f .inv
+      e = sym (ap (λ (y : Bool). cond y (notesFrom inWords d m (b .done) (b .count) (drop (b .done) rs)) (record { answer = b; marks = m })) off) ∙ f .inv

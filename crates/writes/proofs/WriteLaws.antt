@@ -34,7 +34,7 @@ use Rattle.settings.specs.Found.{foundAt}
 use Rattle.settings.specs.declared.Found.the-variants as found
 use Rattle.record.specs.declared.Place.the-variants.{At, Refused}
 use Rattle.record.proofs.RecordLaws.{whereIs-at, whereIs-refused}
-use Rattle.calls.specs.Calls.{Note, withMarks, marksAt, noted, noteIn, writeDone, writeNote}
+use Rattle.calls.specs.Calls.{inWords, writeBy, Note, withMarks, marksAt, noted, noteIn, writeDone, writeNote}
 use Rattle.calls.proofs.PlaceLaws.{held-at, share-within}
 use Rattle.writes.specs.declared.Single.{Single}
 use Rattle.writes.specs.Inner.{Lies, MayNote, noteTests, noteOn, isOne, Fronts, alone}
@@ -184,15 +184,15 @@ module _ (c : Controller) (s : Single) (f : Fronts s c) (o : isOne (s .tracking)
   pub one-note : (ws : List ℕ) (base : ℕ) (w : Write) → noteOn c ws base w ≡ noteOn (alone s) ws base w
   unfolding noteOn
   one-note ws base w =
-      ap (λ (x : Single). verdict (noteTests (x .suspended) w) (noteIn ws base (x .tracking) (c .ranges) w) (λ n i. noted n 0 ws)) (sym (f .0)) ∙ go (s .tracking) o
+      ap (λ (x : Single). verdict (noteTests (x .suspended) w) (noteIn inWords ws base (x .tracking) (c .ranges) w) (λ n i. noted n 0 ws)) (sym (f .0)) ∙ go (s .tracking) o
     where
       markedIn : ℕ → List Range → Note
       markedIn g rs =
           noted 0 (newly w (units g rs) (marksAt ws base (length (units g rs)))) (withMarks ws base (mark w (units g rs) (marksAt ws base (length (units g rs)))))
 
       go : (t : Tracking) → isOne t ≡ true
-          → verdict (noteTests (s .suspended) w) (noteIn ws base t (c .ranges) w) (λ n i. noted n 0 ws)
-          ≡ verdict (noteTests (s .suspended) w) (noteIn ws base t (s .first ∷ []) w) (λ n i. noted n 0 ws)
+          → verdict (noteTests (s .suspended) w) (noteIn inWords ws base t (c .ranges) w) (λ n i. noted n 0 ws)
+          ≡ verdict (noteTests (s .suspended) w) (noteIn inWords ws base t (s .first ∷ []) w) (λ n i. noted n 0 ws)
       go Off o = refl
       go (On g n) o =
           ap (λ (rs : List Range). verdict (noteTests (s .suspended) w) (markedIn g rs) (λ n i. noted n 0 ws)) (same n (eqb-true n 1 o))
@@ -231,14 +231,14 @@ same-base s t e = ap (λ (x : Single). x .base) e
 module _ (d : Device) (ws : List ℕ) (id : ℕ) where
   -- where there is none
   pub write-refused : (w : Write) (n : ℕ) → whereIs d (length ws) id ≡ Refused n → writeNote d ws id w ≡ noted n 0 ws
-  unfolding writeNote
+  unfolding writeBy
   write-refused w n e =
-      whereIs-refused d (length ws) id n e (drop 2 (writeOrder (seenIn d (length ws) (placeOf (d .settings) id)) w)) (writeDone d ws w (placeOf (d .settings) id)) (λ n i. noted n 0 ws)
+      whereIs-refused d (length ws) id n e (drop 2 (writeOrder (seenIn d (length ws) (placeOf (d .settings) id)) w)) (writeDone inWords d ws w (placeOf (d .settings) id)) (λ n i. noted n 0 ws)
 
   -- where it stands at place i, which is known by the number k: its note is the call's
   module _ (i : ℕ) (e : whereIs d (length ws) id ≡ At i) (k : ℕ) (s : i ≡ k) where
     pub write-on : (base : ℕ) → base ≡ getD (d .controllers) i noController .base → (w : Write) → writeNote d ws id w ≡ noteOn (getD (d .controllers) k noController) ws base w
-    unfolding writeNote noteOn
+    unfolding writeBy noteOn
     write-on base b w = let l = whereIs-at d (length ws) id i e in rw (l .place, l .seen, b, sym s)
 
     pub may-note : length (d .controllers) ≡ 8 → 1 ≤ length (getD (d .controllers) i noController .ranges) → (base : ℕ) → base ≡ getD (d .controllers) i noController .base

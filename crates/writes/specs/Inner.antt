@@ -18,7 +18,7 @@ use Rattle.rules.specs.declared.Queue.the-variants as queue
 use Rattle.rules.specs.declared.Controller.{Controller}
 use Rattle.rules.specs.declared.Device.{Device}
 use Rattle.record.specs.Record.{soundWith}
-use Rattle.calls.specs.Calls.{Note, noted, noteIn}
+use Rattle.calls.specs.Calls.{inWords, Note, noted, noteIn}
 use Rattle.calls.specs.declared.Written.{Written}
 use Rattle.calls.specs.declared.Batched.{Batched}
 use Rattle.writes.specs.declared.Single.{Single}
@@ -43,7 +43,7 @@ noteTests suspended w = (not suspended else 4) ∷ (leb (w .address + w .bytes) 
 unfoldable pub noteOn : Controller → List ℕ → ℕ → Write → Note
 noteOn c ws base w =
     verdict (noteTests (c .suspended) w)
-    (noteIn ws base (c .tracking) (c .ranges) w)
+    (noteIn inWords ws base (c .tracking) (c .ranges) w)
     (λ n i. noted n 0 ws)
 
 -- ---- a controller that has one range or is not tracked

@@ -24,7 +24,7 @@ closed-requires c κs = search needs
 
 returns : tie.Need-returns
 returns c =
-    leaves _ _ _ _ _ (fresh-settings _ _ (sym (c .before .before .settings-ok .ensures) ∙ not-true _ (c .before .if1 .taken))) (rw (c .closed .ensures)) refl
+    leaves _ _ _ _ _ (fresh-settings _ _ _ (sym (c .before .before .settings-ok .ensures) ∙ not-true _ (c .before .if1 .taken))) (rw (c .closed .ensures)) refl
 
 closed-requires-2 : tie.Need-closed-requires-2
 closed-requires-2 c κs = search needs
@@ -32,7 +32,7 @@ closed-requires-2 c κs = search needs
 returns-2 : tie.Need-returns-2
 returns-2 c =
     let q = c .before .before in
-    leaves _ _ _ _ _ (fresh-words _ _ (sym (q .before .settings-ok .ensures) ∙ not-false _ (q .if1 .left)) (c .before .if2 .taken)) (rw (c .closed2 .ensures)) refl
+    leaves _ _ _ _ _ (fresh-words _ _ _ (sym (q .before .settings-ok .ensures) ∙ not-false _ (q .if1 .left)) (c .before .if2 .taken)) (rw (c .closed2 .ensures)) refl
 
 mul-clear-span : tie.Need-mul-clear-span
 mul-clear-span c = search needs
@@ -56,7 +56,7 @@ returns-3 c =
     let p = c .before .before .before .before .before .before in
     let q = p .before in
     let a = q .before .before .before .args in
-    leaves _ _ _ _ _ (fresh-done (a .s) (now (a .marks)) (sym (q .before .settings-ok .ensures) ∙ not-false _ (q .if1 .left)) (p .if2 .left))
+    leaves _ _ _ _ _ (fresh-done _ (a .s) (now (a .marks)) (sym (q .before .settings-ok .ensures) ∙ not-false _ (q .if1 .left)) (p .if2 .left))
     (rw (c .untracked .ensures, c .before .clean .ensures))
     (clear-words markWords (now (a .marks)) _ (p .if2 .left) (λ i. c .before .before .slice-known2 .given i .fits) (c .before .before .before .before .clear-span .ensures) ∙ rw (p .if2 .left))
 

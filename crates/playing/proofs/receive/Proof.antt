@@ -23,7 +23,7 @@ returns c = search needs
 put-report-requires : tie.Need-put-report-requires
 put-report-requires c κs =
     let r = c .before .before .before .before .before .before .before .before .receive in
-    omega (arith, answer-fits _ _ _ _ _ (r .ensures .0) (c .before .before .if1 .left), r .kept .1)
+    omega (arith, answer-fits _ _ _ _ _ _ (r .ensures .0) (c .before .before .if1 .left), r .kept .1)
 
 same-length-3 : tie.Need-same-length-3
 same-length-3 c = search needs

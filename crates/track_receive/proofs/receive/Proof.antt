@@ -13,8 +13,9 @@ use Rattle.record.specs.declared.Place.the-variants.{At, Refused}
 use Rattle.record.proofs.RecordLaws.{whereIs-at}
 use Rattle.rules.proofs.LoopLaws.{length-mapped}
 use Rattle.ranges.proofs.RangeLaws.{HeldFacts}
+use Rattle.calls.specs.Calls.{inWords}
 use Rattle.calls.proofs.PlaceLaws.{refused-place, held-at, share-within}
-use Rattle.track_receive.proofs.ReceiveLaws.{receives-nothing, receive-refused, receive-off, receive-short, receive-done, lists-few}
+use Rattle.track_receive.proofs.ReceiveLaws.{receives-nothing, receive-refused, receive-off, receive-short, receive-done, lists-few, lists-words}
 use Rattle.track_receive.proofs.receive.Statement.{statement}
 use Rattle.track_receive.proofs.receive.Tie as tie
 
@@ -72,7 +73,7 @@ nothing-requires : tie.Need-nothing-requires
 nothing-requires c κs = search needs
 
 returns : tie.Need-returns
-returns c = receives-nothing _ _ _ _ _ (receive-refused _ _ _ _ _ (refused (c .before))) (c .nothing .ensures)
+returns c = receives-nothing _ _ _ _ _ (receive-refused _ _ _ _ _ _ (refused (c .before))) (c .nothing .ensures)
 
 mul-c : tie.Need-mul-c
 mul-c c = omega (arith, below c)
@@ -90,13 +91,13 @@ nothing-requires-2 : tie.Need-nothing-requires-2
 nothing-requires-2 c κs = search needs
 
 returns-2 : tie.Need-returns-2
-returns-2 c = receives-nothing _ 5 _ _ _ (receive-off _ _ _ _ _ (found (c .before .before .before .before)) (c .before .enum-told2 .given .1)) (c .nothing2 .ensures)
+returns-2 c = receives-nothing _ 5 _ _ _ (receive-off _ _ _ _ _ _ (found (c .before .before .before .before)) (c .before .enum-told2 .given .1)) (c .nothing2 .ensures)
 
 nothing-requires-3 : tie.Need-nothing-requires-3
 nothing-requires-3 c κs = search needs
 
 returns-3 : tie.Need-returns-3
-returns-3 c = receives-nothing _ 8 _ _ _ (receive-short _ _ _ _ _ (found (c .before .before .before .before .before .before)) _ _ (c .before .before .before .t .given .1) (c .before .if1 .taken)) (c .nothing3 .ensures)
+returns-3 c = receives-nothing _ 8 _ _ _ (receive-short _ _ _ _ _ _ (found (c .before .before .before .before .before .before)) _ _ (c .before .before .before .t .given .1) (c .before .if1 .taken)) (c .nothing3 .ensures)
 
 ranges-of-requires : tie.Need-ranges-of-requires
 ranges-of-requires c κs = search needs
@@ -136,7 +137,10 @@ returns-4 c =
     let r = c .before .before .before .before .before .before .before .before .before in
     let h = r .before .before .before .before .before in
     let m = h .before in
-    receive-done _ _ _ _ _ (found (m .before .before .before .before)) _ _ (m .before .t .given .1) (h .if1 .left) _ _ _ _ _ (rw (r .before .before .before .before .ranges-of .ensures .0) at (r .list-runs .ensures)) (λ i. c .before .before .before .before .before .before .before .slice-known3 .given i .fits) (r .list-runs .kept .0) (c .before .before .put-header .ensures)
+    let s = rw (r .before .before .before .before .ranges-of .ensures .0) at (r .list-runs .ensures) in
+    receive-done inWords _ _ _ _ _ (found (m .before .before .before .before)) _ _ (m .before .t .given .1) (h .if1 .left) _ _ _ _ _ (s .count-is) (s .more-is)
+    (lists-words _ _ _ _ _ _ _ _ _ _ s (λ i. c .before .before .before .before .before .before .before .slice-known3 .given i .fits) (r .list-runs .kept .0))
+    (s .bytes-are) (c .before .before .put-header .ensures)
 
 pub receive-spec : {M : Type 1} → statement M
 receive-spec =

@@ -57,7 +57,7 @@ number-of-requires : tie.Need-number-of-requires
 number-of-requires c κs = search needs
 
 returns : tie.Need-returns
-returns c = leaves-unchanged _ _ _ (start-refused _ _ _ _ _ (refused c))
+returns c = leaves-unchanged _ _ _ (start-refused _ _ _ _ _ _ (refused c))
 
 mul-c : tie.Need-mul-c
 mul-c c = omega (arith, below c)
@@ -66,7 +66,7 @@ element-copy-out-c : tie.Need-element-copy-out-c
 element-copy-out-c c = below c
 
 returns-2 : tie.Need-returns-2
-returns-2 c = leaves-unchanged _ _ _ (start-suspended _ _ _ _ _ (found (c .before .before)) (c .if1 .taken))
+returns-2 c = leaves-unchanged _ _ _ (start-suspended _ _ _ _ _ _ (found (c .before .before)) (c .if1 .taken))
 
 enum-told-2 : tie.Need-enum-told-2
 enum-told-2 c = search needs
@@ -75,7 +75,7 @@ enum-told-3 : tie.Need-enum-told-3
 enum-told-3 c = search needs
 
 returns-3 : tie.Need-returns-3
-returns-3 c = leaves-unchanged _ _ _ (start-tracked _ _ _ _ _ (found (c .before .before .before .before)) (c .before .before .if1 .left) _ _ (c .enum-told3 .given .1))
+returns-3 c = leaves-unchanged _ _ _ (start-tracked _ _ _ _ _ _ (found (c .before .before .before .before)) (c .before .before .if1 .left) _ _ (c .enum-told3 .given .1))
 
 read-header-requires : tie.Need-read-header-requires
 read-header-requires c κs = search needs
@@ -92,13 +92,13 @@ header-number-requires c κs = search needs
 returns-4 : tie.Need-returns-4
 returns-4 c =
     let e = sym (c .before .before .before .read-header .ensures .is) in
-    leaves-unchanged _ _ _ (start-header _ _ _ _ _ (found (c .before .before .before .before .before .before .before .before)) (c .before .before .before .before .before .before .if1 .left) (c .before .before .before .before .enum-told2 .given .1) _ _ _ (e ∙ c .before .enum-told4 .given .1) (c .header-number .ensures ∙ ap (λ h. headerSays h .number) (sym e)))
+    leaves-unchanged _ _ _ (start-header _ _ _ _ _ _ (found (c .before .before .before .before .before .before .before .before)) (c .before .before .before .before .before .before .if1 .left) (c .before .before .before .before .enum-told2 .given .1) _ _ _ (e ∙ c .before .enum-told4 .given .1) (c .header-number .ensures ∙ ap (λ h. headerSays h .number) (sym e)))
 
 listed-refusal-requires : tie.Need-listed-refusal-requires
 listed-refusal-requires c κs = (whereIs-at _ _ _ _ (found (c .before .before .before .before .before .before .before .before)) .sound, listed c)
 
 returns-5 : tie.Need-returns-5
-returns-5 c = leaves-unchanged _ _ _ (start-listed _ _ _ _ _ (found (c .before .before .before .before .before .before .before .before .before .before .before)) (c .before .before .before .before .before .before .before .before .before .if1 .left) (c .before .before .before .before .before .before .before .enum-told2 .given .1) _ _ (listed (c .before .before .before)) _ (c .before .before .listed-refusal .ensures) (c .if2 .taken))
+returns-5 c = leaves-unchanged _ _ _ (start-listed _ _ _ _ _ _ (found (c .before .before .before .before .before .before .before .before .before .before .before)) (c .before .before .before .before .before .before .before .before .before .if1 .left) (c .before .before .before .before .before .before .before .enum-told2 .given .1) _ _ (listed (c .before .before .before)) _ (c .before .before .listed-refusal .ensures) (c .if2 .taken))
 
 cast-read-ranges : tie.Need-cast-read-ranges
 cast-read-ranges c = search needs
@@ -138,7 +138,7 @@ returns-6 c =
     let a = c .before .before .before .before .before .before .before .before .before .before .before .before .before .before .before .before .before .before .before .before .before .before .args in
     let l = known e in
     let read = c .before .before .before .before .read-ranges .ensures ∙ rangesRead-there _ _ (l .few) (l .there) in
-    leaves _ _ _ _ _ (start-done (a .t1) (now (a .marks)) (a .id) (now (a .«data»)) _ (found k) (e .before .before .before .before .before .before .before .before .before .if1 .left) (e .before .before .before .before .before .before .before .enum-told2 .given .1) _ _ (listed (e .before .before .before)) _ (e .before .before .listed-refusal .ensures) (e .if2 .left))
+    leaves _ _ _ _ _ (start-done _ (a .t1) (now (a .marks)) (a .id) (now (a .«data»)) _ (found k) (e .before .before .before .before .before .before .before .before .before .if1 .left) (e .before .before .before .before .before .before .before .enum-told2 .given .1) _ _ (listed (e .before .before .before)) _ (e .before .before .listed-refusal .ensures) (e .if2 .left))
     (rw (c .before .before .install .ensures .0, read)) (c .before .before .install .ensures .1 ∙ rw read)
 
 pub start-spec : {M : Type 1} → statement M

@@ -59,7 +59,7 @@ number-of-requires : tie.Need-number-of-requires
 number-of-requires c κs = search needs
 
 returns : tie.Need-returns
-returns c = leaves-unchanged _ _ _ (stop-refused _ _ _ _ (refused c))
+returns c = leaves-unchanged _ _ _ (stop-refused _ _ _ _ _ (refused c))
 
 mul-c : tie.Need-mul-c
 mul-c c = omega (arith, below c)
@@ -68,7 +68,7 @@ element-copy-out-c : tie.Need-element-copy-out-c
 element-copy-out-c c = below c
 
 returns-2 : tie.Need-returns-2
-returns-2 c = leaves-unchanged _ _ _ (stop-suspended _ _ _ _ (found (c .before .before)) (c .if1 .taken))
+returns-2 c = leaves-unchanged _ _ _ (stop-suspended _ _ _ _ _ (found (c .before .before)) (c .if1 .taken))
 
 enum-known-t : tie.Need-enum-known-t
 enum-known-t c = search needs
@@ -77,7 +77,7 @@ enum-told-2 : tie.Need-enum-told-2
 enum-told-2 c = search needs
 
 returns-3 : tie.Need-returns-3
-returns-3 c = leaves-unchanged _ _ _ (stop-off _ _ _ _ (found (c .before .before .before .before)) (c .before .before .if1 .left) (c .enum-told2 .given .1))
+returns-3 c = leaves-unchanged _ _ _ (stop-off _ _ _ _ _ (found (c .before .before .before .before)) (c .before .before .if1 .left) (c .enum-told2 .given .1))
 
 ranges-of-requires : tie.Need-ranges-of-requires
 ranges-of-requires c κs = search needs
@@ -120,7 +120,7 @@ returns-4 c =
     let a = p .before .before .before .before .before .args in
     let r = c .before .before .before .before .before .before .before .ranges-of in
     let u = c .before .before .before .before .before .before .units-in .ensures .0 in
-    leaves _ _ _ _ _ (stop-done (a .t1) (a .id) (now (a .marks)) _ (found p) _ _ (k .before .before .before .if1 .left) (k .before .t .given .1))
+    leaves _ _ _ _ _ (stop-done _ (a .t1) (a .id) (now (a .marks)) _ (found p) _ _ (k .before .before .before .if1 .left) (k .before .t .given .1))
     (rw (c .no-ranges .ensures, put-nil)) (c .before .before .before .clear-share .ensures ∙ rw (u, r .ensures .0))
 
 pub stop-spec : {M : Type 1} → statement M
