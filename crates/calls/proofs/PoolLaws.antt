@@ -309,13 +309,16 @@ module _ (d : Device) (eight : length (d .controllers) ≡ 8) (sure : soundDevic
           room,
         )
 
-    pub start-packs : (ws : List ℕ) → length ws ≡ markWords → Packs (flat ws) (basesOf d) (sizesOf (withController d i c)) i
-    start-packs ws words =
-        let bits : length (flat ws) ≡ 16384 = flat-length ws ∙ rw words in
+    -- the shares with it may be packed, of marks held one an element in any list that has room for the pool
+    pub start-packs-in : {A : Type 0} (l : List A) → length l ≡ mostUnits → Packs l (basesOf d) (sizesOf (withController d i c)) i
+    start-packs-in l whole =
         record {
           inside = λ j h n k.
               let e : getD (sizesOf (withController d i c)) j 0 ≡ getD (sizesOf d) j 0 =
               ap (λ l. getD l j 0) (sizes-with d eight most i c used) ∙ getD-set-other (sizesOf d) i j (heldUnits (heldOf c)) 0 n in
-              omega (arith, bits, e, share-inside j h (omega (arith, e, k)));
-          fits = omega (arith, bits, sizes-fit);
+              omega (arith, whole, e, share-inside j h (omega (arith, e, k)));
+          fits = omega (arith, whole, sizes-fit);
         }
+
+    pub start-packs : (ws : List ℕ) → length ws ≡ markWords → Packs (flat ws) (basesOf d) (sizesOf (withController d i c)) i
+    start-packs ws words = start-packs-in (flat ws) (flat-length ws ∙ rw words)

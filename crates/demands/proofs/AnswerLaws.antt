@@ -24,7 +24,7 @@ use Rattle.rules.specs.declared.Tracking.the-variants.{Off, On}
 use Rattle.rules.proofs.RefusalLaws.{verdict-has, verdict-map}
 use Rattle.record.specs.Record.{controllerAt, withSequence, seenIn, frontIn}
 use Rattle.calls.specs.declared.Started.{Started}
-use Rattle.calls.specs.Calls.{freshBy, inWords, startBy, freshChange, Change, startedWith, startDone, startChange, stopDone, flagDone, resumeDone, noteIn, writeDone, receiveIn, receiveDone, arrival, partDone, makeDone, postIn, postDone, takeIn, takeDone}
+use Rattle.calls.specs.Calls.{freshBy, Engine, startBy, freshChange, Change, startedWith, startDone, startChange, stopDone, flagDone, resumeDone, noteIn, writeDone, receiveIn, receiveDone, arrival, partDone, makeDone, postIn, postDone, takeIn, takeDone}
 use Rattle.demands.specs.Demand1.{Answers}
 
 -- what a table's call answers: the first test's number, and refused what is had of every refusal
@@ -42,27 +42,27 @@ answers A number was ts end refuse z e w =
     same (t ∷ us) = ap₂ (λ (a b : ℕ). cond (t .ok) a b) (same us) (e (t .number) (t .place))
 
 -- a done start has zeros in number and row
-pub start-zero : (d : Device) (ws x : List ℕ) (p : Option ℕ) → startDone inWords d ws x p .answer .number ≡ 0
-start-zero d ws x none = refl
-start-zero d ws x (some i) = refl
+pub start-zero : (en : Engine) (d : Device) (ws x : List ℕ) (p : Option ℕ) → startDone en d ws x p .answer .number ≡ 0
+start-zero en d ws x none = refl
+start-zero en d ws x (some i) = refl
 
-start-row : (d : Device) (ws x : List ℕ) (p : Option ℕ) → startDone inWords d ws x p .answer .row ≡ 0
-start-row d ws x none = refl
-start-row d ws x (some i) = refl
+start-row : (en : Engine) (d : Device) (ws x : List ℕ) (p : Option ℕ) → startDone en d ws x p .answer .row ≡ 0
+start-row en d ws x none = refl
+start-row en d ws x (some i) = refl
 
 -- a start's row is its table's
-pub row-is : (d : Device) (ws : List ℕ) (id : ℕ) (x : List ℕ)
-    → startChange d ws id x .answer .row ≡ placeIn (startOrder (d .settings) (seenIn d (length ws) (placeOf (d .settings) id)) x)
+pub row-is : (en : Engine) (d : Device) (ws : List ℕ) (id : ℕ) (x : List ℕ)
+    → startBy en d ws id x .answer .row ≡ placeIn (startOrder (d .settings) (seenIn d (en .words ws) (placeOf (d .settings) id)) x)
 unfolding startBy
-row-is d ws id x =
+row-is en d ws id x =
     let p = placeOf (d .settings) id in
-    let ts = startOrder (d .settings) (seenIn d (length ws) p) x in
-    verdict-map (λ (c : Change Started). c .answer .row) ts (startDone inWords d ws x p) (λ n i. startedWith n i d ws)
-    ∙ ap (λ k. verdict ts k (λ n i. i)) (start-row d ws x p)
+    let ts = startOrder (d .settings) (seenIn d (en .words ws) p) x in
+    verdict-map (λ (c : Change Started). c .answer .row) ts (startDone en d ws x p) (λ n i. startedWith n i d ws)
+    ∙ ap (λ k. verdict ts k (λ n i. i)) (start-row en d ws x p)
 
-pub stop-zero : (d : Device) (ws : List ℕ) (p : Option ℕ) → stopDone inWords d ws p .answer .number ≡ 0
-stop-zero d ws none = refl
-stop-zero d ws (some i) = refl
+pub stop-zero : (en : Engine) (d : Device) (ws : List ℕ) (p : Option ℕ) → stopDone en d ws p .answer .number ≡ 0
+stop-zero en d ws none = refl
+stop-zero en d ws (some i) = refl
 
 pub flag-zero : (d : Device) (p : Option ℕ) (b : Bool) → flagDone d p b .number ≡ 0
 flag-zero d none b = refl
@@ -100,30 +100,30 @@ take-zero d area asked x (some i) = go (controllerAt d (some i) .queue)
     go made.Nothing = refl
     go (made.Is r) = refl
 
-note-zero : (ws : List ℕ) (base : ℕ) (t : Tracking) (rs : List Range) (w : Write) → noteIn inWords ws base t rs w .answer .number ≡ 0
-note-zero ws base Off rs w = refl
-note-zero ws base (On g n) rs w = refl
+note-zero : (en : Engine) (ws : List ℕ) (base : ℕ) (t : Tracking) (rs : List Range) (w : Write) → noteIn en ws base t rs w .answer .number ≡ 0
+note-zero en ws base Off rs w = refl
+note-zero en ws base (On g n) rs w = refl
 
-pub write-zero : (d : Device) (ws : List ℕ) (w : Write) (p : Option ℕ) → writeDone inWords d ws w p .answer .number ≡ 0
-write-zero d ws w none = refl
-write-zero d ws w (some i) = note-zero ws (controllerAt d (some i) .base) (controllerAt d (some i) .tracking) (controllerAt d (some i) .ranges) w
+pub write-zero : (en : Engine) (d : Device) (ws : List ℕ) (w : Write) (p : Option ℕ) → writeDone en d ws w p .answer .number ≡ 0
+write-zero en d ws w none = refl
+write-zero en d ws w (some i) = note-zero en ws (controllerAt d (some i) .base) (controllerAt d (some i) .tracking) (controllerAt d (some i) .ranges) w
 
-report-zero : (ws : List ℕ) (base id : ℕ) (b : Bool) (t : Tracking) (rs : List Range) (x : List ℕ) → receiveIn inWords ws base id b t rs x .answer .number ≡ 0
-report-zero ws base id b Off rs x = refl
-report-zero ws base id b (On g n) rs x = refl
+report-zero : (en : Engine) (ws : List ℕ) (base id : ℕ) (b : Bool) (t : Tracking) (rs : List Range) (x : List ℕ) → receiveIn en ws base id b t rs x .answer .number ≡ 0
+report-zero en ws base id b Off rs x = refl
+report-zero en ws base id b (On g n) rs x = refl
 
-pub receive-zero : (d : Device) (ws : List ℕ) (id : ℕ) (x : List ℕ) (p : Option ℕ) → receiveDone inWords d ws id x p .answer .number ≡ 0
-receive-zero d ws id x none = refl
-receive-zero d ws id x (some i) = report-zero ws (controllerAt d (some i) .base) id (controllerAt d (some i) .suspended) (controllerAt d (some i) .tracking) (controllerAt d (some i) .ranges) x
+pub receive-zero : (en : Engine) (d : Device) (ws : List ℕ) (id : ℕ) (x : List ℕ) (p : Option ℕ) → receiveDone en d ws id x p .answer .number ≡ 0
+receive-zero en d ws id x none = refl
+receive-zero en d ws id x (some i) = report-zero en ws (controllerAt d (some i) .base) id (controllerAt d (some i) .suspended) (controllerAt d (some i) .tracking) (controllerAt d (some i) .ranges) x
 
 -- a refused fresh makes the closed device
-pub fresh-answers : (s : Settings) (ws : List ℕ)
-    → Answers (freshChange s ws .answer .number) (freshOrder s (length ws)) ((freshChange s ws .answer .device ≡ closedDevice) × (freshChange s ws .marks ≡ ws))
+pub fresh-answers : (en : Engine) (s : Settings) (ws : List ℕ)
+    → Answers (freshBy en s ws .answer .number) (freshOrder s (en .words ws)) ((freshBy en s ws .answer .device ≡ closedDevice) × (freshBy en s ws .marks ≡ ws))
 unfolding freshBy freshOf
-fresh-answers s ws = go (settingsOk s) (eqb (length ws) markWords) refl refl
+fresh-answers en s ws = go (settingsOk s) (eqb (en .words ws) markWords) refl refl
   where
-    go : (a b : Bool) → settingsOk s ≡ a → eqb (length ws) markWords ≡ b
-        → Answers (freshChange s ws .answer .number) (freshOrder s (length ws)) ((freshChange s ws .answer .device ≡ closedDevice) × (freshChange s ws .marks ≡ ws))
+    go : (a b : Bool) → settingsOk s ≡ a → eqb (en .words ws) markWords ≡ b
+        → Answers (freshBy en s ws .answer .number) (freshOrder s (en .words ws)) ((freshBy en s ws .answer .device ≡ closedDevice) × (freshBy en s ws .marks ≡ ws))
     go true true e f = rw (e, f) (record { first = refl; refused = λ h. absurd (h refl) })
     go true false e f = rw (e, f) (record { first = refl; refused = λ h. (refl, refl) })
     go false b e f = rw e (record { first = refl; refused = λ h. (refl, refl) })

@@ -26,21 +26,21 @@ use Rattle.record.specs.Record.{isOn, soundWith, controllerAt, placesOf, hasSto
 use Rattle.start_data.specs.Answer.{Said}
 use Rattle.start_data.proofs.Answers.{headerOf-says, startData-says, startData-none, startWritten-refused}
 use Rattle.report_reader.proofs.AnswerLaws.{refused-answer, index-zero}
-use Rattle.calls.specs.Calls.{inWords, receiveBy, startBy, stopBy, writeBy, Change, changed, startedWith, startDone, startChange, stopDone, stopChange, flagDone, suspendChange, resumeDone, resumeChange, Note, noted, writeDone, writeNote, Receipt, received, receiveDone, receiveReceipt, Arrival, arrival, partDone, partChange, makeDone, makeChange, Posting, posting, postDone, postChange, Taking, taking, takeDone, takeChange}
+use Rattle.calls.specs.Calls.{Engine, inWords, receiveBy, startBy, stopBy, writeBy, Change, changed, startedWith, startDone, startChange, stopDone, stopChange, flagDone, suspendChange, resumeDone, resumeChange, Note, noted, writeDone, writeNote, Receipt, received, receiveDone, receiveReceipt, Arrival, arrival, partDone, partChange, makeDone, makeChange, Posting, posting, postDone, postChange, Taking, taking, takeDone, takeChange}
 use Rattle.calls.specs.declared.Changed.{Changed}
 use Rattle.calls.specs.declared.Started.{Started}
-use Rattle.demands.specs.Demand1.{Answers, Demand1}
+use Rattle.demands.specs.Demand1.{MarkCalls, Answers, Demand1}
 use Rattle.demands.proofs.AnswerLaws.{answers, fresh-answers, start-zero, row-is, stop-zero, flag-zero, resume-zero, write-zero, receive-zero, part-zero, make-zero, post-zero, take-zero}
 
 -- a start answers by its table
-start-number : (d : Device) (ws : List ℕ) (id : ℕ) (x : List ℕ)
-    → Answers (startChange d ws id x .answer .number) (startOrder (d .settings) (seenIn d (length ws) (placeOf (d .settings) id)) x)
-    ((startChange d ws id x .answer .device ≡ d) × (startChange d ws id x .marks ≡ ws))
+start-number : (en : Engine) (d : Device) (ws : List ℕ) (id : ℕ) (x : List ℕ)
+    → Answers (startBy en d ws id x .answer .number) (startOrder (d .settings) (seenIn d (en .words ws) (placeOf (d .settings) id)) x)
+    ((startBy en d ws id x .answer .device ≡ d) × (startBy en d ws id x .marks ≡ ws))
 unfolding startBy
-start-number d ws id x =
+start-number en d ws id x =
     answers (Change Started) (λ c. c .answer .number) (λ c. (c .answer .device ≡ d) × (c .marks ≡ ws))
-    (startOrder (d .settings) (seenIn d (length ws) (placeOf (d .settings) id)) x) (startDone inWords d ws x (placeOf (d .settings) id)) (λ n i. startedWith n i d ws)
-    (start-zero d ws x (placeOf (d .settings) id)) (λ n i. refl) (λ n i. (refl, refl))
+    (startOrder (d .settings) (seenIn d (en .words ws) (placeOf (d .settings) id)) x) (startDone en d ws x (placeOf (d .settings) id)) (λ n i. startedWith n i d ws)
+    (start-zero en d ws x (placeOf (d .settings) id)) (λ n i. refl) (λ n i. (refl, refl))
 
 -- a count over 16, and a smaller one, to the structure's reader
 many-said : (x : List ℕ) → 8 ≤ length x → getD x 0 0 ≡ 0 → 16 < countOf x → startData x .header ≡ Refused 18 4
@@ -93,11 +93,37 @@ sees-sound : (d : Device) (words : ℕ) → soundWith d words ≡ (soundDevice d
 unfolding soundWith
 sees-sound d words = refl
 
+-- the calls that touch marks, of any engine
+pub mark-calls : (en : Engine) → MarkCalls en
+unfolding stopBy writeBy receiveBy
+mark-calls en =
+    record {
+      fresh = fresh-answers en;
+      start = start-number en;
+      row = row-is en;
+      names = λ d ws id x.
+          let v = seenIn d (en .words ws) (placeOf (d .settings) id) in
+          rw (start-number en d ws id x .first, row-is en d ws id x) (names (d .settings) v x, early (d .settings) v x);
+      stop = λ d ws id.
+          answers (Change Changed) (λ c. c .answer .number) (λ c. (c .answer .device ≡ d) × (c .marks ≡ ws))
+          (stopOrder (seenIn d (en .words ws) (placeOf (d .settings) id))) (stopDone en d ws (placeOf (d .settings) id)) (λ n i. changed n d ws)
+          (stop-zero en d ws (placeOf (d .settings) id)) (λ n i. refl) (λ n i. (refl, refl));
+      write = λ d ws id w.
+          answers Note (λ c. c .answer .number) (λ c. (c .answer .count ≡ 0) × (c .marks ≡ ws))
+          (writeOrder (seenIn d (en .words ws) (placeOf (d .settings) id)) w) (writeDone en d ws w (placeOf (d .settings) id)) (λ n i. noted n 0 ws)
+          (write-zero en d ws w (placeOf (d .settings) id)) (λ n i. refl) (λ n i. (refl, refl));
+      receive = λ d ws id x.
+          answers Receipt (λ r. r .answer .number)
+          (λ r. (r .answer ≡ record { number = r .answer .number; suspended = false; more = false; granularity = 0; runs = 0 }) × (r .marks ≡ ws) × (r .buffer ≡ x))
+          (receiveOrder (seenIn d (en .words ws) (placeOf (d .settings) id)) x) (receiveDone en d ws id x (placeOf (d .settings) id)) (λ n i. received n noReport ws x)
+          (receive-zero en d ws id x (placeOf (d .settings) id)) (λ n i. refl) (λ n i. (refl, refl, refl));
+    }
+
 pub demand-1 : Demand1
-unfolding stopBy writeBy receiveBy suspendChange resumeChange partChange makeChange postChange takeChange
+unfolding suspendChange resumeChange partChange makeChange postChange takeChange
 demand-1 =
     record {
-      fresh = fresh-answers;
+      mark-calls = mark-calls inWords;
       fresh-order = λ s words. refl;
       sees = λ d words i. (sees-sound d words, refl, refl);
       sees-nobody = λ d words. (sees-sound d words, refl);
@@ -108,25 +134,7 @@ demand-1 =
       receive-order = λ v x. refl;
       suspend-order = λ v kind. refl;
       resume-order = λ v. refl;
-      start = start-number;
-      row = row-is;
       before = eight;
-      names = λ d ws id x.
-          let v = seenIn d (length ws) (placeOf (d .settings) id) in
-          rw (start-number d ws id x .first, row-is d ws id x) (names (d .settings) v x, early (d .settings) v x);
-      stop = λ d ws id.
-          answers (Change Changed) (λ c. c .answer .number) (λ c. (c .answer .device ≡ d) × (c .marks ≡ ws))
-          (stopOrder (seenIn d (length ws) (placeOf (d .settings) id))) (stopDone inWords d ws (placeOf (d .settings) id)) (λ n i. changed n d ws)
-          (stop-zero d ws (placeOf (d .settings) id)) (λ n i. refl) (λ n i. (refl, refl));
-      write = λ d ws id w.
-          answers Note (λ c. c .answer .number) (λ c. (c .answer .count ≡ 0) × (c .marks ≡ ws))
-          (writeOrder (seenIn d (length ws) (placeOf (d .settings) id)) w) (writeDone inWords d ws w (placeOf (d .settings) id)) (λ n i. noted n 0 ws)
-          (write-zero d ws w (placeOf (d .settings) id)) (λ n i. refl) (λ n i. (refl, refl));
-      receive = λ d ws id x.
-          answers Receipt (λ r. r .answer .number)
-          (λ r. (r .answer ≡ record { number = r .answer .number; suspended = false; more = false; granularity = 0; runs = 0 }) × (r .marks ≡ ws) × (r .buffer ≡ x))
-          (receiveOrder (seenIn d (length ws) (placeOf (d .settings) id)) x) (receiveDone inWords d ws id x (placeOf (d .settings) id)) (λ n i. received n noReport ws x)
-          (receive-zero d ws id x (placeOf (d .settings) id)) (λ n i. refl) (λ n i. (refl, refl, refl));
       suspend = λ d words id kind.
           answers Changed (λ c. c .number) (λ c. c .device ≡ d)
           (suspendOrder (seenIn d words (placeOf (d .settings) id)) kind)

@@ -222,19 +222,19 @@ record Held (c : Controller) (l : List ℕ) (g : ℕ) (rs : List Range) (p : Lis
 
 module _ (s : Settings) (m : Given) (ks : List Call) (sizes : Sized s m) (made : freshChange s (m .marks) .answer .number ≡ 0) where
   abbrev d : Device
-  d = endOf s m ks .device
+  d = endOf inWords s m ks .device
 
   abbrev l : List ℕ
-  l = endOf s m ks .marks
+  l = endOf inWords s m ks .marks
 
   abbrev area : List ℕ
-  area = endOf s m ks .area
+  area = endOf inWords s m ks .area
 
   abbrev qs : ℕ → List ℕ
-  qs = endOf s m ks .queues
+  qs = endOf inWords s m ks .queues
 
   fits : Fits d l area
-  fits = let f = fresh-done s (m .marks) made in fits-after ks (begun s m) (begins s m sizes (f .0) (f .1) .fits)
+  fits = let f = fresh-done s (m .marks) made in fits-after ks (begun inWords s m) (begins s m sizes (f .0) (f .1) .fits)
 
   sound : soundDevice d ≡ true
   sound = soundness .kept s m ks sizes made .0
@@ -247,7 +247,7 @@ module _ (s : Settings) (m : Given) (ks : List Call) (sizes : Sized s m) (made :
   settings-are =
       ap (λ (st : State). st .settings) (session s m ks sizes .state)
       ∙ after-settings ks _
-      ∙ ap (λ (st : State). st .settings) (fresh-opens s (length (m .marks)) (sym (fresh-answers s (m .marks) .first) ∙ made) .0)
+      ∙ ap (λ (st : State). st .settings) (fresh-opens s (length (m .marks)) (sym (fresh-answers inWords s (m .marks) .first) ∙ made) .0)
 
   settings-kept : Kept s (d .settings)
   settings-kept =
@@ -256,9 +256,9 @@ module _ (s : Settings) (m : Given) (ks : List Call) (sizes : Sized s m) (made :
 
   module _ (a : ℕ) where
     abbrev h : List Did
-    h = historyIn s m ks a
+    h = historyIn inWords s m ks a
 
-    is-told : slotOf (view d l area qs) a ≡ slotBy h
+    is-told : slotOf (view inWords d l area qs) a ≡ slotBy h
     is-told = slot-same s m ks sizes a ∙ rules.demand-2 .pending s (length (m .marks)) ks a .told ∙ ap slotBy (sym (history-same s m ks sizes a))
 
     place-of : placeOf (d .settings) a ≡ placeOf s a
@@ -279,13 +279,13 @@ module _ (s : Settings) (m : Given) (ks : List Call) (sizes : Sized s m) (made :
       inside : i < 8
       inside = omega (arith, used, soundDevice-facts d sound .count)
 
-      is-slot : slotSeen l c (frontAt (d .settings) (d .sequence) area i) (qs i) ≡ slotBy h
-      is-slot = sym (slot-at d l area qs fits i used inside) ∙ sym (ap (slotAt (view d l area qs)) place) ∙ is-told
+      is-slot : slotSeen inWords l c (frontAt (d .settings) (d .sequence) area i) (qs i) ≡ slotBy h
+      is-slot = sym (slot-at d l area qs fits i used inside) ∙ sym (ap (slotAt (view inWords d l area qs)) place) ∙ is-told
 
       flag-is : c .suspended ≡ suspendedBy false h
       flag-is = ap isSuspended is-slot
 
-      marks-are : marksOf l (c .base) (c .tracking) (c .ranges) ≡ marksBy h (tracksBy none h)
+      marks-are : marksOf inWords l (c .base) (c .tracking) (c .ranges) ≡ marksBy h (tracksBy none h)
       marks-are = ap (λ (z : Slot). z .marks) is-slot
 
       most : d .settings .count ≤ 8
@@ -300,7 +300,7 @@ module _ (s : Settings) (m : Given) (ks : List Call) (sizes : Sized s m) (made :
       is-off : tracksBy none h ≡ none → c .tracking ≡ Off
       is-off e = go (c .tracking) (marks-are ∙ ap (marksBy h) e)
         where
-          go : (t : Tracking) → marksOf l (c .base) t (c .ranges) ≡ off → t ≡ Off
+          go : (t : Tracking) → marksOf inWords l (c .base) t (c .ranges) ≡ off → t ≡ Off
           go Off q = refl
           go (On g n) q = let z : _≡_ {A = ℕ} 0 1 = cc in absurd (omega arith)
 
@@ -333,24 +333,24 @@ module _ (s : Settings) (m : Given) (ks : List Call) (sizes : Sized s m) (made :
 
       -- ---- a state that arrives in parts
 
-      is-arriving : Arrives (endOf s m ks) h a
+      is-arriving : Arrives (endOf inWords s m ks) h a
       is-arriving =
           arrives d l area qs fits a i h place sound flag-is
           (sym (front-own (d .settings) a i place (d .sequence) area) ∙ ap (λ (z : Slot). z .front) is-slot)
 
       -- ---- its queue
 
-      is-logging : Logs (endOf s m ks) h a i
+      is-logging : Logs (endOf inWords s m ks) h a i
       is-logging =
-          logs (endOf s m ks) h a i (fits .controllers) place sure
-          (subst (Logged h) (ap (λ (z : Slot). z .queue) (sym (slot-same s m ks sizes a) ∙ ap (slotAt (view d l area qs)) place ∙ slot-at d l area qs fits i used inside))
+          logs (endOf inWords s m ks) h a i (fits .controllers) place sure
+          (subst (Logged h) (ap (λ (z : Slot). z .queue) (sym (slot-same s m ks sizes a) ∙ ap (slotAt (view inWords d l area qs)) place ∙ slot-at d l area qs fits i used inside))
           (subst (λ (h : List Did). Logged h (slotOf (sessionEnd s (length (m .marks)) ks) a .queue)) (sym (history-same s m ks sizes a)) (known-session s (length (m .marks)) a ks .queue)))
 
       -- ---- what is not refused
 
       may-write : (w : Write) → suspendedBy false h ≡ false → w .address + w .bytes ≤ 2 ^ 64 → writeNote d l a w .answer .number ≡ 0
       unfolding writeBy
-      may-write w e k = rw (place, sure, flag-is, e, le-leb (w .address + w .bytes) (2 ^ 64) k) (write-zero d l w (some i))
+      may-write w e k = rw (place, sure, flag-is, e, le-leb (w .address + w .bytes) (2 ^ 64) k) (write-zero inWords d l w (some i))
 
       -- the settings say the same of a structure once unused places are zeros
       listed-same : (x : List ℕ) → startListed (d .settings) x ≡ startListed s x
@@ -363,7 +363,7 @@ module _ (s : Settings) (m : Given) (ks : List Call) (sizes : Sized s m) (made :
       unfolding startBy
       may-start x e idle ok fit few =
           let v = seenIn d (length l) (some i) in
-          let seen = subst (λ q. seenIn d (length l) q ≡ seenAt (view d l area qs) q) place (seen-same d l area qs fits a) in
+          let seen = subst (λ q. seenIn d (length l) q ≡ seenAt (view inWords d l area qs) q) place (seen-same d l area qs fits a) in
           let counts : v .counts ≡ countsIn (sessionEnd s (length (m .marks)) ks) = ap (λ (z : Seen). z .counts) seen ∙ ap countsIn (session s m ks sizes .state) in
           let units-held : v .units ≡ unitsIn (sessionEnd s (length (m .marks)) ks) = ap (λ (z : Seen). z .units) seen ∙ ap unitsIn (session s m ks sizes .state) in
           let structure : Passed (headerTests x ++ startListed (d .settings) x) = subst (λ (ts : List Test). Passed (headerTests x ++ ts)) (sym (listed-same x)) (passes-Passed (headerTests x ++ startListed s x) ok) in
@@ -381,7 +381,7 @@ module _ (s : Settings) (m : Given) (ks : List Call) (sizes : Sized s m) (made :
 
       -- ---- suspended, as its calls and answers tell
 
-      is-refused : suspendedBy false h ≡ true → (o : Op) → Moves o → outcome (endOf s m ks) (record { id = a; op = o }) ≡ record { answer = refused 4 0; device = d; marks = l; area = area; queues = qs; bytes = lent o }
+      is-refused : suspendedBy false h ≡ true → (o : Op) → Moves o → outcome inWords (endOf inWords s m ks) (record { id = a; op = o }) ≡ record { answer = refused 4 0; device = d; marks = l; area = area; queues = qs; bytes = lent o }
       unfolding run startBy stopBy writeBy
       is-refused e o (starts x) = rw (place, sure, flag-is, e)
       is-refused e o stops = rw (place, sure, flag-is, e)
@@ -399,7 +399,7 @@ module _ (s : Settings) (m : Given) (ks : List Call) (sizes : Sized s m) (made :
         held : Held c l g rs p
         held = go (c .tracking) refl (marks-are ∙ ap (marksBy h) by)
           where
-            go : (t : Tracking) → c .tracking ≡ t → marksOf l (c .base) t (c .ranges) ≡ on g rs p → Held c l g rs p
+            go : (t : Tracking) → c .tracking ≡ t → marksOf inWords l (c .base) t (c .ranges) ≡ on g rs p → Held c l g rs p
             go Off e q = let z : _≡_ {A = ℕ} 0 1 = cc in absurd (omega arith)
             go (On k n) e q =
                 let same : k ≡ g = cc in
@@ -518,7 +518,7 @@ module _ (s : Settings) (m : Given) (ks : List Call) (sizes : Sized s m) (made :
         unfolding receiveBy
         may-receive x k = rw (place, sure, held .tracking, le-leb 32 (length x) k)
 
-        is-tracked : Tracked (endOf s m ks) h a i g rs
+        is-tracked : Tracked (endOf inWords s m ks) h a i g rs
         is-tracked =
             record {
               listed = is-listed;
@@ -544,14 +544,14 @@ module _ (s : Settings) (m : Given) (ks : List Call) (sizes : Sized s m) (made :
         go (some i) k =
             rw (place i k) (verdict-has Idle (λ n i. noted n 0 l) (λ n i. (refl, refl)) (writeOrder (seenIn d (length l) (some i)) w) (writeDone inWords d l w (some i)) (λ t. rw (is-off i k e) (refl, refl)))
 
-    is-suspended : suspendedBy false h ≡ true → (o : Op) → Moves o → outcome (endOf s m ks) (record { id = a; op = o }) ≡ record { answer = refused 4 0; device = d; marks = l; area = area; queues = qs; bytes = lent o }
+    is-suspended : suspendedBy false h ≡ true → (o : Op) → Moves o → outcome inWords (endOf inWords s m ks) (record { id = a; op = o }) ≡ record { answer = refused 4 0; device = d; marks = l; area = area; queues = qs; bytes = lent o }
     is-suspended e = go (placeOf s a) refl
       where
-        go : (q : Option ℕ) → placeOf s a ≡ q → (o : Op) → Moves o → outcome (endOf s m ks) (record { id = a; op = o }) ≡ record { answer = refused 4 0; device = d; marks = l; area = area; queues = qs; bytes = lent o }
-        go none k = absurd (true≢false (sym e ∙ ap isSuspended (sym is-told ∙ ap (slotAt (view d l area qs)) (place-of ∙ k))))
+        go : (q : Option ℕ) → placeOf s a ≡ q → (o : Op) → Moves o → outcome inWords (endOf inWords s m ks) (record { id = a; op = o }) ≡ record { answer = refused 4 0; device = d; marks = l; area = area; queues = qs; bytes = lent o }
+        go none k = absurd (true≢false (sym e ∙ ap isSuspended (sym is-told ∙ ap (slotAt (view inWords d l area qs)) (place-of ∙ k))))
         go (some i) k = is-refused i k e
 
-    pub is-standing : Stands s (endOf s m ks) h (countsIn (sessionEnd s (length (m .marks)) ks)) (unitsIn (sessionEnd s (length (m .marks)) ks)) a
+    pub is-standing : Stands s (endOf inWords s m ks) h (countsIn (sessionEnd s (length (m .marks)) ks)) (unitsIn (sessionEnd s (length (m .marks)) ks)) a
     is-standing =
         record {
           told = is-told;
@@ -560,8 +560,8 @@ module _ (s : Settings) (m : Given) (ks : List Call) (sizes : Sized s m) (made :
           suspended = is-suspended;
           may-write = λ i w at. may-write i at w;
           may-start = λ i x at. may-start i at x;
-          started = λ i x at. starts-so (endOf s m ks) fits a i (place i at) x;
-          stopped = λ i at. stops-so (endOf s m ks) fits a i (place i at);
+          started = λ i x at. starts-so (endOf inWords s m ks) fits a i (place i at) x;
+          stopped = λ i at. stops-so (endOf inWords s m ks) fits a i (place i at);
           suspends = λ i kind at. is-suspend i at kind;
           resumes = λ i at. is-resume i at;
           parts = λ i at. is-arriving i at;
@@ -574,11 +574,11 @@ All-from : (P : Controller → Type 0) (cs : List Controller) → ((i : ℕ) →
 All-from P [] f = tt
 All-from P (c ∷ cs) f = (f 0, All-from P cs (λ i. f (suc i)))
 
-shaped-fits : (l : Left) → Shaped l → Fits (l .device) (l .marks) (l .area)
+pub shaped-fits : (l : Left) → Shaped inWords l → Fits (l .device) (l .marks) (l .area)
 shaped-fits l s =
     record { controllers = s .controllers; identifiers = s .identifiers; listed = All-from Listed (l .device .controllers) (s .listed); totals = All-from Totalled (l .device .controllers) (s .totals); words = s .words; bytes = s .bytes }
 
-is-step : (l : Left) → Shaped l → (k : Call) → Steps l k
+is-step : (l : Left) → Shaped inWords l → (k : Call) → Steps inWords l k
 is-step l s k =
     let w = call-step (l .device) (l .marks) (l .area) (l .queues) (shaped-fits l s) k in
     record { answer = w .answer; device = w .state; bytes = w .bytes }
@@ -586,21 +586,21 @@ is-step l s k =
 -- ---- W7: a call to another
 
 -- a record and marks that agree with the rules' device before and after a call: the units of a controller to which it was not made
-apart : (l l′ : Left) (st : State) (k : Call) (b : ℕ) → view (l .device) (l .marks) (l .area) (l .queues) ≡ st → view (l′ .device) (l′ .marks) (l′ .area) (l′ .queues) ≡ (step st k) .1 → k .id ≢ b
-    → pendingOf l′ b ≡ pendingOf l b
+apart : (l l′ : Left) (st : State) (k : Call) (b : ℕ) → view inWords (l .device) (l .marks) (l .area) (l .queues) ≡ st → view inWords (l′ .device) (l′ .marks) (l′ .area) (l′ .queues) ≡ (step st k) .1 → k .id ≢ b
+    → pendingOf inWords l′ b ≡ pendingOf inWords l b
 apart l l′ st k b before afterwards other =
     ap (λ (x : State). pendingIn (slotOf x b)) afterwards ∙ ap pendingIn (step-other st k b other) ∙ sym (ap (λ (x : State). pendingIn (slotOf x b)) before)
 
-undisturbed : (s : Settings) (m : Given) (ks : List Call) → Sized s m → (k : Call) (b : ℕ) → k .id ≢ b → pendingOf (next (endOf s m ks) k) b ≡ pendingOf (endOf s m ks) b
+undisturbed : (s : Settings) (m : Given) (ks : List Call) → Sized s m → (k : Call) (b : ℕ) → k .id ≢ b → pendingOf inWords (next inWords (endOf inWords s m ks) k) b ≡ pendingOf inWords (endOf inWords s m ks) b
 undisturbed s m ks sized k b other =
-    apart (endOf s m ks) (next (endOf s m ks) k) (sessionEnd s (length (m .marks)) ks) k b (session s m ks sized .state)
-    (ap (λ (l : Left). view (l .device) (l .marks) (l .area) (l .queues)) (sym (left-append ks (k ∷ []) (begun s m)))
+    apart (endOf inWords s m ks) (next inWords (endOf inWords s m ks) k) (sessionEnd s (length (m .marks)) ks) k b (session s m ks sized .state)
+    (ap (λ (l : Left). view inWords (l .device) (l .marks) (l .area) (l .queues)) (sym (left-append inWords ks (k ∷ []) (begun inWords s m)))
     ∙ session s m (ks ++ k ∷ []) sized .state
     ∙ after-append ks (k ∷ []) (fresh s (length (m .marks))))
     other
 
-unmoved : (l : Left) → Shaped l → (k : Call) (b : ℕ) → k .id ≢ b → pendingOf (next l k) b ≡ pendingOf l b
-unmoved l shaped k b other = apart l (next l k) (view (l .device) (l .marks) (l .area) (l .queues)) k b refl (is-step l shaped k .device) other
+unmoved : (l : Left) → Shaped inWords l → (k : Call) (b : ℕ) → k .id ≢ b → pendingOf inWords (next inWords l k) b ≡ pendingOf inWords l b
+unmoved l shaped k b other = apart l (next inWords l k) (view inWords (l .device) (l .marks) (l .area) (l .queues)) k b refl (is-step l shaped k .device) other
 
 suspends-so : (d : Device) (words a i : ℕ) → placeOf (d .settings) a ≡ some i → (kind : ℕ)
     → let c = suspendChange d words a kind in
@@ -634,7 +634,7 @@ arrives-so d words area a i place p z =
     by true = refl
     by false = refl
 
-keeps : (l : Left) → Shaped l → (a i : ℕ) → placeOf (l .device .settings) a ≡ some i → Keeps l a i
+keeps : (l : Left) → Shaped inWords l → (a i : ℕ) → placeOf (l .device .settings) a ≡ some i → Keeps l a i
 keeps l s a i e =
     let fits = shaped-fits l s in
     record {
@@ -651,17 +651,17 @@ keeps l s a i e =
 
 -- what a finishing part yields
 yielded : (s : Settings) (m : Given) (ks : List Call) → Sized s m → freshChange s (m .marks) .answer .number ≡ 0 → (a : ℕ) (p : Part)
-    → let l = endOf s m ks in
+    → let l = endOf inWords s m ks in
     let r = partChange (l .device) (length (l .marks)) (l .area) a p in
-    let x = wholeBy (historyIn s m ks a) p in
+    let x = wholeBy (historyIn inWords s m ks a) p in
     r .answer .number ≡ 0 → IsFinal p → (r .answer .whole ≡ length x) × (take (r .answer .whole) (r .area) ≡ x)
 yielded s m ks ok e a p z f = go (placeOf s a) refl
   where
     l : Left
-    l = endOf s m ks
+    l = endOf inWords s m ks
 
     x : List ℕ
-    x = wholeBy (historyIn s m ks a) p
+    x = wholeBy (historyIn inWords s m ks a) p
 
     r : Arrival
     r = partChange (l .device) (length (l .marks)) (l .area) a p
@@ -675,11 +675,11 @@ yielded s m ks ok e a p z f = go (placeOf s a) refl
 
 divided : (s : Settings) (m : Given) (ks : List Call) → Sized s m → freshChange s (m .marks) .answer .number ≡ 0 → (a : ℕ) (p : Part)
     → (s′ : Settings) (m′ : Given) (ks′ : List Call) → Sized s′ m′ → freshChange s′ (m′ .marks) .answer .number ≡ 0 → (a′ : ℕ) (p′ : Part)
-    → let l = endOf s m ks in
-    let l′ = endOf s′ m′ ks′ in
+    → let l = endOf inWords s m ks in
+    let l′ = endOf inWords s′ m′ ks′ in
     let r = partChange (l .device) (length (l .marks)) (l .area) a p in
     let r′ = partChange (l′ .device) (length (l′ .marks)) (l′ .area) a′ p′ in
-    r .answer .number ≡ 0 → r′ .answer .number ≡ 0 → IsFinal p → IsFinal p′ → wholeBy (historyIn s m ks a) p ≡ wholeBy (historyIn s′ m′ ks′ a′) p′
+    r .answer .number ≡ 0 → r′ .answer .number ≡ 0 → IsFinal p → IsFinal p′ → wholeBy (historyIn inWords s m ks a) p ≡ wholeBy (historyIn inWords s′ m′ ks′ a′) p′
     → (r .answer .whole ≡ r′ .answer .whole) × (take (r .answer .whole) (r .area) ≡ take (r′ .answer .whole) (r′ .area))
 divided s m ks ok e a p s′ m′ ks′ ok′ e′ a′ p′ z z′ f f′ same =
     let y = yielded s m ks ok e a p z f in

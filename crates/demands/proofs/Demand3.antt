@@ -15,14 +15,15 @@ use Rattle.rules.specs.Demands.{sharedRefusals, unhindered}
 use Rattle.rules.proofs.ListLaws.{and-intro, or-cases, not-intro, false-intro}
 use Rattle.rules.specs.declared.Settings.{Settings}
 use Rattle.rules.proofs.Theorems as rules
+use Rattle.calls.specs.Calls.{inWords}
 use Rattle.demands.specs.Sessions.{Given, Sized, historyIn}
 use Rattle.demands.specs.Demand2.{Equals}
 use Rattle.demands.specs.Demand3.{Agree, Shared, pool, limit, sequence, Demand3}
 use Rattle.demands.proofs.ClosedLaws.{history-same, equals}
 
 -- two sessions that equal one of the rules agree
-agree : (s : Settings) (a : ℕ) (m m′ : Given) (ks ks′ js js′ : List Call) → length (m .marks) ≡ length (m′ .marks) → js ≡ js′ → Equals s a m ks js → Equals s a m′ ks′ js′
-    → Agree s a m m′ ks ks′
+agree : (s : Settings) (a : ℕ) (m m′ : Given) (ks ks′ js js′ : List Call) → length (m .marks) ≡ length (m′ .marks) → js ≡ js′ → Equals inWords s a m ks js → Equals inWords s a m′ ks′ js′
+    → Agree inWords s a m m′ ks ks′
 agree s a m m′ ks ks′ js js′ e j l r =
     record {
       answers = l .answers ∙ rw (e, j) (sym (r .answers));
@@ -31,7 +32,7 @@ agree s a m m′ ks ks′ js js′ e j l r =
       queued = l .queued ∙ rw (e, j) (sym (r .queued));
     }
 
-is-alone : (s : Settings) (a : ℕ) (m : Given) (ks : List Call) → Sized s m → unhindered (historyIn s m ks a) ≡ true → Equals s a m ks (only a ks)
+is-alone : (s : Settings) (a : ℕ) (m : Given) (ks : List Call) → Sized s m → unhindered (historyIn inWords s m ks a) ≡ true → Equals inWords s a m ks (only a ks)
 is-alone s a m ks sized f =
     equals s m ks sized a (only a ks) (rules.demand-3 .alone s (length (m .marks)) a ks (rw (history-same s m ks sized a) at f))
 
@@ -56,7 +57,7 @@ premise (d ∷ h) f =
     (not-intro (member (numberOf (d .answer)) (sharedRefusals (d .op))) (free (d .op) (numberOf (d .answer)) (f 0 d refl)))
     (premise h (λ i. f (suc i)))
 
-pub demand-3 : Demand3
+pub demand-3 : Demand3 inWords
 demand-3 =
     record {
       premise = premise;

@@ -1,7 +1,10 @@
 pub mod MarkLaws
+pub mod AlikeLaws
+pub mod ByteLaws
 pub mod ViewLaws
 pub mod QueueLaws
 pub mod StepLaws
+pub mod Twins
 pub mod Pool
 pub mod SessionLaws
 pub mod AnswerLaws
@@ -17,4 +20,7 @@ pub mod Reserved
 pub mod RunByRun
 pub mod Demand3
 pub mod Batches
+pub mod PlainSessions
+pub mod Plain
+pub mod PlainContracts
 pub mod Determinacy

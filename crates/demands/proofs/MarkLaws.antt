@@ -35,7 +35,7 @@ module _ (ws : List ℕ) (whole : length ws ≡ markWords) where
     unfolding withClear
     clear-length = pack-length (length ws) (fill false (flat ws) base n) ∙ whole
 
-    clear-flat : flat (withClear ws base n) ≡ fill false (flat ws) base n
+    pub clear-flat : flat (withClear ws base n) ≡ fill false (flat ws) base n
     unfolding withClear
     clear-flat = flat-pack (length ws) (fill false (flat ws) base n) (fill-length false (flat ws) base n ∙ flat-length ws)
 
@@ -61,7 +61,7 @@ module _ (ws : List ℕ) (whole : length ws ≡ markWords) where
     unfolding withMarks
     put-length = pack-length (length ws) (putShare (flat ws) base p) ∙ whole
 
-    put-flat : flat (withMarks ws base p) ≡ putShare (flat ws) base p
+    pub put-flat : flat (withMarks ws base p) ≡ putShare (flat ws) base p
     unfolding withMarks
     put-flat = flat-pack (length ws) (putShare (flat ws) base p) (putShare-length (flat ws) base p (omega (arith, bits, inside)) ∙ flat-length ws)
 

@@ -30,10 +30,12 @@ use Rattle.ranges.proofs.RangeLaws.{HeldFacts, listTests-facts}
 use Rattle.record.specs.Record.{noController, controllerAt, withController, seenIn, unitsOf}
 use Rattle.record.proofs.RecordLaws.{sharesOf-at, soundDevice-facts, soundDevice-inside}
 use Rattle.calls.specs.Calls.{inWords, marksAt, basesOf, sizesOf, started, startDone, stopDone, packedDevice, packedWords}
-use Rattle.calls.proofs.PoolLaws.{getD-map, sharesOf-none, sharesOf-length, sharesOf-with, sizesOf-at, sizesOf-share, packedAt, packed-at, packed-eight, packed-alike, packed-size, newBase-sum, take-all, start-packs}
+use Rattle.calls.proofs.PoolLaws.{getD-map, sharesOf-none, sharesOf-length, sharesOf-with, sizesOf-at, sizesOf-share, packedAt, packed-at, packed-eight, packed-alike, packed-size, newBase-sum, take-all, start-packs, start-packs-in}
+use Rattle.plain.specs.Bytes.{packedBytes}
 use Rattle.demands.specs.Soundness.{baseAt}
 use Rattle.demands.specs.Demand2.{bitOf, sizeAt, Started, Stopped}
 use Rattle.demands.proofs.MarkLaws.{clear-bit, clear-elsewhere, packs-flat, packs-length, packs-kept, packs-clear}
+use Rattle.demands.proofs.ByteLaws.{packed-byte}
 use Rattle.demands.proofs.ViewLaws.{Fits}
 
 module _ (d : Device) (ws area : List ℕ) (fits : Fits d ws area) (sound : soundDevice d ≡ true) (i : ℕ) (used : i < d .settings .count) where
@@ -170,6 +172,15 @@ module _ (d : Device) (ws area : List ℕ) (fits : Fits d ws area) (sound : soun
       ∙ ap (λ l. getD l m false) (packs-kept ws (fits .words) (basesOf d) sizes i packs j h n)
       ∙ sym (bit-of ws (getD (basesOf d) j 0) (getD sizes j 0) m (omega (arith, k, size)))
       ∙ ap (λ b. bitOf ws b m) (old-base j h (omega (arith, k)))
+
+  -- W9: and a byte of it
+  pub moved-byte : (bs : List ℕ) → length bs ≡ mostUnits → (j m : ℕ) → j < 8 → j ≢ i → m < sizeAt d j
+      → getD (packedBytes bs (basesOf d) sizes i) (baseAt d′ j + m) 0 ≡ getD bs (baseAt d j + m) 0
+  moved-byte bs long j m h n k =
+      let size : getD sizes j 0 ≡ sizeAt d j = sym (same-size j h) ∙ other-size j h n in
+      ap (λ b. getD (packedBytes bs (basesOf d) sizes i) (b + m) 0) (new-base j h (omega (arith, k, other-size j h n)))
+      ∙ packed-byte bs (basesOf d) sizes i (start-packs-in d (fits .controllers) sound i used idle new room bs long) j m h n (omega (arith, k, size))
+      ∙ ap (λ b. getD bs (b + m) 0) (old-base j h (omega (arith, k)))
 
   clear : (m : ℕ) → m < sizeAt d′ i → bitOf ws′ (baseAt d′ i) m ≡ false
   clear m k =

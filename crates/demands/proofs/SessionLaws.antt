@@ -21,7 +21,7 @@ use Rattle.rules.specs.declared.Controller.{Controller}
 use Rattle.rules.specs.declared.Settings.{Settings}
 use Rattle.rules.proofs.ListLaws.{All, and-intro}
 use Rattle.settings.proofs.SettingsLaws.{settingsOk-count}
-use Rattle.calls.specs.Calls.{freshBy, freshChange}
+use Rattle.calls.specs.Calls.{Engine, inWords, freshBy, freshChange}
 use Rattle.demands.specs.View.{slotsFrom, view, run}
 use Rattle.demands.specs.Sessions.{Left, Given, Sized, begun, outcome, next, leftAfter, answersTo, bytesTo}
 use Rattle.demands.proofs.ViewLaws.{Listed, Totalled, Fits}
@@ -29,7 +29,7 @@ use Rattle.demands.proofs.StepLaws.{Like, call-step}
 
 -- ---- fresh
 
-slots-fresh : (ws : List ℕ) (qs : ℕ → List ℕ) (xs : List ℕ) (k n : ℕ) → length xs ≡ n → slotsFrom ws (λ i. none) qs k (replicate n freshController) ≡ map (λ (i : ℕ). freshSlot) xs
+slots-fresh : (ws : List ℕ) (qs : ℕ → List ℕ) (xs : List ℕ) (k n : ℕ) → length xs ≡ n → slotsFrom inWords ws (λ i. none) qs k (replicate n freshController) ≡ map (λ (i : ℕ). freshSlot) xs
 slots-fresh ws qs [] k n e = rw (sym e)
 slots-fresh ws qs (x ∷ xs) k zero e = absurd (omega (arith, e))
 slots-fresh ws qs (x ∷ xs) k (suc n) e = ap (λ l. freshSlot ∷ l) (slots-fresh ws qs xs (suc k) n (omega (arith, e)))
@@ -66,10 +66,10 @@ none-ok (suc n) m = and-intro (all (areApart noShare) (map shareOf (replicate n 
 
 -- what an accepted fresh leaves is the rules' fresh device
 pub record Begins (s : Settings) (l : Left) : Type 0 where
-  pub state : view (l .device) (l .marks) (l .area) (l .queues) ≡ opened s
+  pub state : view inWords (l .device) (l .marks) (l .area) (l .queues) ≡ opened s
   pub fits : Fits (l .device) (l .marks) (l .area)
 
-pub begins : (s : Settings) (m : Given) → Sized s m → settingsOk s ≡ true → length (m .marks) ≡ markWords → Begins s (begun s m)
+pub begins : (s : Settings) (m : Given) → Sized s m → settingsOk s ≡ true → length (m .marks) ≡ markWords → Begins s (begun inWords s m)
 unfolding freshBy freshOf
 begins s m sized e whole =
     let few : s .count ≤ length (s .identifiers) = omega (arith, sized .places, settingsOk-count s e) in
@@ -77,7 +77,7 @@ begins s m sized e whole =
     (record {
       state =
           ap₂ (λ l b. record { settings = cleaned s; slots = l; amiss = b })
-          (ap (slotsFrom (replicate markWords 0) (λ i. none) (m .queues) 0) (take-replicate (s .count) 8 freshController (settingsOk-count s e))
+          (ap (slotsFrom inWords (replicate markWords 0) (λ i. none) (m .queues) 0) (take-replicate (s .count) 8 freshController (settingsOk-count s e))
           ∙ slots-fresh (replicate markWords 0) (m .queues) (identifiersOf s) 0 (s .count) (length-take-le (s .count) (s .identifiers) few))
           (ap not (ap (λ cs. sharesOk (map shareOf cs ++ replicate (8 - s .count) noShare) && all (λ (c : Controller). queueOk (c .queue)) cs) (take-replicate (s .count) 8 freshController (settingsOk-count s e))
           ∙ and-intro (sharesOk (map shareOf (replicate (s .count) freshController) ++ replicate (8 - s .count) noShare)) _ (none-ok (s .count) (8 - s .count)) (no-queues (s .count))));
@@ -98,13 +98,13 @@ begins s m sized e whole =
 
 -- what a session leaves and what it tells, against a session of the rules
 pub record Same (l : Left) (st : State) (ks : List Call) : Type 0 where
-  pub state : view (leftAfter l ks .device) (leftAfter l ks .marks) (leftAfter l ks .area) (leftAfter l ks .queues) ≡ after st ks
-  pub told : answersTo l ks ≡ events st ks
-  pub bytes : (a : ℕ) → bytesTo a l ks ≡ lentBytes a (historyOf a (answersTo l ks))
+  pub state : view inWords (leftAfter inWords l ks .device) (leftAfter inWords l ks .marks) (leftAfter inWords l ks .area) (leftAfter inWords l ks .queues) ≡ after st ks
+  pub told : answersTo inWords l ks ≡ events st ks
+  pub bytes : (a : ℕ) → bytesTo inWords a l ks ≡ lentBytes a (historyOf a (answersTo inWords l ks))
 
 -- one call, and then the others
-pub same-next : (k : Call) (ks : List Call) (l : Left) (st : State) → outcome l k .answer ≡ (step st k) .0 → outcome l k .bytes ≡ stored (k .id) (lent (k .op)) (outcome l k .answer)
-    → Same (next l k) ((step st k) .1) ks → Same l st (k ∷ ks)
+pub same-next : (k : Call) (ks : List Call) (l : Left) (st : State) → outcome inWords l k .answer ≡ (step st k) .0 → outcome inWords l k .bytes ≡ stored (k .id) (lent (k .op)) (outcome inWords l k .answer)
+    → Same (next inWords l k) ((step st k) .1) ks → Same l st (k ∷ ks)
 same-next k ks l st answer bytes r =
     record {
       state = r .state;
@@ -112,29 +112,29 @@ same-next k ks l st answer bytes r =
       bytes = λ a. bytes-of a (eqb (k .id) a) refl bytes (r .bytes a);
     }
   where
-    bytes-of : (a : ℕ) (b : Bool) → eqb (k .id) a ≡ b → outcome l k .bytes ≡ stored (k .id) (lent (k .op)) (outcome l k .answer)
-        → bytesTo a (next l k) ks ≡ lentBytes a (historyOf a (answersTo (next l k) ks))
-        → cond b (outcome l k .bytes ∷ bytesTo a (next l k) ks) (bytesTo a (next l k) ks)
-        ≡ lentBytes a (cond b (record { op = k .op; answer = outcome l k .answer } ∷ historyOf a (answersTo (next l k) ks)) (historyOf a (answersTo (next l k) ks)))
+    bytes-of : (a : ℕ) (b : Bool) → eqb (k .id) a ≡ b → outcome inWords l k .bytes ≡ stored (k .id) (lent (k .op)) (outcome inWords l k .answer)
+        → bytesTo inWords a (next inWords l k) ks ≡ lentBytes a (historyOf a (answersTo inWords (next inWords l k) ks))
+        → cond b (outcome inWords l k .bytes ∷ bytesTo inWords a (next inWords l k) ks) (bytesTo inWords a (next inWords l k) ks)
+        ≡ lentBytes a (cond b (record { op = k .op; answer = outcome inWords l k .answer } ∷ historyOf a (answersTo inWords (next inWords l k) ks)) (historyOf a (answersTo inWords (next inWords l k) ks)))
     bytes-of a true q p ih = ap₂ (λ (x : List ℕ) (xs : List (List ℕ)). x ∷ xs) (p ∙ rw (eqb-true (k .id) a q)) ih
     bytes-of a false q p ih = ih
 
-pub same : (ks : List Call) (l : Left) (st : State) → view (l .device) (l .marks) (l .area) (l .queues) ≡ st → Fits (l .device) (l .marks) (l .area) → Same l st ks
+pub same : (ks : List Call) (l : Left) (st : State) → view inWords (l .device) (l .marks) (l .area) (l .queues) ≡ st → Fits (l .device) (l .marks) (l .area) → Same l st ks
 same [] l st e h = record { state = e; told = refl; bytes = λ a. refl }
 same (k ∷ ks) l st e h =
-    let w : Like (k .id) (lent (k .op)) (run (l .device) (l .marks) (l .area) (l .queues) k) ((step st k) .0) ((step st k) .1) = rw e at (call-step (l .device) (l .marks) (l .area) (l .queues) h k) in
-    same-next k ks l st (w .answer) (w .bytes) (same ks (next l k) ((step st k) .1) (w .state) (w .fits))
+    let w : Like (k .id) (lent (k .op)) (run inWords (l .device) (l .marks) (l .area) (l .queues) k) ((step st k) .0) ((step st k) .1) = rw e at (call-step (l .device) (l .marks) (l .area) (l .queues) h k) in
+    same-next k ks l st (w .answer) (w .bytes) (same ks (next inWords l k) ((step st k) .1) (w .state) (w .fits))
 
 -- what each call leaves fits the next
-pub fits-after : (ks : List Call) (l : Left) → Fits (l .device) (l .marks) (l .area) → Fits (leftAfter l ks .device) (leftAfter l ks .marks) (leftAfter l ks .area)
+pub fits-after : (ks : List Call) (l : Left) → Fits (l .device) (l .marks) (l .area) → Fits (leftAfter inWords l ks .device) (leftAfter inWords l ks .marks) (leftAfter inWords l ks .area)
 fits-after [] l h = h
-fits-after (k ∷ ks) l h = fits-after ks (next l k) (call-step (l .device) (l .marks) (l .area) (l .queues) h k .fits)
+fits-after (k ∷ ks) l h = fits-after ks (next inWords l k) (call-step (l .device) (l .marks) (l .area) (l .queues) h k .fits)
 
 -- ---- calls after others
 
-pub left-append : (ks js : List Call) (l : Left) → leftAfter l (ks ++ js) ≡ leftAfter (leftAfter l ks) js
-left-append [] js l = refl
-left-append (k ∷ ks) js l = left-append ks js (next l k)
+pub left-append : (en : Engine) (ks js : List Call) (l : Left) → leftAfter en l (ks ++ js) ≡ leftAfter en (leftAfter en l ks) js
+left-append en [] js l = refl
+left-append en (k ∷ ks) js l = left-append en ks js (next en l k)
 
 pub after-append : (ks js : List Call) (st : State) → after st (ks ++ js) ≡ after (after st ks) js
 after-append [] js st = refl

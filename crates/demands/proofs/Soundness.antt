@@ -39,7 +39,7 @@ use Rattle.settings.proofs.SettingsLaws.{settingsOk-at, settingsOk-some, settin
 use Rattle.record.specs.Record.{soundWith, noController, controllerAt}
 use Rattle.record.proofs.RecordLaws.{sharesOf-at, sharesOf-sizes, soundDevice-facts, soundDevice-sequence, soundDevice-all, soundDevice-inside, soundDevice-apart, soundDevice-queue}
 use Rattle.record.proofs.QueueLaws.{RingFacts, ring-facts, ring-intro}
-use Rattle.calls.specs.Calls.{receiveBy, startBy, stopBy, writeBy, startChange, stopChange, suspendChange, resumeChange, writeNote, receiveReceipt, partChange, fillIn, makeChange, postChange, takeChange}
+use Rattle.calls.specs.Calls.{inWords, receiveBy, startBy, stopBy, writeBy, startChange, stopChange, suspendChange, resumeChange, writeNote, receiveReceipt, partChange, fillIn, makeChange, postChange, takeChange}
 use Rattle.calls.proofs.PoolLaws.{sharesOf-none, sharesOf-length}
 use Rattle.demands.specs.View.{run, runAs}
 use Rattle.demands.specs.Sessions.{Left, outcome, begun, endOf}
@@ -203,7 +203,7 @@ module _ (d : Device) (whole : Whole d) where
 -- ---- an unsound one
 
 -- an unsound record, or marks of another number of words
-unsound-run : (d : Device) (ws area : List ℕ) (qs : ℕ → List ℕ) (id : ℕ) (o : Op) → soundWith d (length ws) ≡ false → runAs d ws area qs id o .answer ≡ refused 1 0
+unsound-run : (d : Device) (ws area : List ℕ) (qs : ℕ → List ℕ) (id : ℕ) (o : Op) → soundWith d (length ws) ≡ false → runAs inWords d ws area qs id o .answer ≡ refused 1 0
 unfolding startBy stopBy writeBy receiveBy suspendChange resumeChange partChange makeChange postChange takeChange
 unsound-run d ws area qs id (start x) e = rw e
 unsound-run d ws area qs id stop e = rw e
@@ -216,7 +216,7 @@ unsound-run d ws area qs id (order.queue bytes order.make) e = rw e
 unsound-run d ws area qs id (order.queue bytes (order.post x)) e = rw e
 unsound-run d ws area qs id (order.queue bytes (order.take asked x)) e = rw e
 
-unsound : (l : Left) (k : Call) → (soundDevice (l .device) ≡ false) ⊎ (length (l .marks) ≢ 256) → outcome l k .answer ≡ refused 1 0
+unsound : (l : Left) (k : Call) → (soundDevice (l .device) ≡ false) ⊎ (length (l .marks) ≢ 256) → outcome inWords l k .answer ≡ refused 1 0
 unfolding run soundWith
 unsound l k (inl e) = unsound-run (l .device) (l .marks) (l .area) (l .queues) (k .id) (k .op) (rw e)
 unsound l k (inr h) = unsound-run (l .device) (l .marks) (l .area) (l .queues) (k .id) (k .op) (rw (ne-eqb (length (l .marks)) 256 h) (and-false (soundDevice (l .device))))
@@ -314,12 +314,12 @@ soundness =
       unsound = unsound;
       kept = λ s m ks sized e.
           let f = fresh-done s (m .marks) e in
-          let fits = fits-after ks (begun s m) (begins s m sized (f .0) (f .1) .fits) in (
-            sym (sound-same (endOf s m ks .device) (endOf s m ks .marks) (endOf s m ks .area) (endOf s m ks .queues) fits) ∙ ap soundState (session s m ks sized .state)
-                ∙ rules.soundness .kept s (length (m .marks)) ks (sym (fresh-answers s (m .marks) .first) ∙ e),
+          let fits = fits-after ks (begun inWords s m) (begins s m sized (f .0) (f .1) .fits) in (
+            sym (sound-same (endOf inWords s m ks .device) (endOf inWords s m ks .marks) (endOf inWords s m ks .area) (endOf inWords s m ks .queues) fits) ∙ ap soundState (session s m ks sized .state)
+                ∙ rules.soundness .kept s (length (m .marks)) ks (sym (fresh-answers inWords s (m .marks) .first) ∙ e),
             fits .words,
           );
       closed = λ s m ks k e.
           let z = closed-session s m ks e in
-          (z, rw z (closed-answer m k .0), rw z (closed-answer m k .1));
+          (z, rw z (closed-answer inWords m k .0), rw z (closed-answer inWords m k .1));
     }

@@ -157,13 +157,13 @@ listed-some d ws area fits sure j h g n e =
 
 pub record Like (id : ℕ) (x : List ℕ) (o : Outcome) (a : Answer) (st : State) : Type 0 where
   pub answer : o .answer ≡ a
-  pub state : view (o .device) (o .marks) (o .area) (o .queues) ≡ st
+  pub state : view inWords (o .device) (o .marks) (o .area) (o .queues) ≡ st
   pub bytes : o .bytes ≡ stored id x (o .answer)
   pub fits : Fits (o .device) (o .marks) (o .area)
 
 module _ (d : Device) (ws area : List ℕ) (qs : ℕ → List ℕ) (fits : Fits d ws area) (id : ℕ) where
   abbrev st : State
-  st = view d ws area qs
+  st = view inWords d ws area qs
 
   -- an outcome that leaves all as it was
   abbrev unchanged : Answer → List ℕ → Outcome
@@ -193,7 +193,7 @@ module _ (d : Device) (ws area : List ℕ) (qs : ℕ → List ℕ) (fits : Fits 
       (λ t q.
       record {
         answer = ap (λ (y : Outcome). y .answer) q;
-        state = ap (λ (y : Outcome). view (y .device) (y .marks) (y .area) (y .queues)) q ∙ sym (withSlot-slotAt st p);
+        state = ap (λ (y : Outcome). view inWords (y .device) (y .marks) (y .area) (y .queues)) q ∙ sym (withSlot-slotAt st p);
         bytes = ap (λ (y : Outcome). y .bytes) q ∙ sym (ap (λ (y : Outcome). stored id x (y .answer)) q);
         fits = subst (λ (y : Outcome). Fits (y .device) (y .marks) (y .area)) (sym q) fits;
       })
@@ -257,10 +257,10 @@ module _ (d : Device) (ws area : List ℕ) (qs : ℕ → List ℕ) (fits : Fits 
     abbrev Kept : List ℕ → Type 0
     Kept ws′ = (j g n : ℕ) → j ≢ i → j < d .settings .count → at j .tracking ≡ On g n → marksAt ws′ (at j .base) (sizeOf j g n) ≡ marksAt ws (at j .base) (sizeOf j g n)
 
-    kept-slot : (ws′ : List ℕ) → Kept ws′ → (j : ℕ) → j ≢ i → j < d .settings .count → marksOf ws′ (at j .base) (at j .tracking) (at j .ranges) ≡ marksOf ws (at j .base) (at j .tracking) (at j .ranges)
+    kept-slot : (ws′ : List ℕ) → Kept ws′ → (j : ℕ) → j ≢ i → j < d .settings .count → marksOf inWords ws′ (at j .base) (at j .tracking) (at j .ranges) ≡ marksOf inWords ws (at j .base) (at j .tracking) (at j .ranges)
     kept-slot ws′ same j other h = go (at j .tracking) refl
       where
-        go : (t : Tracking) → at j .tracking ≡ t → marksOf ws′ (at j .base) t (at j .ranges) ≡ marksOf ws (at j .base) t (at j .ranges)
+        go : (t : Tracking) → at j .tracking ≡ t → marksOf inWords ws′ (at j .base) t (at j .ranges) ≡ marksOf inWords ws (at j .base) t (at j .ranges)
         go Off q = refl
         go (On g n) q = ap (on g (take n (at j .ranges))) (same j g n other h q)
 
@@ -283,22 +283,22 @@ module _ (d : Device) (ws area : List ℕ) (qs : ℕ → List ℕ) (fits : Fits 
     -- a controller is replaced by one with a share and a queue that may be there, and with it the sequence, the words, the area and that of its queue
     moved : (e : Controller) (q : Sequence) (ws′ area′ : List ℕ) (qs′ : ℕ → List ℕ) → sharesOk (set (sharesOf d) i (shareOf e)) ≡ true → queueOk (e .queue) ≡ true
         → strayIn (d .settings) q ≡ strayIn (d .settings) (d .sequence) → Kept ws′ → ((j : ℕ) → j ≢ i → frontAt (d .settings) q area′ j ≡ front j) → ((j : ℕ) → j ≢ i → qs′ j ≡ qs j)
-        → view (withSequence (withController d i e) q) ws′ area′ qs′ ≡ withSlot st (some i) (slotOf ws′ e (frontAt (d .settings) q area′ i) (qs′ i))
+        → view inWords (withSequence (withController d i e) q) ws′ area′ qs′ ≡ withSlot st (some i) (slotOf inWords ws′ e (frontAt (d .settings) q area′ i) (qs′ i))
     moved e q ws′ area′ qs′ ok whole stray kept fronts areas =
         view-with d (withSequence (withController d i e) q) ws ws′ area area′ qs qs′ i (fits .controllers) (length-set (d .controllers) i e ∙ fits .controllers) refl most used
         (amiss-same (withSequence (withController d i e) q) stray refl (rw (sharesOf-with d (fits .controllers) most i e used) ok) (queues-with e whole)) other
-        ∙ ap (λ x. withSlot st (some i) (slotOf ws′ x (frontAt (d .settings) q area′ i) (qs′ i))) (getD-set-same (d .controllers) i e noController (eight i used))
+        ∙ ap (λ x. withSlot st (some i) (slotOf inWords ws′ x (frontAt (d .settings) q area′ i) (qs′ i))) (getD-set-same (d .controllers) i e noController (eight i used))
       where
         other : (j : ℕ) → j ≢ i → j < d .settings .count
-            → slotOf ws′ (getD (set (d .controllers) i e) j noController) (frontAt (d .settings) q area′ j) (qs′ j) ≡ slotOf ws (at j) (front j) (qs j)
+            → slotOf inWords ws′ (getD (set (d .controllers) i e) j noController) (frontAt (d .settings) q area′ j) (qs′ j) ≡ slotOf inWords ws (at j) (front j) (qs j)
         other j n h =
-            ap (λ x. slotOf ws′ x (frontAt (d .settings) q area′ j) (qs′ j)) (getD-set-other (d .controllers) i j e noController n)
+            ap (λ x. slotOf inWords ws′ x (frontAt (d .settings) q area′ j) (qs′ j)) (getD-set-other (d .controllers) i j e noController n)
             ∙ ap₂ (λ m f. record { suspended = at j .suspended; marks = m; front = f; queue = queueOf (qs′ j) (at j .queue) }) (kept-slot ws′ kept j n h) (fronts j n)
-            ∙ ap (λ x. slotOf ws (at j) (front j) x) (areas j n)
+            ∙ ap (λ x. slotOf inWords ws (at j) (front j) x) (areas j n)
 
     -- the same without another sequence, and with its queue as it was
     replaced : (e : Controller) (ws′ : List ℕ) → sharesOk (set (sharesOf d) i (shareOf e)) ≡ true → e .queue ≡ c .queue → Kept ws′
-        → view (withController d i e) ws′ area qs ≡ withSlot st (some i) (slotOf ws′ e (front i) (qs i))
+        → view inWords (withController d i e) ws′ area qs ≡ withSlot st (some i) (slotOf inWords ws′ e (front i) (qs i))
     replaced e ws′ ok same kept = moved e (d .sequence) ws′ area qs ok (ap queueOk same ∙ queue-kept) refl kept (λ j n. refl) (λ j n. refl)
 
     -- a share that stays
@@ -321,7 +321,7 @@ module _ (d : Device) (ws area : List ℕ) (qs : ℕ → List ℕ) (fits : Fits 
     same-record : withController d i c ≡ d
     same-record = ap (λ l. record { settings = d .settings; controllers = l; sequence = d .sequence }) (set-getD (d .controllers) i noController)
 
-    own : slotAt st (some i) ≡ slotOf ws c (front i) (qs i)
+    own : slotAt st (some i) ≡ slotOf inWords ws c (front i) (qs i)
     own = slot-at d ws area qs fits i used below
 
     -- ---- start
@@ -368,9 +368,9 @@ module _ (d : Device) (ws area : List ℕ) (qs : ℕ → List ℕ) (fits : Fits 
 
         -- a controller that is on, at its new place: its share reads as some marks do
         based : (j : ℕ) (k : Controller) (g n : ℕ) → k .tracking ≡ On g n → getD sizes j 0 ≡ length (units g (take n (k .ranges))) → (p : List Bool) → length p ≡ getD sizes j 0
-            → marksAt ws′ (newBase sizes j) (getD sizes j 0) ≡ p → marksOf ws′ (packedAt sizes j k .base) (k .tracking) (k .ranges) ≡ on g (take n (k .ranges)) p
+            → marksAt ws′ (newBase sizes j) (getD sizes j 0) ≡ p → marksOf inWords ws′ (packedAt sizes j k .base) (k .tracking) (k .ranges) ≡ on g (take n (k .ranges)) p
         based j k g n t size p long reads =
-            ap (λ (y : Tracking). marksOf ws′ (packedAt sizes j k .base) y (k .ranges)) t
+            ap (λ (y : Tracking). marksOf inWords ws′ (packedAt sizes j k .base) y (k .ranges)) t
             ∙ ap (λ m. on g (take n (k .ranges)) (marksAt ws′ (packedAt sizes j k .base) m)) (sym size)
             ∙ ap (on g (take n (k .ranges))) (go (eqb (getD sizes j 0) 0) refl)
           where
@@ -382,8 +382,8 @@ module _ (d : Device) (ws area : List ℕ) (qs : ℕ → List ℕ) (fits : Fits 
             go true z = let n0 = eqb-true (getD sizes j 0) 0 z in rw n0 (nothing p (long ∙ n0))
             go false z = reads
 
-        slot-is : (j : ℕ) (k : Controller) (m : Marks) (y : Option (List ℕ)) → marksOf ws′ (packedAt sizes j k .base) (k .tracking) (k .ranges) ≡ m
-            → slotOf ws′ (packedAt sizes j k) y (qs j) ≡ record { suspended = k .suspended; marks = m; front = y; queue = queueOf (qs j) (k .queue) }
+        slot-is : (j : ℕ) (k : Controller) (m : Marks) (y : Option (List ℕ)) → marksOf inWords ws′ (packedAt sizes j k .base) (k .tracking) (k .ranges) ≡ m
+            → slotOf inWords ws′ (packedAt sizes j k) y (qs j) ≡ record { suspended = k .suspended; marks = m; front = y; queue = queueOf (qs j) (k .queue) }
         slot-is j k m y is =
             let a = packed-alike e eight-e most j k in
             rw (a .0, a .1, a .2, a .3) (ap (λ z. record { suspended = k .suspended; marks = z; front = y; queue = queueOf (qs j) (k .queue) }) is)
@@ -391,15 +391,15 @@ module _ (d : Device) (ws area : List ℕ) (qs : ℕ → List ℕ) (fits : Fits 
         words′ : length ws′ ≡ markWords
         words′ = packs-length ws (fits .words) (basesOf d) sizes i packs
 
-        others : (j : ℕ) → j ≢ i → j < d .settings .count → slotOf ws′ (getD (packedDevice e .controllers) j noController) (front j) (qs j) ≡ slotOf ws (at j) (front j) (qs j)
+        others : (j : ℕ) → j ≢ i → j < d .settings .count → slotOf inWords ws′ (getD (packedDevice e .controllers) j noController) (front j) (qs j) ≡ slotOf inWords ws (at j) (front j) (qs j)
         others j n h =
-            ap (λ k. slotOf ws′ k (front j) (qs j)) (packed-at e j (omega (arith, h, most, eight-e)) ∙ ap (packedAt sizes j) (getD-set-other (d .controllers) i j (started c x) noController n))
-            ∙ slot-is j (at j) (marksOf ws (at j .base) (at j .tracking) (at j .ranges)) (front j) (go (at j .tracking) refl)
+            ap (λ k. slotOf inWords ws′ k (front j) (qs j)) (packed-at e j (omega (arith, h, most, eight-e)) ∙ ap (packedAt sizes j) (getD-set-other (d .controllers) i j (started c x) noController n))
+            ∙ slot-is j (at j) (marksOf inWords ws (at j .base) (at j .tracking) (at j .ranges)) (front j) (go (at j .tracking) refl)
           where
             size : getD sizes j 0 ≡ heldUnits (heldOf (at j))
             size = size-at j h ∙ ap (λ k. heldUnits (heldOf k)) (getD-set-other (d .controllers) i j (started c x) noController n)
 
-            go : (t : Tracking) → at j .tracking ≡ t → marksOf ws′ (packedAt sizes j (at j) .base) (at j .tracking) (at j .ranges) ≡ marksOf ws (at j .base) (at j .tracking) (at j .ranges)
+            go : (t : Tracking) → at j .tracking ≡ t → marksOf inWords ws′ (packedAt sizes j (at j) .base) (at j .tracking) (at j .ranges) ≡ marksOf inWords ws (at j .base) (at j .tracking) (at j .ranges)
             go Off t = rw t
             go (On g m) t =
                 let z : getD sizes j 0 ≡ sizeOf j g m = size ∙ rw t in
@@ -421,13 +421,13 @@ module _ (d : Device) (ws area : List ℕ) (qs : ℕ → List ℕ) (fits : Fits 
         queues : queuesOk (packedDevice e) ≡ true
         queues = rw (packed-take (d .settings .count) 0 (e .controllers)) (queues-packed (controllersOf e) 0 ∙ queues-with (started c x) queue-kept)
 
-        state : view (packedDevice e) ws′ area qs ≡ withSlot st (some i) (withMarksOf (slotOf ws c (front i) (qs i)) (on (granularityOf x) (rangesOf x) (clear us)))
+        state : view inWords (packedDevice e) ws′ area qs ≡ withSlot st (some i) (withMarksOf (slotOf inWords ws c (front i) (qs i)) (on (granularityOf x) (rangesOf x) (clear us)))
         state =
             let size : getD sizes i 0 ≡ length us = size-at i used ∙ ap (λ k. heldUnits (heldOf k)) (getD-set-same (d .controllers) i (started c x) noController (eight i used)) ∙ rw first in
             view-with d (packedDevice e) ws ws′ area area qs qs i (fits .controllers) (packed-eight e eight-e most) refl most used
             (amiss-same (packedDevice e) refl refl (packed-ok e eight-e most fit) queues) others
             ∙ ap (withSlot st (some i))
-            (ap (λ k. slotOf ws′ k (front i) (qs i)) (packed-at e i (omega (arith, used, most, eight-e)) ∙ ap (packedAt sizes i) (getD-set-same (d .controllers) i (started c x) noController (eight i used)))
+            (ap (λ k. slotOf inWords ws′ k (front i) (qs i)) (packed-at e i (omega (arith, used, most, eight-e)) ∙ ap (packedAt sizes i) (getD-set-same (d .controllers) i (started c x) noController (eight i used)))
             ∙ slot-is i (started c x) (on (granularityOf x) (rangesOf x) (clear us)) (front i)
             (based i (started c x) (granularityOf x) (countOf x) refl (size ∙ rw first) (replicate (getD sizes i 0) false) (length-replicate (getD sizes i 0) false)
             (packs-clear ws (fits .words) (basesOf d) sizes i packs (omega (arith, used, most)))
@@ -486,7 +486,7 @@ module _ (d : Device) (ws area : List ℕ) (qs : ℕ → List ℕ) (fits : Fits 
           state =
               moved e (dropped id (d .sequence)) ws area qs (same-share e refl) queue-kept (stray-dropped (d .settings) id i place (d .sequence)) (λ j g n other h t. refl)
               (front-undropped (d .settings) id i place (d .sequence) area) (λ j n. refl)
-              ∙ ap (λ y. withSlot st (some i) (slotOf ws e y (qs i))) (front-dropped (d .settings) id i place (d .sequence) area);
+              ∙ ap (λ y. withSlot st (some i) (slotOf inWords ws e y (qs i))) (front-dropped (d .settings) id i place (d .sequence) area);
           bytes = refl;
           fits = record { controllers = f .controllers; identifiers = f .identifiers; listed = f .listed; totals = f .totals; words = f .words; bytes = f .bytes };
         })
@@ -495,12 +495,12 @@ module _ (d : Device) (ws area : List ℕ) (qs : ℕ → List ℕ) (fits : Fits 
 
     -- marks of its units that are put: the record is as it was
     marks-put : (g n : ℕ) (p : List Bool) → c .tracking ≡ On g n → length p ≡ length (units g (take n (c .ranges)))
-        → view d (withMarks ws (c .base) p) area qs ≡ withSlot st (some i) (withMarksOf (slotOf ws c (front i) (qs i)) (on g (take n (c .ranges)) p))
+        → view inWords d (withMarks ws (c .base) p) area qs ≡ withSlot st (some i) (withMarksOf (slotOf inWords ws c (front i) (qs i)) (on g (take n (c .ranges)) p))
     marks-put g n p e h =
         let us = units g (take n (c .ranges)) in
         let inside : c .base + length p ≤ 64 * markWords = omega (arith, h, within i g n used e) in
         let ws′ = withMarks ws (c .base) p in
-        sym (ap (λ (r : Device). view r ws′ area qs) same-record)
+        sym (ap (λ (r : Device). view inWords r ws′ area qs) same-record)
         ∙ replaced c ws′ (same-share c refl) refl
         (λ j g′ n′ other k t. put-other ws (fits .words) (c .base) p inside (at j .base) (sizeOf j g′ n′) (within j g′ n′ k t) (rw h (away g n e j g′ n′ other k t)))
         ∙ ap (withSlot st (some i)) (rw (e, put-own ws (fits .words) (c .base) p inside (length us) (sym h)))
@@ -525,8 +525,8 @@ module _ (d : Device) (ws area : List ℕ) (qs : ℕ → List ℕ) (fits : Fits 
     write-done w = rw own (go (c .tracking) refl)
       where
         go : (t : Tracking) → c .tracking ≡ t
-            → let r = wroteIn w (marksOf ws (c .base) t (c .ranges)) in
-            Like id [] (notes d area qs (noteIn inWords ws (c .base) t (c .ranges) w)) (r .0) (withSlot st (some i) (withMarksOf (slotOf ws c (front i) (qs i)) (r .1)))
+            → let r = wroteIn w (marksOf inWords ws (c .base) t (c .ranges)) in
+            Like id [] (notes d area qs (noteIn inWords ws (c .base) t (c .ranges) w)) (r .0) (withSlot st (some i) (withMarksOf (slotOf inWords ws c (front i) (qs i)) (r .1)))
         go Off e =
             record {
               answer = refl;
@@ -551,9 +551,9 @@ module _ (d : Device) (ws area : List ℕ) (qs : ℕ → List ℕ) (fits : Fits 
     receive-done x q = rw own (go (c .tracking) refl q)
       where
         go : (t : Tracking) → c .tracking ≡ t → isOn t ≡ true
-            → let r = reportedIn (c .suspended) (length x) (marksOf ws (c .base) t (c .ranges)) in
+            → let r = reportedIn (c .suspended) (length x) (marksOf inWords ws (c .base) t (c .ranges)) in
             Like id x (receipts d area qs (receiveIn inWords ws (c .base) id (c .suspended) t (c .ranges) x)) (r .0)
-            (withSlot st (some i) (withMarksOf (slotOf ws c (front i) (qs i)) (r .1)))
+            (withSlot st (some i) (withMarksOf (slotOf inWords ws c (front i) (qs i)) (r .1)))
         go Off e f = absurd (true≢false (sym f))
         go (On g n) e f =
             let us = units g (take n (c .ranges)) in
@@ -610,12 +610,12 @@ module _ (d : Device) (ws area : List ℕ) (qs : ℕ → List ℕ) (fits : Fits 
 
         -- its own bytes so far are replaced, and there are no others
         left : (q : Sequence) (y : Option (List ℕ)) → othersIn id q ≡ false → frontIn id q area′ ≡ y
-            → view (withSequence d q) ws area′ qs ≡ withSlot st (some i) (withFront (slotOf ws c so-far (qs i)) y)
+            → view inWords (withSequence d q) ws area′ qs ≡ withSlot st (some i) (withFront (slotOf inWords ws c so-far (qs i)) y)
         left q y others e =
-            sym (ap (λ (r : Device). view (withSequence r q) ws area′ qs) same-record)
+            sym (ap (λ (r : Device). view inWords (withSequence r q) ws area′ qs) same-record)
             ∙ moved c q ws area′ qs (same-share c refl) queue-kept (stray-own (d .settings) id i place q others ∙ sym (stray-own (d .settings) id i place (d .sequence) alone)) (λ j g n other h t. refl)
             (λ j other. front-others (d .settings) id i place q area′ others j other ∙ sym (front-others (d .settings) id i place (d .sequence) area alone j other)) (λ j n. refl)
-            ∙ ap (λ x. withSlot st (some i) (slotOf ws c x (qs i))) (front-own (d .settings) id i place q area′ ∙ e)
+            ∙ ap (λ x. withSlot st (some i) (slotOf inWords ws c x (qs i))) (front-own (d .settings) id i place q area′ ∙ e)
 
         -- a finished state has its header, so it is not empty
         long : isLast p ≡ true → eqb (length whole) 0 ≡ false
@@ -629,7 +629,7 @@ module _ (d : Device) (ws area : List ℕ) (qs : ℕ → List ℕ) (fits : Fits 
             (arrives ws qs (p .bytes)
             (cond l (arrival 0 (length whole) (withSequence d Nothing) area′) (arrival 0 0 (withSequence d (Open id (length whole))) area′)))
             (r .0)
-            (withSlot st (some i) (withFront (slotOf ws c so-far (qs i)) (r .1)))
+            (withSlot st (some i) (withFront (slotOf inWords ws c so-far (qs i)) (r .1)))
         go true l =
             record {
               answer = rw (long l) (ap assembled has);
@@ -651,7 +651,7 @@ module _ (d : Device) (ws area : List ℕ) (qs : ℕ → List ℕ) (fits : Fits 
 
     -- it is another, and so is its area; of the rest nothing changes
     queued-anew : (q : Queue) (qs′ : ℕ → List ℕ) → queueOk q ≡ true → ((j : ℕ) → j ≢ i → qs′ j ≡ qs j)
-        → view (withQueue d i q) ws area qs′ ≡ withSlot st (some i) (withQueued (slotOf ws c (front i) (qs i)) (queueOf (qs′ i) q))
+        → view inWords (withQueue d i q) ws area qs′ ≡ withSlot st (some i) (withQueued (slotOf inWords ws c (front i) (qs i)) (queueOf (qs′ i) q))
     queued-anew q qs′ ok areas = moved (queuing c q) (d .sequence) ws area qs′ (same-share (queuing c q) refl) ok refl (λ j g n other h t. refl) (λ j n. refl) areas
 
     counted-fits : (r : Ring) → Counted r → Fits (withQueue d i (made.Is r)) ws area
@@ -663,7 +663,7 @@ module _ (d : Device) (ws area : List ℕ) (qs : ℕ → List ℕ) (fits : Fits 
           answer = refl;
           state =
               queued-anew (made.Is (madeRing bytes)) qs (made-ok bytes (placesOk-true bytes ok .0)) (λ j n. refl)
-              ∙ ap (λ q. withSlot st (some i) (withQueued (slotOf ws c (front i) (qs i)) q)) (made-queue (qs i) bytes);
+              ∙ ap (λ q. withSlot st (some i) (withQueued (slotOf inWords ws c (front i) (qs i)) q)) (made-queue (qs i) bytes);
           bytes = refl;
           fits = counted-fits (madeRing bytes) (record { posted = omega arith; taken = omega arith });
         })
@@ -701,7 +701,7 @@ module _ (d : Device) (ws area : List ℕ) (qs : ℕ → List ℕ) (fits : Fits 
             answer = ap posted (posted-answer r lends facts counted small whole e long running);
             state =
                 queued-anew (made.Is ring) qs′ (posted-ok r lends facts counted small whole e long running) others
-                ∙ ap (λ q. withSlot st (some i) (withQueued (slotOf ws c (front i) (qs i)) q)) (ap (λ x. queueOf x (made.Is ring)) here ∙ posted-queue r lends facts counted small whole e long running (drop (length area′) (qs i)));
+                ∙ ap (λ q. withSlot st (some i) (withQueued (slotOf inWords ws c (front i) (qs i)) q)) (ap (λ x. queueOf x (made.Is ring)) here ∙ posted-queue r lends facts counted small whole e long running (drop (length area′) (qs i)));
             bytes = refl;
             fits = counted-fits ring (posted-counted r lends facts counted small whole e long running);
           })))
@@ -709,7 +709,7 @@ module _ (d : Device) (ws area : List ℕ) (qs : ℕ → List ℕ) (fits : Fits 
           G : Queue → Option Queued → Type 0
           G q z =
               Like id e (posts ws area qs (some i) e (postIn d i lends e q)) ((postedIn e z) .0)
-              (withSlot st (some i) (withQueued (slotOf ws c (front i) (qs i)) ((postedIn e z) .1)))
+              (withSlot st (some i) (withQueued (slotOf inWords ws c (front i) (qs i)) ((postedIn e z) .1)))
 
           ring : Ring
           ring = ringPosted r (closesAt (r .size) (fillIn r))
@@ -732,7 +732,7 @@ module _ (d : Device) (ws area : List ℕ) (qs : ℕ → List ℕ) (fits : Fits 
             answer = ap₂ taken (taken-entries r lends facts counted small whole asked x) (taken-closing r lends facts counted small whole asked x);
             state =
                 queued-anew (made.Is ring) qs (taken-ok r lends facts counted small whole asked x) (λ j n. refl)
-                ∙ ap (λ q. withSlot st (some i) (withQueued (slotOf ws c (front i) (qs i)) q)) (taken-queue r lends facts counted small whole asked x (qs i) (ap (λ n. frontOf n (qs i)) sized));
+                ∙ ap (λ q. withSlot st (some i) (withQueued (slotOf inWords ws c (front i) (qs i)) q)) (taken-queue r lends facts counted small whole asked x (qs i) (ap (λ n. frontOf n (qs i)) sized));
             bytes = ap (λ es. put x 0 (joined es)) (sym (taken-entries r lends facts counted small whole asked x));
             fits = counted-fits ring (taken-counted r lends facts counted small whole asked x);
           })))
@@ -740,7 +740,7 @@ module _ (d : Device) (ws area : List ℕ) (qs : ℕ → List ℕ) (fits : Fits 
           G : Queue → Option Queued → Type 0
           G q z =
               Like id x (takes ws area qs (takeIn d i lends asked x q)) ((takenIn asked (length x) z) .0)
-              (withSlot st (some i) (withQueued (slotOf ws c (front i) (qs i)) ((takenIn asked (length x) z) .1)))
+              (withSlot st (some i) (withQueued (slotOf inWords ws c (front i) (qs i)) ((takenIn asked (length x) z) .1)))
 
           m : ℕ
           m = length (takenOf asked (length x) (queuedIn lends r))
@@ -802,7 +802,7 @@ module _ (d : Device) (ws area : List ℕ) (qs : ℕ → List ℕ) (fits : Fits 
 
   post-call : (bytes : ℕ) (x : List ℕ)
       → let o = queue bytes (post x) in
-      Like id x (runAs d ws area qs id o) ((stepAt st (placeOf (d .settings) id) o) .0) ((stepAt st (placeOf (d .settings) id) o) .1)
+      Like id x (runAs inWords d ws area qs id o) ((stepAt st (placeOf (d .settings) id) o) .0) ((stepAt st (placeOf (d .settings) id) o) .1)
   unfolding order postChange
   post-call bytes x =
       let p = placeOf (d .settings) id in
@@ -818,7 +818,7 @@ module _ (d : Device) (ws area : List ℕ) (qs : ℕ → List ℕ) (fits : Fits 
 
   take-call : (bytes asked : ℕ) (x : List ℕ)
       → let o = queue bytes (order.take asked x) in
-      Like id x (runAs d ws area qs id o) ((stepAt st (placeOf (d .settings) id) o) .0) ((stepAt st (placeOf (d .settings) id) o) .1)
+      Like id x (runAs inWords d ws area qs id o) ((stepAt st (placeOf (d .settings) id) o) .0) ((stepAt st (placeOf (d .settings) id) o) .1)
   unfolding order takeChange
   take-call bytes asked x =
       let p = placeOf (d .settings) id in
@@ -830,7 +830,7 @@ module _ (d : Device) (ws area : List ℕ) (qs : ℕ → List ℕ) (fits : Fits 
       let made = is-made (controllerAt d (some i) .queue) (q .1 .1 .1 .0) in
       rw e (take-done i e s bytes (made .0) (made .1) (q .1 .1 .0) asked x)))
 
-  every-call : (o : Op) → Like id (lent o) (runAs d ws area qs id o) ((stepAt st (placeOf (d .settings) id) o) .0) ((stepAt st (placeOf (d .settings) id) o) .1)
+  every-call : (o : Op) → Like id (lent o) (runAs inWords d ws area qs id o) ((stepAt st (placeOf (d .settings) id) o) .0) ((stepAt st (placeOf (d .settings) id) o) .1)
   unfolding order startBy stopBy writeBy receiveBy suspendChange resumeChange makeChange
   every-call (start x) =
       at-place (start x) (Change Started) x (starts area qs x) (startDone inWords d ws x) (λ n i. startedWith n i d ws) (start-refuses x)
@@ -861,6 +861,6 @@ module _ (d : Device) (ws area : List ℕ) (qs : ℕ → List ℕ) (fits : Fits 
 
 -- each call is a step of the rules
 pub call-step : (d : Device) (ws area : List ℕ) (qs : ℕ → List ℕ) → Fits d ws area → (k : Call)
-    → Like (k .id) (lent (k .op)) (run d ws area qs k) ((step (view d ws area qs) k) .0) ((step (view d ws area qs) k) .1)
+    → Like (k .id) (lent (k .op)) (run inWords d ws area qs k) ((step (view inWords d ws area qs) k) .0) ((step (view inWords d ws area qs) k) .1)
 unfolding run step
 call-step d ws area qs fits k = every-call d ws area qs fits (k .id) (k .op)

@@ -31,7 +31,7 @@ use Rattle.rules.proofs.ListLaws.{All, All-take, getD-any, any-from, any-nowher
 use Rattle.rules.proofs.StateLaws.{placeOf-is, placeOf-apart}
 use Rattle.record.specs.Record.{soundWith, noController, isOn, placesOf, hasStopped, countsOf, unitsOf, seenIn, othersIn, frontOf, frontIn, arrivingIn}
 use Rattle.record.proofs.RecordLaws.{frontOf-length, soundDevice-sequence}
-use Rattle.calls.specs.Calls.{dropped}
+use Rattle.calls.specs.Calls.{inWords, dropped}
 use Rattle.demands.specs.View.{marksOf, queueOf, slotOf, isAt, frontAt, slotsFrom, strayIn, amissIn, view}
 
 -- ---- what holds of each record and its marks in a session
@@ -55,52 +55,52 @@ pub record Fits (d : Device) (ws area : List ℕ) : Type 0 where
 -- ---- the slot at a place
 
 module _ (ws : List ℕ) (f : ℕ → Option (List ℕ)) (qs : ℕ → List ℕ) where
-  pub slots-length : (cs : List Controller) (k : ℕ) → length (slotsFrom ws f qs k cs) ≡ length cs
+  pub slots-length : (cs : List Controller) (k : ℕ) → length (slotsFrom inWords ws f qs k cs) ≡ length cs
   slots-length [] k = refl
   slots-length (c ∷ cs) k = ap suc (slots-length cs (suc k))
 
   slots-at : (cs : List Controller) (k n i : ℕ) → i < n → i < length cs
-      → getD (slotsFrom ws f qs k (take n cs)) i freshSlot ≡ slotOf ws (getD cs i noController) (f (k + i)) (qs (k + i))
+      → getD (slotsFrom inWords ws f qs k (take n cs)) i freshSlot ≡ slotOf inWords ws (getD cs i noController) (f (k + i)) (qs (k + i))
   slots-at cs k zero i h l = absurd (omega arith)
   slots-at [] k (suc n) i h l = absurd (omega arith)
-  slots-at (c ∷ cs) k (suc n) zero h l = ap (λ z. slotOf ws c (f z) (qs z)) (omega arith)
+  slots-at (c ∷ cs) k (suc n) zero h l = ap (λ z. slotOf inWords ws c (f z) (qs z)) (omega arith)
   slots-at (c ∷ cs) k (suc n) (suc i) h l =
-      slots-at cs (suc k) n i (omega arith) (omega arith) ∙ ap (λ z. slotOf ws (getD cs i noController) (f z) (qs z)) (omega arith)
+      slots-at cs (suc k) n i (omega arith) (omega arith) ∙ ap (λ z. slotOf inWords ws (getD cs i noController) (f z) (qs z)) (omega arith)
 
   pub slots-front : (cs : List Controller) (n i : ℕ) → i < n → i < length cs
-      → getD (slotsFrom ws f qs 0 (take n cs)) i freshSlot ≡ slotOf ws (getD cs i noController) (f i) (qs i)
-  slots-front cs n i h l = slots-at cs 0 n i h l ∙ ap (λ z. slotOf ws (getD cs i noController) (f z) (qs z)) (omega arith)
+      → getD (slotsFrom inWords ws f qs 0 (take n cs)) i freshSlot ≡ slotOf inWords ws (getD cs i noController) (f i) (qs i)
+  slots-front cs n i h l = slots-at cs 0 n i h l ∙ ap (λ z. slotOf inWords ws (getD cs i noController) (f z) (qs z)) (omega arith)
 
   -- a slot holds what its controller holds
-  held-by : (c : Controller) (k : ℕ) → Listed c → heldBy (slotOf ws c (f k) (qs k)) ≡ heldOf c
+  held-by : (c : Controller) (k : ℕ) → Listed c → heldBy (slotOf inWords ws c (f k) (qs k)) ≡ heldOf c
   held-by c k h = go (c .tracking) refl
     where
-      go : (t : Tracking) → c .tracking ≡ t → heldOn (marksOf ws (c .base) t (c .ranges)) ≡ heldIn t (c .ranges)
+      go : (t : Tracking) → c .tracking ≡ t → heldOn (marksOf inWords ws (c .base) t (c .ranges)) ≡ heldIn t (c .ranges)
       go Off e = refl
       go (On g n) e = ap (λ m. some (record { granularity = g; count = m; ranges = take n (c .ranges) })) (length-take-le n (c .ranges) (h g n e))
 
-  pub slots-held : (cs : List Controller) (k : ℕ) → All Listed cs → map heldBy (slotsFrom ws f qs k cs) ≡ map heldOf cs
+  pub slots-held : (cs : List Controller) (k : ℕ) → All Listed cs → map heldBy (slotsFrom inWords ws f qs k cs) ≡ map heldOf cs
   slots-held [] k h = refl
   slots-held (c ∷ cs) k h = ap₂ (λ x xs. x ∷ xs) (held-by c k (h .0)) (slots-held cs (suc k) (h .1))
 
-  tracked-same : (base : ℕ) (t : Tracking) (rs : List Range) → areOn (marksOf ws base t rs) ≡ isOn t
+  tracked-same : (base : ℕ) (t : Tracking) (rs : List Range) → areOn (marksOf inWords ws base t rs) ≡ isOn t
   tracked-same base Off rs = refl
   tracked-same base (On g n) rs = refl
 
   -- where no state is under way from a place on
-  all-shut : (cs : List Controller) (k : ℕ) → ((i : ℕ) → k ≤ i → f i ≡ none) → all openOk (slotsFrom ws f qs k cs) ≡ true
+  all-shut : (cs : List Controller) (k : ℕ) → ((i : ℕ) → k ≤ i → f i ≡ none) → all openOk (slotsFrom inWords ws f qs k cs) ≡ true
   all-shut [] k z = refl
   all-shut (c ∷ cs) k z = rw (z k (omega arith)) (all-shut cs (suc k) (λ i h. z i (omega arith)))
 
   -- and where one is, at one place alone
   all-open : (cs : List Controller) (k j : ℕ) (x : List ℕ) → k ≤ j → j < k + length cs → ((i : ℕ) → f i ≡ cond (eqb j i) (some x) none)
-      → all openOk (slotsFrom ws f qs k cs) ≡ (getD cs (j - k) noController .suspended && frontOk (length x))
+      → all openOk (slotsFrom inWords ws f qs k cs) ≡ (getD cs (j - k) noController .suspended && frontOk (length x))
   all-open [] k j x h l z = absurd (omega arith)
   all-open (c ∷ cs) k j x h l z = go (eqb j k) refl (λ h′ l′. all-open cs (suc k) j x h′ l′ z)
     where
       go : (b : Bool) → eqb j k ≡ b
-          → (suc k ≤ j → j < suc k + length cs → all openOk (slotsFrom ws f qs (suc k) cs) ≡ (getD cs (j - suc k) noController .suspended && frontOk (length x)))
-          → all openOk (slotsFrom ws f qs k (c ∷ cs)) ≡ (getD (c ∷ cs) (j - k) noController .suspended && frontOk (length x))
+          → (suc k ≤ j → j < suc k + length cs → all openOk (slotsFrom inWords ws f qs (suc k) cs) ≡ (getD cs (j - suc k) noController .suspended && frontOk (length x)))
+          → all openOk (slotsFrom inWords ws f qs k (c ∷ cs)) ≡ (getD (c ∷ cs) (j - k) noController .suspended && frontOk (length x))
       go true e ih =
           let q : j ≡ k = eqb-true j k e in
           let n : j - k ≡ 0 = omega arith in
@@ -129,17 +129,17 @@ pub placeOf-there : (d : Device) (id i : ℕ) → length (d .settings .identifie
 placeOf-there d id i h e = omega (arith, h, placeOf-is (d .settings) id i e .0, length-take (d .settings .count) (d .settings .identifiers))
 
 module _ (d : Device) (ws area : List ℕ) (qs : ℕ → List ℕ) (fits : Fits d ws area) where
-  held-same : map heldBy (view d ws area qs .slots) ≡ map heldOf (controllersOf d)
+  held-same : map heldBy (view inWords d ws area qs .slots) ≡ map heldOf (controllersOf d)
   held-same = slots-held ws (frontAt (d .settings) (d .sequence) area) qs (controllersOf d) 0 (All-take Listed (d .settings .count) (d .controllers) (fits .listed))
 
   -- the owner's place says whether its sequence is as it may be
   sequence-same : (q : Sequence)
-      → (not (strayIn (d .settings) q) && all openOk (slotsFrom ws (frontAt (d .settings) q area) qs 0 (controllersOf d))) ≡ sequenceOk (d .settings) (controllersOf d) q
+      → (not (strayIn (d .settings) q) && all openOk (slotsFrom inWords ws (frontAt (d .settings) q area) qs 0 (controllersOf d))) ≡ sequenceOk (d .settings) (controllersOf d) q
   sequence-same Nothing = all-shut ws (λ i. none) qs (controllersOf d) 0 (λ i h. refl)
   sequence-same (Open owner end) = go (placeOf (d .settings) owner) (λ i e. placeOf-there d owner i (fits .identifiers) e) (λ i e. placeOf-used d owner i e)
     where
       go : (p : Option ℕ) → ((i : ℕ) → p ≡ some i → i < 8) → ((i : ℕ) → p ≡ some i → i < d .settings .count)
-          → (not (not (isSome p)) && all openOk (slotsFrom ws (λ i. cond (isAt p i) (some (frontOf end area)) none) qs 0 (controllersOf d)))
+          → (not (not (isSome p)) && all openOk (slotsFrom inWords ws (λ i. cond (isAt p i) (some (frontOf end area)) none) qs 0 (controllersOf d)))
           ≡ (suspendedAt (controllersOf d) p && frontOk end)
       go none h u = refl
       go (some j) h u =
@@ -148,7 +148,7 @@ module _ (d : Device) (ws area : List ℕ) (qs : ℕ → List ℕ) (fits : Fits 
           ∙ ap₂ (λ c n. c .suspended && frontOk n) (getD-any (controllersOf d) (j - 0) noController freshController (omega (arith, l)) ∙ ap (λ m. getD (controllersOf d) m freshController) (omega arith))
           (frontOf-length end area)
 
-  pub sound-same : soundState (view d ws area qs) ≡ soundDevice d
+  pub sound-same : soundState (view inWords d ws area qs) ≡ soundDevice d
   sound-same = ap₂ (sound (d .settings)) held-same (regroup (strayIn (d .settings) (d .sequence)) (sharesOk (sharesOf d) && queuesOk d) _ ∙ ap (λ b. b && (sharesOk (sharesOf d) && queuesOk d)) (sequence-same (d .sequence)))
     where
       regroup : (a b c : Bool) → (not (a || not b) && c) ≡ ((not a && c) && b)
@@ -156,24 +156,24 @@ module _ (d : Device) (ws area : List ℕ) (qs : ℕ → List ℕ) (fits : Fits 
       regroup false true c = sym (and-true c)
       regroup false false c = sym (and-false c)
 
-  sound-with : soundWith d (length ws) ≡ soundState (view d ws area qs)
+  sound-with : soundWith d (length ws) ≡ soundState (view inWords d ws area qs)
   unfolding soundWith
   sound-with = rw (eq-eqb (length ws) markWords (fits .words)) (and-true (soundDevice d) ∙ sym sound-same)
 
-  counts-same : countsOf d ≡ countsIn (view d ws area qs)
+  counts-same : countsOf d ≡ countsIn (view inWords d ws area qs)
   counts-same = ap (λ hs. sum (map heldCount hs)) (sym held-same)
 
-  units-same : unitsOf d ≡ unitsIn (view d ws area qs)
+  units-same : unitsOf d ≡ unitsIn (view inWords d ws area qs)
   units-same = ap (λ hs. sum (map heldUnits hs)) (sym held-same)
 
   pub slot-at : (i : ℕ) → i < d .settings .count → i < 8
-      → slotAt (view d ws area qs) (some i) ≡ slotOf ws (getD (d .controllers) i noController) (frontAt (d .settings) (d .sequence) area i) (qs i)
+      → slotAt (view inWords d ws area qs) (some i) ≡ slotOf inWords ws (getD (d .controllers) i noController) (frontAt (d .settings) (d .sequence) area i) (qs i)
   slot-at i h k = slots-front ws (frontAt (d .settings) (d .sequence) area) qs (d .controllers) (d .settings .count) i h (omega (arith, k, fits .controllers))
 
-  pub seen-same : (id : ℕ) → seenIn d (length ws) (placeOf (d .settings) id) ≡ seenAt (view d ws area qs) (placeOf (d .settings) id)
+  pub seen-same : (id : ℕ) → seenIn d (length ws) (placeOf (d .settings) id) ≡ seenAt (view inWords d ws area qs) (placeOf (d .settings) id)
   seen-same id = go (placeOf (d .settings) id) (λ i e. placeOf-used d id i e) (λ i e. placeOf-there d id i (fits .identifiers) e)
     where
-      go : (p : Option ℕ) → ((i : ℕ) → p ≡ some i → i < d .settings .count) → ((i : ℕ) → p ≡ some i → i < 8) → seenIn d (length ws) p ≡ seenAt (view d ws area qs) p
+      go : (p : Option ℕ) → ((i : ℕ) → p ≡ some i → i < d .settings .count) → ((i : ℕ) → p ≡ some i → i < 8) → seenIn d (length ws) p ≡ seenAt (view inWords d ws area qs) p
       go none h k = rw (sound-with, counts-same, units-same)
       go (some i) h k =
           let c = getD (d .controllers) i noController in
@@ -184,17 +184,17 @@ module _ (d : Device) (ws area : List ℕ) (qs : ℕ → List ℕ) (fits : Fits 
 module _ (d d′ : Device) (ws ws′ area area′ : List ℕ) (qs qs′ : ℕ → List ℕ) where
   -- the slot at a place, before and afterwards
   abbrev before : ℕ → Slot
-  before j = slotOf ws (getD (d .controllers) j noController) (frontAt (d .settings) (d .sequence) area j) (qs j)
+  before j = slotOf inWords ws (getD (d .controllers) j noController) (frontAt (d .settings) (d .sequence) area j) (qs j)
 
   abbrev afterwards : ℕ → Slot
-  afterwards j = slotOf ws′ (getD (d′ .controllers) j noController) (frontAt (d .settings) (d′ .sequence) area′ j) (qs′ j)
+  afterwards j = slotOf inWords ws′ (getD (d′ .controllers) j noController) (frontAt (d .settings) (d′ .sequence) area′ j) (qs′ j)
 
   pub view-with : (i : ℕ) → length (d .controllers) ≡ 8 → length (d′ .controllers) ≡ 8 → d′ .settings ≡ d .settings → d .settings .count ≤ 8 → i < d .settings .count
       → amissIn d′ ≡ amissIn d → ((j : ℕ) → j ≢ i → j < d .settings .count → afterwards j ≡ before j)
-      → view d′ ws′ area′ qs′ ≡ withSlot (view d ws area qs) (some i) (afterwards i)
+      → view inWords d′ ws′ area′ qs′ ≡ withSlot (view inWords d ws area qs) (some i) (afterwards i)
   view-with i eight eight′ settings most used amiss same =
-      ap (λ b. record { settings = d′ .settings; slots = view d′ ws′ area′ qs′ .slots; amiss = b }) amiss
-      ∙ ap (λ (t : Settings). record { settings = t; slots = slotsFrom ws′ (frontAt t (d′ .sequence) area′) qs′ 0 (take (t .count) (d′ .controllers)); amiss = amissIn d }) settings
+      ap (λ b. record { settings = d′ .settings; slots = view inWords d′ ws′ area′ qs′ .slots; amiss = b }) amiss
+      ∙ ap (λ (t : Settings). record { settings = t; slots = slotsFrom inWords ws′ (frontAt t (d′ .sequence) area′) qs′ 0 (take (t .count) (d′ .controllers)); amiss = amissIn d }) settings
       ∙ ap (λ l. record { settings = d .settings; slots = l; amiss = amissIn d }) (ext-getD freshSlot new old (sizes ∙ sym old-length) at)
     where
       n : ℕ
@@ -207,19 +207,19 @@ module _ (d d′ : Device) (ws ws′ area area′ : List ℕ) (qs qs′ : ℕ �
       f′ = frontAt (d .settings) (d′ .sequence) area′
 
       new : List Slot
-      new = slotsFrom ws′ f′ qs′ 0 (take n (d′ .controllers))
+      new = slotsFrom inWords ws′ f′ qs′ 0 (take n (d′ .controllers))
 
       old : List Slot
-      old = set (slotsFrom ws f qs 0 (take n (d .controllers))) i (afterwards i)
+      old = set (slotsFrom inWords ws f qs 0 (take n (d .controllers))) i (afterwards i)
 
       sizes : length new ≡ n
       sizes = slots-length ws′ f′ qs′ (take n (d′ .controllers)) 0 ∙ length-take-le n (d′ .controllers) (omega (arith, eight′, most))
 
-      was : length (slotsFrom ws f qs 0 (take n (d .controllers))) ≡ n
+      was : length (slotsFrom inWords ws f qs 0 (take n (d .controllers))) ≡ n
       was = slots-length ws f qs (take n (d .controllers)) 0 ∙ length-take-le n (d .controllers) (omega (arith, eight, most))
 
       old-length : length old ≡ n
-      old-length = length-set (slotsFrom ws f qs 0 (take n (d .controllers))) i (afterwards i) ∙ was
+      old-length = length-set (slotsFrom inWords ws f qs 0 (take n (d .controllers))) i (afterwards i) ∙ was
 
       at : (j : ℕ) → j < length new → getD new j freshSlot ≡ getD old j freshSlot
       at j h =
@@ -229,12 +229,12 @@ module _ (d d′ : Device) (ws ws′ area area′ : List ℕ) (qs qs′ : ℕ �
           go : (b : Bool) → eqb j i ≡ b → j < n → afterwards j ≡ getD old j freshSlot
           go true e k =
               let z = eqb-true j i e in
-              rw z (sym (getD-set-same (slotsFrom ws f qs 0 (take n (d .controllers))) i (afterwards i) freshSlot (omega (arith, was, used))))
+              rw z (sym (getD-set-same (slotsFrom inWords ws f qs 0 (take n (d .controllers))) i (afterwards i) freshSlot (omega (arith, was, used))))
           go false e k =
               let z = eqb-false j i e in
               same j z k
               ∙ sym (slots-front ws f qs (d .controllers) n j k (omega (arith, k, most, eight)))
-              ∙ sym (getD-set-other (slotsFrom ws f qs 0 (take n (d .controllers))) i j (afterwards i) freshSlot z)
+              ∙ sym (getD-set-other (slotsFrom inWords ws f qs 0 (take n (d .controllers))) i j (afterwards i) freshSlot z)
 
 -- ---- a state under way (W6): a controller is its owner exactly if it stands at the owner's place
 
@@ -299,7 +299,7 @@ module _ (d : Device) (ws area : List ℕ) (qs : ℕ → List ℕ) (fits : Fits 
   there = placeOf-there d id i (fits .identifiers) e
 
   abbrev slots : List Slot
-  slots = view d ws area qs .slots
+  slots = view inWords d ws area qs .slots
 
   size : length slots ≡ length (controllersOf d)
   size = slots-length ws (frontAt (d .settings) (d .sequence) area) qs (controllersOf d) 0
@@ -342,6 +342,6 @@ module _ (d : Device) (ws area : List ℕ) (qs : ℕ → List ℕ) (fits : Fits 
                   (other-slot j h k ∙ rw (f, r, eq-eqb j j refl))
 
   -- the same of both: that of the record, and that of the device of the rules
-  pub arriving-same : soundDevice d ≡ true → arrivingIn (d .sequence) area id ≡ arrivingAt (view d ws area qs) (some i)
+  pub arriving-same : soundDevice d ≡ true → arrivingIn (d .sequence) area id ≡ arrivingAt (view inWords d ws area qs) (some i)
   arriving-same sure =
       rw (eq-eqb (length area) stateMost (fits .bytes), others-same sure, slot-at d ws area qs fits i used there, front-own (d .settings) id i e (d .sequence) area)

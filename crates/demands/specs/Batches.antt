@@ -14,7 +14,7 @@ use Rattle.rules.specs.Demands.{sessionEnd, unhindered}
 use Rattle.rules.specs.declared.Settings.{Settings}
 use Rattle.record.specs.Record.{soundWith}
 use Rattle.calls.specs.declared.WriteRecord.{WriteRecord}
-use Rattle.calls.specs.Calls.{freshChange, writeNote, batchChange}
+use Rattle.calls.specs.Calls.{Engine, inWords, freshChange, writeBy, batchBy}
 use Rattle.demands.specs.Sessions.{Left, Given, Sized, Step, one, leftAfter, answersTo, tried, endOf, endBy, callsIn, historyIn}
 use Rattle.demands.specs.Demand1.{Answers}
 use Rattle.demands.specs.Demand2.{Equals, Stands}
@@ -40,37 +40,37 @@ lastNumber (e ∷ f ∷ es) = lastNumber (f ∷ es)
 
 -- "It does exactly the single notes in list order up to the first refused one and answers the number done, the total newly pending and the refusal, if any; such a
 -- batch counts as done. An empty list is done with 0. At most 1,024 records": a batch of records rs, given l
-pub record IsNotes (l : Left) (rs : List WriteRecord) : Type 0 where
+pub record IsNotes (en : Engine) (l : Left) (rs : List WriteRecord) : Type 0 where
   -- 1, then 22; a refused one answers zeros and changes no mark
-  pub answers : let c = batchChange (l .device) (l .marks) rs in
-      Answers (c .answer .number) (batchOrder (soundWith (l .device) (length (l .marks))) (length rs))
+  pub answers : let c = batchBy en (l .device) (l .marks) rs in
+      Answers (c .answer .number) (batchOrder (soundWith (l .device) (en .words (l .marks))) (length rs))
       ((c .answer .done ≡ 0) × (c .answer .count ≡ 0) × (c .answer .refusal ≡ 0) × (c .marks ≡ l .marks))
-  pub unsound : soundWith (l .device) (length (l .marks)) ≡ false → batchChange (l .device) (l .marks) rs .answer .number ≡ 1
-  pub many : soundWith (l .device) (length (l .marks)) ≡ true → 1024 < length rs → batchChange (l .device) (l .marks) rs .answer .number ≡ 22
-  pub few : soundWith (l .device) (length (l .marks)) ≡ true → length rs ≤ 1024 → batchChange (l .device) (l .marks) rs .answer .number ≡ 0
+  pub unsound : soundWith (l .device) (en .words (l .marks)) ≡ false → batchBy en (l .device) (l .marks) rs .answer .number ≡ 1
+  pub many : soundWith (l .device) (en .words (l .marks)) ≡ true → 1024 < length rs → batchBy en (l .device) (l .marks) rs .answer .number ≡ 22
+  pub few : soundWith (l .device) (en .words (l .marks)) ≡ true → length rs ≤ 1024 → batchBy en (l .device) (l .marks) rs .answer .number ≡ 0
   -- a done one leaves what its tried notes leave, and answers what they answer together
-  pub leaves : let c = batchChange (l .device) (l .marks) rs in
-      c .answer .number ≡ 0 → record { device = l .device; marks = c .marks; area = l .area; queues = l .queues } ≡ leftAfter l (tried l rs)
-  pub says : let c = batchChange (l .device) (l .marks) rs in
-      let es = answersTo l (tried l rs) in
+  pub leaves : let c = batchBy en (l .device) (l .marks) rs in
+      c .answer .number ≡ 0 → record { device = l .device; marks = c .marks; area = l .area; queues = l .queues } ≡ leftAfter en l (tried en l rs)
+  pub says : let c = batchBy en (l .device) (l .marks) rs in
+      let es = answersTo en l (tried en l rs) in
       c .answer .number ≡ 0 → (c .answer .done ≡ doneIn es) × (c .answer .count ≡ newlyIn es) × (c .answer .refusal ≡ lastNumber es)
 
 -- the same by the single note itself, with no definition between: what a batch on l answers and leaves, from what its first note answers and leaves, and the
 -- batch of the others on that
-pub record ByNote (l : Left) : Type 0 where
+pub record ByNote (en : Engine) (l : Left) : Type 0 where
   -- 1 exactly where any single note is refused with 1
   pub unsound : (rs : List WriteRecord) (id : ℕ) (w : Write)
-      → (batchChange (l .device) (l .marks) rs .answer .number ≡ 1) ↔ (writeNote (l .device) (l .marks) id w .answer .number ≡ 1)
-  pub none : let c = batchChange (l .device) (l .marks) [] in
+      → (batchBy en (l .device) (l .marks) rs .answer .number ≡ 1) ↔ (writeBy en (l .device) (l .marks) id w .answer .number ≡ 1)
+  pub none : let c = batchBy en (l .device) (l .marks) [] in
       c .answer .number ≡ 0 → c ≡ record { answer = record { number = 0; done = 0; count = 0; refusal = 0 }; marks = l .marks }
   pub cut : (r : WriteRecord) (rs : List WriteRecord)
-      → let n = writeNote (l .device) (l .marks) (r .id) (record { address = r .address; bytes = r .bytes .0 }) in
-      let c = batchChange (l .device) (l .marks) (r ∷ rs) in
+      → let n = writeBy en (l .device) (l .marks) (r .id) (record { address = r .address; bytes = r .bytes .0 }) in
+      let c = batchBy en (l .device) (l .marks) (r ∷ rs) in
       c .answer .number ≡ 0 → n .answer .number ≢ 0 → c ≡ record { answer = record { number = 0; done = 0; count = 0; refusal = n .answer .number }; marks = l .marks }
   pub goes-on : (r : WriteRecord) (rs : List WriteRecord)
-      → let n = writeNote (l .device) (l .marks) (r .id) (record { address = r .address; bytes = r .bytes .0 }) in
-      let c = batchChange (l .device) (l .marks) (r ∷ rs) in
-      let others = batchChange (l .device) (n .marks) rs in
+      → let n = writeBy en (l .device) (l .marks) (r .id) (record { address = r .address; bytes = r .bytes .0 }) in
+      let c = batchBy en (l .device) (l .marks) (r ∷ rs) in
+      let others = batchBy en (l .device) (n .marks) rs in
       c .answer .number ≡ 0 → n .answer .number ≡ 0
       → c
       ≡ record {
@@ -80,19 +80,22 @@ pub record ByNote (l : Left) : Type 0 where
 
 -- ---- sessions
 
-pub record Batches : Type 1 where
-  pub notes : (l : Left) (rs : List WriteRecord) → IsNotes l rs
-  pub by-note : (l : Left) → ByNote l
+pub record Batches (en : Engine) : Type 1 where
+  pub notes : (l : Left) (rs : List WriteRecord) → IsNotes en l rs
+  pub by-note : (l : Left) → ByNote en l
   -- a session with batches leaves what the session of its calls leaves; one with none is its calls
-  pub session : (s : Settings) (m : Given) (xs : List Step) → endBy s m xs ≡ endOf s m (callsIn s m xs)
-  pub calls : (s : Settings) (m : Given) (ks : List Call) → callsIn s m (map one ks) ≡ ks
-  -- demand 2: it comes for each controller to what the rules give for these calls, and each stands as its calls and answers tell
-  pub rules : (s : Settings) (a : ℕ) (m : Given) (xs : List Step) → Sized s m → Equals s a m (callsIn s m xs) (callsIn s m xs)
-  pub stands : (s : Settings) (m : Given) (xs : List Step) → Sized s m → freshChange s (m .marks) .answer .number ≡ 0
-      → (a : ℕ) → Stands s (endBy s m xs) (historyIn s m (callsIn s m xs) a) (countsIn (sessionEnd s (length (m .marks)) (callsIn s m xs))) (unitsIn (sessionEnd s (length (m .marks)) (callsIn s m xs))) a
+  pub session : (s : Settings) (m : Given) (xs : List Step) → endBy en s m xs ≡ endOf en s m (callsIn en s m xs)
+  pub calls : (s : Settings) (m : Given) (ks : List Call) → callsIn en s m (map one ks) ≡ ks
+  -- demand 2: it comes for each controller to what the rules give for these calls
+  pub rules : (s : Settings) (a : ℕ) (m : Given) (xs : List Step) → Sized s m → Equals en s a m (callsIn en s m xs) (callsIn en s m xs)
   -- demand 3: "For demand 3 a batch is its notes carried out, each answered singly; a cut by another controller's note is outside": then A's calls differ
-  pub together : (s : Settings) (a : ℕ) (m m′ : Given) (xs xs′ : List Step) → Sized s m → Sized s m′ → length (m .marks) ≡ length (m′ .marks)
-      → only a (callsIn s m xs) ≡ only a (callsIn s m′ xs′) → unhindered (historyIn s m (callsIn s m xs) a) ≡ true → unhindered (historyIn s m′ (callsIn s m′ xs′) a) ≡ true
-      → Agree s a m m′ (callsIn s m xs) (callsIn s m′ xs′)
+  pub together : (s : Settings) (a : ℕ) (m m′ : Given) (xs xs′ : List Step) → Sized s m → Sized s m′ → en .words (m .marks) ≡ en .words (m′ .marks)
+      → only a (callsIn en s m xs) ≡ only a (callsIn en s m′ xs′) → unhindered (historyIn en s m (callsIn en s m xs) a) ≡ true → unhindered (historyIn en s m′ (callsIn en s m′ xs′) a) ≡ true
+      → Agree en s a m m′ (callsIn en s m xs) (callsIn en s m′ xs′)
   pub alone : (s : Settings) (a : ℕ) (m : Given) (xs : List Step) → Sized s m
-      → unhindered (historyIn s m (callsIn s m xs) a) ≡ true → Equals s a m (callsIn s m xs) (only a (callsIn s m xs))
+      → unhindered (historyIn en s m (callsIn en s m xs) a) ≡ true → Equals en s a m (callsIn en s m xs) (only a (callsIn en s m xs))
+
+-- and each controller of `tracker` stands as its calls and answers tell
+pub record BatchesStand : Type 1 where
+  pub stands : (s : Settings) (m : Given) (xs : List Step) → Sized s m → freshChange s (m .marks) .answer .number ≡ 0
+      → (a : ℕ) → Stands s (endBy inWords s m xs) (historyIn inWords s m (callsIn inWords s m xs) a) (countsIn (sessionEnd s (length (m .marks)) (callsIn inWords s m xs))) (unitsIn (sessionEnd s (length (m .marks)) (callsIn inWords s m xs))) a

@@ -29,7 +29,7 @@ use Rattle.rules.specs.declared.Header.the-variants.{Is, Refused}
 use Rattle.rules.specs.declared.Device.{Device}
 use Rattle.record.specs.Record.{countsOf, unitsOf, controllerAt, seenIn, arrivingIn}
 use Rattle.start_data.specs.Answer.{headerSays}
-use Rattle.calls.specs.Calls.{freshChange, startChange, stopChange, suspendChange, resumeChange, writeNote, receiveReceipt, partChange, makeChange, postChange, takeChange}
+use Rattle.calls.specs.Calls.{Engine, inWords, freshBy, startBy, stopBy, writeBy, receiveBy, suspendChange, resumeChange, partChange, makeChange, postChange, takeChange}
 
 -- "A refusal returns its number from document 01 and zeros (the structure reader adds a place), and the device record, the marks and the
 -- report buffer stay as they were"; W3: a start adds its row
@@ -39,25 +39,39 @@ pub record Answers (number : ℕ) (tests : List Test) (as-it-was : Type 0) : Typ
   pub first : number ≡ refusal tests
   pub refused : number ≢ 0 → as-it-was
 
-pub record Demand1 : Type 0 where
+-- the calls of an engine that touch marks (W9): of any record, and any area, which stands for so many words
+pub record MarkCalls (en : Engine) : Type 0 where
   -- a refused fresh returns the closed device
   pub fresh : (s : Settings) (ws : List ℕ)
-      → let c = freshChange s ws in
-      Answers (c .answer .number) (freshOrder s (length ws)) ((c .answer .device ≡ closedDevice) × (c .marks ≡ ws))
-  -- 16, then 1 unless there are 256 words (W7), and for nothing else
-  pub fresh-order : (s : Settings) (words : ℕ) → freshOrder s words ≡ (settingsOk s else 16) ∷ (eqb words 256 else 1) ∷ []
+      → let c = freshBy en s ws in
+      Answers (c .answer .number) (freshOrder s (en .words ws)) ((c .answer .device ≡ closedDevice) × (c .marks ≡ ws))
   pub start : (d : Device) (ws : List ℕ) (id : ℕ) (x : List ℕ)
-      → let c = startChange d ws id x in
-      Answers (c .answer .number) (startOrder (d .settings) (seenIn d (length ws) (placeOf (d .settings) id)) x) ((c .answer .device ≡ d) × (c .marks ≡ ws))
+      → let c = startBy en d ws id x in
+      Answers (c .answer .number) (startOrder (d .settings) (seenIn d (en .words ws) (placeOf (d .settings) id)) x) ((c .answer .device ≡ d) × (c .marks ≡ ws))
   -- W3: its row is the place of that test; so past the first eight tests (1, 2, 4, 3, 8, 6, 7, 8) it names the rule of ranges that is broken and the row, and
   -- else it has row 0
   pub row : (d : Device) (ws : List ℕ) (id : ℕ) (x : List ℕ)
-      → startChange d ws id x .answer .row ≡ placeIn (startOrder (d .settings) (seenIn d (length ws) (placeOf (d .settings) id)) x)
+      → startBy en d ws id x .answer .row ≡ placeIn (startOrder (d .settings) (seenIn d (en .words ws) (placeOf (d .settings) id)) x)
   pub names : (d : Device) (ws : List ℕ) (id : ℕ) (x : List ℕ)
-      → let a = startChange d ws id x .answer in
-      let first = passes (take 8 (startOrder (d .settings) (seenIn d (length ws) (placeOf (d .settings) id)) x)) in
+      → let a = startBy en d ws id x .answer in
+      let first = passes (take 8 (startOrder (d .settings) (seenIn d (en .words ws) (placeOf (d .settings) id)) x)) in
       (first ≡ true → Names (d .settings) (countsOf d) (unitsOf d) (granularityOf x) (rangesOf x) (a .number) (a .row)) × (first ≡ false → Rowless (a .number) (a .row))
-  -- those eight, in the order of document 01
+  pub stop : (d : Device) (ws : List ℕ) (id : ℕ)
+      → let c = stopBy en d ws id in
+      Answers (c .answer .number) (stopOrder (seenIn d (en .words ws) (placeOf (d .settings) id))) ((c .answer .device ≡ d) × (c .marks ≡ ws))
+  pub write : (d : Device) (ws : List ℕ) (id : ℕ) (w : Write)
+      → let n = writeBy en d ws id w in
+      Answers (n .answer .number) (writeOrder (seenIn d (en .words ws) (placeOf (d .settings) id)) w) ((n .answer .count ≡ 0) × (n .marks ≡ ws))
+  pub receive : (d : Device) (ws : List ℕ) (id : ℕ) (x : List ℕ)
+      → let r = receiveBy en d ws id x in
+      Answers (r .answer .number) (receiveOrder (seenIn d (en .words ws) (placeOf (d .settings) id)) x)
+      ((r .answer ≡ record { number = r .answer .number; suspended = false; more = false; granularity = 0; runs = 0 }) × (r .marks ≡ ws) × (r .buffer ≡ x))
+
+pub record Demand1 : Type 0 where
+  pub mark-calls : MarkCalls inWords
+  -- 16, then 1 unless there are 256 words (W7), and for nothing else
+  pub fresh-order : (s : Settings) (words : ℕ) → freshOrder s words ≡ (settingsOk s else 16) ∷ (eqb words 256 else 1) ∷ []
+  -- a start's first eight tests, in the order of document 01
   pub before : (s : Settings) (v : Seen) (x : List ℕ)
       → take 8 (startOrder s v x)
       ≡ (v .sound else 1)
@@ -69,16 +83,6 @@ pub record Demand1 : Type 0 where
       ∷ (leb (s .least) (getD x 3 0) && leb (getD x 3 0) (s .greatest) else 7)
       ∷ (leb (8 + 12 * numberAt x 4 4) (length x) else 8)
       ∷ []
-  pub stop : (d : Device) (ws : List ℕ) (id : ℕ)
-      → let c = stopChange d ws id in
-      Answers (c .answer .number) (stopOrder (seenIn d (length ws) (placeOf (d .settings) id))) ((c .answer .device ≡ d) × (c .marks ≡ ws))
-  pub write : (d : Device) (ws : List ℕ) (id : ℕ) (w : Write)
-      → let n = writeNote d ws id w in
-      Answers (n .answer .number) (writeOrder (seenIn d (length ws) (placeOf (d .settings) id)) w) ((n .answer .count ≡ 0) × (n .marks ≡ ws))
-  pub receive : (d : Device) (ws : List ℕ) (id : ℕ) (x : List ℕ)
-      → let r = receiveReceipt d ws id x in
-      Answers (r .answer .number) (receiveOrder (seenIn d (length ws) (placeOf (d .settings) id)) x)
-      ((r .answer ≡ record { number = r .answer .number; suspended = false; more = false; granularity = 0; runs = 0 }) × (r .marks ≡ ws) × (r .buffer ≡ x))
   pub suspend : (d : Device) (words id kind : ℕ)
       → let c = suspendChange d words id kind in
       Answers (c .number) (suspendOrder (seenIn d words (placeOf (d .settings) id)) kind) (c .device ≡ d)

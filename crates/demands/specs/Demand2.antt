@@ -30,7 +30,7 @@ use Rattle.rules.specs.declared.Settings.{Settings}
 use Rattle.rules.specs.declared.Controller.{Controller}
 use Rattle.rules.specs.declared.Device.{Device}
 use Rattle.record.specs.Record.{controllerAt}
-use Rattle.calls.specs.Calls.{sizesOf, Receipt, freshChange, startChange, stopChange, suspendChange, resumeChange, writeNote, receiveReceipt, partChange}
+use Rattle.calls.specs.Calls.{Engine, inWords, sizesOf, Receipt, freshChange, startChange, stopChange, suspendChange, resumeChange, writeNote, receiveReceipt, partChange}
 use Rattle.demands.specs.View.{view}
 use Rattle.demands.specs.Sessions.{Left, Given, Sized, outcome, next, endOf, historyIn, bytesIn}
 use Rattle.demands.specs.Soundness.{baseAt}
@@ -40,36 +40,36 @@ use Rattle.demands.specs.Queues.{Logs, QueueCalls}
 -- ---- a session, beside the rules' session
 
 -- a controller's pending units
-abbrev pub pendingOf : Left → ℕ → List Unit
-pendingOf l a = pendingIn (slotOf (view (l .device) (l .marks) (l .area) (l .queues)) a)
+abbrev pub pendingOf : Engine → Left → ℕ → List Unit
+pendingOf en l a = pendingIn (slotOf (view en (l .device) (l .marks) (l .area) (l .queues)) a)
 
 -- its queued entries (W8)
-abbrev pub queuedOf : Left → ℕ → List (List ℕ)
-queuedOf l a = entriesIn (slotOf (view (l .device) (l .marks) (l .area) (l .queues)) a .queue)
+abbrev pub queuedOf : Engine → Left → ℕ → List (List ℕ)
+queuedOf en l a = entriesIn (slotOf (view en (l .device) (l .marks) (l .area) (l .queues)) a .queue)
 
 -- a session of the calls is for a controller what the rules give for some calls: every answer, every byte lent with its calls, its reports' among them, its
 -- pending units and its queued entries
-pub record Equals (s : Settings) (a : ℕ) (m : Given) (ks ks′ : List Call) : Type 0 where
-  pub answers : historyIn s m ks a ≡ sessionHistory s (length (m .marks)) ks′ a
-  pub bytes : bytesIn s m ks a ≡ lentBytes a (sessionHistory s (length (m .marks)) ks′ a)
-  pub units : pendingOf (endOf s m ks) a ≡ pendingIn (slotOf (sessionEnd s (length (m .marks)) ks′) a)
-  pub queued : queuedOf (endOf s m ks) a ≡ entriesIn (slotOf (sessionEnd s (length (m .marks)) ks′) a .queue)
+pub record Equals (en : Engine) (s : Settings) (a : ℕ) (m : Given) (ks ks′ : List Call) : Type 0 where
+  pub answers : historyIn en s m ks a ≡ sessionHistory s (en .words (m .marks)) ks′ a
+  pub bytes : bytesIn en s m ks a ≡ lentBytes a (sessionHistory s (en .words (m .marks)) ks′ a)
+  pub units : pendingOf en (endOf en s m ks) a ≡ pendingIn (slotOf (sessionEnd s (en .words (m .marks)) ks′) a)
+  pub queued : queuedOf en (endOf en s m ks) a ≡ entriesIn (slotOf (sessionEnd s (en .words (m .marks)) ks′) a .queue)
 
 -- a record and marks that anyone may have made, of their sizes: eight controllers, of which none counts more ranges than it has places, totals of 32 bits, and the marks'
 -- words. (A call on marks of another number of words, or on a record that counts more, answers 1.)
-pub record Shaped (l : Left) : Type 0 where
+pub record Shaped (en : Engine) (l : Left) : Type 0 where
   pub controllers : length (l .device .controllers) ≡ 8
   pub identifiers : length (l .device .settings .identifiers) ≡ 8
   pub listed : (i g n : ℕ) → controllerAt (l .device) (some i) .tracking ≡ On g n → n ≤ length (controllerAt (l .device) (some i) .ranges)
   pub totals : (i : ℕ) (r : Ring) → controllerAt (l .device) (some i) .queue ≡ made.Is r → (r .posted < 2 ^ 32) × (r .taken < 2 ^ 32)
-  pub words : length (l .marks) ≡ 256
+  pub words : en .words (l .marks) ≡ 256
   pub bytes : length (l .area) ≡ 4096
 
 -- a call is a step of the rules, on the device that is seen in record and marks
-pub record Steps (l : Left) (k : Call) : Type 0 where
-  pub answer : outcome l k .answer ≡ (step (view (l .device) (l .marks) (l .area) (l .queues)) k) .0
-  pub device : view (outcome l k .device) (outcome l k .marks) (outcome l k .area) (outcome l k .queues) ≡ (step (view (l .device) (l .marks) (l .area) (l .queues)) k) .1
-  pub bytes : outcome l k .bytes ≡ stored (k .id) (lent (k .op)) (outcome l k .answer)
+pub record Steps (en : Engine) (l : Left) (k : Call) : Type 0 where
+  pub answer : outcome en l k .answer ≡ (step (view en (l .device) (l .marks) (l .area) (l .queues)) k) .0
+  pub device : view en (outcome en l k .device) (outcome en l k .marks) (outcome en l k .area) (outcome en l k .queues) ≡ (step (view en (l .device) (l .marks) (l .area) (l .queues)) k) .1
+  pub bytes : outcome en l k .bytes ≡ stored (k .id) (lent (k .op)) (outcome en l k .answer)
 
 -- ---- marks in words
 
@@ -205,7 +205,7 @@ pub data Moves : Op → Type 0 where
 -- any controller a of a device that was made from settings s and now tracks so many counts and units
 pub record Stands (s : Settings) (l : Left) (h : List Did) (counts held a : ℕ) : Type 0 where
   -- what record and marks hold of it is what its calls and answers tell: granularity, ranges, the suspended flag, and each unit's mark
-  pub told : slotOf (view (l .device) (l .marks) (l .area) (l .queues)) a ≡ slotBy h
+  pub told : slotOf (view inWords (l .device) (l .marks) (l .area) (l .queues)) a ≡ slotBy h
   pub tracked : (i g : ℕ) (rs : List Range) → placeOf s a ≡ some i → tracksBy none h ≡ some (g, rs) → Tracked l h a i g rs
   -- "For a controller that isn't tracked a call not refused is done with count 0", and no mark changes
   pub untracked : (w : Write) → tracksBy none h ≡ none
@@ -213,7 +213,7 @@ pub record Stands (s : Settings) (l : Left) (h : List Did) (counts held a : ℕ)
       (n .answer .count ≡ 0) × (n .marks ≡ l .marks)
   -- a suspended controller's start, stop and write are refused, and change nothing
   pub suspended : suspendedBy false h ≡ true → (o : Op) → Moves o
-      → outcome l (record { id = a; op = o }) ≡ record { answer = refused 4 0; device = l .device; marks = l .marks; area = l .area; queues = l .queues; bytes = lent o }
+      → outcome inWords l (record { id = a; op = o }) ≡ record { answer = refused 4 0; device = l .device; marks = l .marks; area = l .area; queues = l .queues; bytes = lent o }
   -- a write and a start are refused for nothing but what document 01 says
   pub may-write : (i : ℕ) (w : Write) → placeOf s a ≡ some i → suspendedBy false h ≡ false → w .address + w .bytes ≤ 2 ^ 64
       → writeNote (l .device) (l .marks) a w .answer .number ≡ 0
@@ -270,9 +270,9 @@ zeroed = record { tracking = Off; base = 0; suspended = false; ranges = replicat
 
 pub record Demand2 : Type 1 where
   -- the rules are those of document 01: any session comes for each controller to what they give for the same calls
-  pub rules : (s : Settings) (a : ℕ) (m : Given) (ks : List Call) → Sized s m → Equals s a m ks ks
+  pub rules : (s : Settings) (a : ℕ) (m : Given) (ks : List Call) → Sized s m → Equals inWords s a m ks ks
   -- and so does each call on a record that no session made
-  pub steps : (l : Left) → Shaped l → (k : Call) → Steps l k
+  pub steps : (l : Left) → Shaped inWords l → (k : Call) → Steps inWords l k
   -- a fresh device, and all marks are 0
   pub fresh : (s : Settings) (ws : List ℕ)
       → let c = freshChange s ws in
@@ -296,26 +296,26 @@ pub record Demand2 : Type 1 where
   -- after any calls from it, each given what the last one left: the settings are those that it was made with, and each controller stands as its calls and
   -- answers tell
   pub settings : (s : Settings) (m : Given) (ks : List Call) → Sized s m → freshChange s (m .marks) .answer .number ≡ 0
-      → Kept s (endOf s m ks .device .settings)
+      → Kept s (endOf inWords s m ks .device .settings)
   pub stands : (s : Settings) (m : Given) (ks : List Call) → Sized s m → freshChange s (m .marks) .answer .number ≡ 0
-      → (a : ℕ) → Stands s (endOf s m ks) (historyIn s m ks a) (countsIn (sessionEnd s (length (m .marks)) ks)) (unitsIn (sessionEnd s (length (m .marks)) ks)) a
+      → (a : ℕ) → Stands s (endOf inWords s m ks) (historyIn inWords s m ks a) (countsIn (sessionEnd s (length (m .marks)) ks)) (unitsIn (sessionEnd s (length (m .marks)) ks)) a
   -- W7: "moving marks changes no pending unit": a call to one controller, a start or a stop too, changes no pending unit of another, wherever its marks went
-  pub undisturbed : (s : Settings) (m : Given) (ks : List Call) → Sized s m → (k : Call) (b : ℕ) → k .id ≢ b → pendingOf (next (endOf s m ks) k) b ≡ pendingOf (endOf s m ks) b
+  pub undisturbed : (s : Settings) (m : Given) (ks : List Call) → Sized s m → (k : Call) (b : ℕ) → k .id ≢ b → pendingOf inWords (next inWords (endOf inWords s m ks) k) b ≡ pendingOf inWords (endOf inWords s m ks) b
   -- and so of a record that no session made, with its shares in any order and with any gaps
-  pub unmoved : (l : Left) → Shaped l → (k : Call) (b : ℕ) → k .id ≢ b → pendingOf (next l k) b ≡ pendingOf l b
+  pub unmoved : (l : Left) → Shaped inWords l → (k : Call) (b : ℕ) → k .id ≢ b → pendingOf inWords (next inWords l k) b ≡ pendingOf inWords l b
   -- there too every bit is accounted for
-  pub keeps : (l : Left) → Shaped l → (a i : ℕ) → placeOf (l .device .settings) a ≡ some i → Keeps l a i
+  pub keeps : (l : Left) → Shaped inWords l → (a i : ℕ) → placeOf (l .device .settings) a ≡ some i → Keeps l a i
   -- W8: and so is every field, and every byte of area and buffer, of a call to a queue, whatever its totals
-  pub queue-calls : (l : Left) → Shaped l → (a i : ℕ) → placeOf (l .device .settings) a ≡ some i → QueueCalls (l .device) (length (l .marks)) a i
+  pub queue-calls : (l : Left) → Shaped inWords l → (a i : ℕ) → placeOf (l .device .settings) a ≡ some i → QueueCalls (l .device) (length (l .marks)) a i
   -- W6: "the same however divided": where the data that two finishing parts complete are the same, in any two sessions and of any two controllers, so is what they
   -- yield
   pub divided : (s s′ : Settings) (m m′ : Given) (ks ks′ : List Call) → Sized s m → Sized s′ m′
       → freshChange s (m .marks) .answer .number ≡ 0 → freshChange s′ (m′ .marks) .answer .number ≡ 0 → (a a′ : ℕ) (p p′ : Part)
-      → let l = endOf s m ks in
-      let l′ = endOf s′ m′ ks′ in
+      → let l = endOf inWords s m ks in
+      let l′ = endOf inWords s′ m′ ks′ in
       let r = partChange (l .device) (length (l .marks)) (l .area) a p in
       let r′ = partChange (l′ .device) (length (l′ .marks)) (l′ .area) a′ p′ in
-      r .answer .number ≡ 0 → r′ .answer .number ≡ 0 → IsFinal p → IsFinal p′ → wholeBy (historyIn s m ks a) p ≡ wholeBy (historyIn s′ m′ ks′ a′) p′
+      r .answer .number ≡ 0 → r′ .answer .number ≡ 0 → IsFinal p → IsFinal p′ → wholeBy (historyIn inWords s m ks a) p ≡ wholeBy (historyIn inWords s′ m′ ks′ a′) p′
       → (r .answer .whole ≡ r′ .answer .whole) × (take (r .answer .whole) (r .area) ≡ take (r′ .answer .whole) (r′ .area))
   -- "A run is a longest row of consecutive pending units within one range"
   pub runs : Runs

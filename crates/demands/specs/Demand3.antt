@@ -12,15 +12,16 @@ use Rattle.rules.specs.Machine.{Call, numberOf}
 use Rattle.rules.specs.History.{Did, only}
 use Rattle.rules.specs.Demands.{unhindered}
 use Rattle.rules.specs.declared.Settings.{Settings}
+use Rattle.calls.specs.Calls.{Engine}
 use Rattle.demands.specs.Sessions.{Given, Sized, endOf, historyIn, bytesIn}
 use Rattle.demands.specs.Demand2.{pendingOf, queuedOf, Equals}
 
 -- two sessions of the calls agree for a controller: every answer, every byte lent with its calls, its reports' among them, its pending units, and its queued entries (W8)
-pub record Agree (s : Settings) (a : ℕ) (m m′ : Given) (ks ks′ : List Call) : Type 0 where
-  pub answers : historyIn s m ks a ≡ historyIn s m′ ks′ a
-  pub bytes : bytesIn s m ks a ≡ bytesIn s m′ ks′ a
-  pub units : pendingOf (endOf s m ks) a ≡ pendingOf (endOf s m′ ks′) a
-  pub queued : queuedOf (endOf s m ks) a ≡ queuedOf (endOf s m′ ks′) a
+pub record Agree (en : Engine) (s : Settings) (a : ℕ) (m m′ : Given) (ks ks′ : List Call) : Type 0 where
+  pub answers : historyIn en s m ks a ≡ historyIn en s m′ ks′ a
+  pub bytes : bytesIn en s m ks a ≡ bytesIn en s m′ ks′ a
+  pub units : pendingOf en (endOf en s m ks) a ≡ pendingOf en (endOf en s m′ ks′) a
+  pub queued : queuedOf en (endOf en s m ks) a ≡ queuedOf en (endOf en s m′ ks′) a
 
 -- a refusal for what controllers share: of a start the pool's shortage (W7) or the descriptor limit, of a part of a state that another's is under way (W6)
 pub data Shared : Op → ℕ → Type 0 where
@@ -29,10 +30,10 @@ pub data Shared : Op → ℕ → Type 0 where
   sequence : (p : Part) → Shared (part p) 23
 
 -- the words of two sessions may differ, as fresh makes them 0, and so may their areas; that there are as many words is meant, as fresh refuses another number of them
-pub record Demand3 : Type 0 where
+pub record Demand3 (en : Engine) : Type 0 where
   -- what is asked of A's answers: that none is such a refusal, and nothing else
   pub premise : (h : List Did) → ((i : ℕ) (d : Did) → getElem? h i ≡ some d → Shared (d .op) (numberOf (d .answer)) → ⊥) → unhindered h ≡ true
-  pub together : (s : Settings) (a : ℕ) (m m′ : Given) (ks ks′ : List Call) → Sized s m → Sized s m′ → length (m .marks) ≡ length (m′ .marks)
-      → only a ks ≡ only a ks′ → unhindered (historyIn s m ks a) ≡ true → unhindered (historyIn s m′ ks′ a) ≡ true → Agree s a m m′ ks ks′
+  pub together : (s : Settings) (a : ℕ) (m m′ : Given) (ks ks′ : List Call) → Sized s m → Sized s m′ → en .words (m .marks) ≡ en .words (m′ .marks)
+      → only a ks ≡ only a ks′ → unhindered (historyIn en s m ks a) ≡ true → unhindered (historyIn en s m′ ks′ a) ≡ true → Agree en s a m m′ ks ks′
   pub alone : (s : Settings) (a : ℕ) (m : Given) (ks : List Call) → Sized s m
-      → unhindered (historyIn s m ks a) ≡ true → Equals s a m ks (only a ks)
+      → unhindered (historyIn en s m ks a) ≡ true → Equals en s a m ks (only a ks)

@@ -11,4 +11,6 @@ pub mod Reserved
 pub mod RunByRun
 pub mod Demand3
 pub mod Batches
+pub mod Plain
+pub mod PlainContracts
 pub mod Determinacy

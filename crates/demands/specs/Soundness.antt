@@ -21,7 +21,7 @@ use Rattle.rules.specs.declared.Settings.{Settings}
 use Rattle.rules.specs.declared.Controller.{Controller}
 use Rattle.rules.specs.declared.Device.{Device}
 use Rattle.record.specs.Record.{countsOf, unitsOf, controllerAt}
-use Rattle.calls.specs.Calls.{sizesOf, freshChange}
+use Rattle.calls.specs.Calls.{inWords, sizesOf, freshChange}
 use Rattle.demands.specs.Sessions.{Left, Given, Sized, outcome, endOf}
 
 -- settings that pass 16: "1 to 8 controller identifiers, all different", "the manager's own identifier, not among them", "least ≤ greatest ≤ 20", a limit of "0 to 128"
@@ -99,9 +99,9 @@ pub record Soundness : Type 0 where
   pub exactly : (d : Device) → Whole d → (soundDevice d ≡ true) ↔ Sound d
   pub shares : (d : Device) → length (d .controllers) ≡ 8 → d .settings .count ≤ 8 → Shares d
   -- an unsound record, or marks of another number of words, answers 1 to every call
-  pub unsound : (l : Left) (k : Call) → (soundDevice (l .device) ≡ false) ⊎ (length (l .marks) ≢ 256) → outcome l k .answer ≡ refused 1 0
+  pub unsound : (l : Left) (k : Call) → (soundDevice (l .device) ≡ false) ⊎ (length (l .marks) ≢ 256) → outcome inWords l k .answer ≡ refused 1 0
   pub kept : (s : Settings) (m : Given) (ks : List Call) → Sized s m → freshChange s (m .marks) .answer .number ≡ 0
-      → (soundDevice (endOf s m ks .device) ≡ true) × (length (endOf s m ks .marks) ≡ 256)
+      → (soundDevice (endOf inWords s m ks .device) ≡ true) × (length (endOf inWords s m ks .marks) ≡ 256)
   pub closed : (s : Settings) (m : Given) (ks : List Call) (k : Call) → freshChange s (m .marks) .answer .number ≢ 0
-      → (endOf s m ks ≡ record { device = closedDevice; marks = m .marks; area = m .area; queues = m .queues }) × (outcome (endOf s m ks) k .answer ≡ refused 1 0)
-      × (outcome (endOf s m ks) k .bytes ≡ lent (k .op))
+      → (endOf inWords s m ks ≡ record { device = closedDevice; marks = m .marks; area = m .area; queues = m .queues }) × (outcome inWords (endOf inWords s m ks) k .answer ≡ refused 1 0)
+      × (outcome inWords (endOf inWords s m ks) k .bytes ≡ lent (k .op))

@@ -1,5 +1,5 @@
--- A record, its marks, the area for a state and those of the queues, seen as a device of the rules (rules' `State`); and the calls of `tracker`, seen as calls of the
--- rules.
+-- A record, its marks, the area for a state and those of the queues, seen as a device of the rules (rules' `State`); and the calls of an engine, `tracker`'s or the plain
+-- one's (W9), seen as calls of the rules.
 use Prim.Native.Nat.{ℕ, suc, _*_}
 use mathlib.Core.Bool.{Bool, false, _&&_, _||_, not, cond}
 use mathlib.Core.List.{List, [], _∷_, _++_}
@@ -28,14 +28,14 @@ use Rattle.rules.specs.declared.Sequence.{Sequence}
 use Rattle.rules.specs.declared.Sequence.the-variants.{Nothing, Open}
 use Rattle.ring.specs.Ring.{queued}
 use Rattle.record.specs.Record.{frontOf}
-use Rattle.calls.specs.Calls.{marksAt, Change, startChange, stopChange, suspendChange, resumeChange, Note, writeNote, Receipt, receiveReceipt, Arrival, partChange, queuedIn, makeChange, Posting, postChange, Taking, takeChange}
+use Rattle.calls.specs.Calls.{Engine, Change, startBy, stopBy, suspendChange, resumeChange, Note, writeBy, Receipt, receiveBy, Arrival, partChange, queuedIn, makeChange, Posting, postChange, Taking, takeChange}
 
 -- ---- a record and its marks
 
 -- a controller's marks: those of its units, from its share's first bit on
-abbrev pub marksOf : List ℕ → ℕ → Tracking → List Range → Marks
-marksOf ws base Off rs = off
-marksOf ws base (On g n) rs = on g (take n rs) (marksAt ws base (length (units g (take n rs))))
+abbrev pub marksOf : Engine → List ℕ → ℕ → Tracking → List Range → Marks
+marksOf en ws base Off rs = off
+marksOf en ws base (On g n) rs = on g (take n rs) (en .marks ws base (length (units g (take n rs))))
 
 -- W8: a controller's queue, whose entries stand in an area of its own, of which it has the first so many bytes
 abbrev pub queueOf : List ℕ → Queue → Option Queued
@@ -43,8 +43,8 @@ queueOf x made.Nothing = none
 queueOf x (made.Is r) = some (record { size = r .size; entries = queuedIn (frontOf (entryBytes * r .size) x) r; stopped = r .stopped })
 
 -- a controller, with the bytes so far of a state of its own, if one is under way, and with the area of its queue
-abbrev pub slotOf : List ℕ → Controller → Option (List ℕ) → List ℕ → Slot
-slotOf ws c f x = record { suspended = c .suspended; marks = marksOf ws (c .base) (c .tracking) (c .ranges); front = f; queue = queueOf x (c .queue) }
+abbrev pub slotOf : Engine → List ℕ → Controller → Option (List ℕ) → List ℕ → Slot
+slotOf en ws c f x = record { suspended = c .suspended; marks = marksOf en ws (c .base) (c .tracking) (c .ranges); front = f; queue = queueOf x (c .queue) }
 
 -- those of the controller at a place: it is the owner of the open sequence, or there are none
 abbrev pub isAt : Option ℕ → ℕ → Bool
@@ -56,9 +56,9 @@ frontAt s Nothing area i = none
 frontAt s (Open owner end) area i = cond (isAt (placeOf s owner) i) (some (frontOf end area)) none
 
 -- the controllers from a place on; each has the area of its place
-abbrev pub slotsFrom : List ℕ → (ℕ → Option (List ℕ)) → (ℕ → List ℕ) → ℕ → List Controller → List Slot
-slotsFrom ws f qs i [] = []
-slotsFrom ws f qs i (c ∷ cs) = slotOf ws c (f i) (qs i) ∷ slotsFrom ws f qs (suc i) cs
+abbrev pub slotsFrom : Engine → List ℕ → (ℕ → Option (List ℕ)) → (ℕ → List ℕ) → ℕ → List Controller → List Slot
+slotsFrom en ws f qs i [] = []
+slotsFrom en ws f qs i (c ∷ cs) = slotOf en ws c (f i) (qs i) ∷ slotsFrom en ws f qs (suc i) cs
 
 -- whether the owner of an open sequence is not in the settings
 abbrev pub strayIn : Settings → Sequence → Bool
@@ -69,8 +69,8 @@ strayIn s (Open owner end) = not (isSome (placeOf s owner))
 abbrev pub amissIn : Device → Bool
 amissIn d = strayIn (d .settings) (d .sequence) || not (sharesOk (sharesOf d) && queuesOk d)
 
-abbrev pub view : Device → List ℕ → List ℕ → (ℕ → List ℕ) → State
-view d ws area qs = record { settings = d .settings; slots = slotsFrom ws (frontAt (d .settings) (d .sequence) area) qs 0 (controllersOf d); amiss = amissIn d }
+abbrev pub view : Engine → Device → List ℕ → List ℕ → (ℕ → List ℕ) → State
+view en d ws area qs = record { settings = d .settings; slots = slotsFrom en ws (frontAt (d .settings) (d .sequence) area) qs 0 (controllersOf d); amiss = amissIn d }
 
 -- ---- a call
 
@@ -150,20 +150,20 @@ takes ws area qs r =
       bytes = r .buffer;
     }
 
--- the calls of `tracker`, on a record, marks and areas
-abbrev pub runAs : Device → List ℕ → List ℕ → (ℕ → List ℕ) → ℕ → Op → Outcome
-runAs d ws area qs id (start x) = starts area qs x (startChange d ws id x)
-runAs d ws area qs id stop = stops area qs (stopChange d ws id)
-runAs d ws area qs id (write w) = notes d area qs (writeNote d ws id w)
-runAs d ws area qs id (receive x) = receipts d area qs (receiveReceipt d ws id x)
-runAs d ws area qs id (suspend kind) = flags ws area qs (suspendChange d (length ws) id kind)
-runAs d ws area qs id resume = flags ws area qs (resumeChange d (length ws) id)
-runAs d ws area qs id (part p) = arrives ws qs (p .bytes) (partChange d (length ws) area id p)
-runAs d ws area qs id (queue bytes make) = flags ws area qs (makeChange d (length ws) id bytes)
-runAs d ws area qs id (queue bytes (post e)) =
-    posts ws area qs (placeOf (d .settings) id) e (postChange d (length ws) (lentAt qs (placeOf (d .settings) id) bytes) id e)
-runAs d ws area qs id (queue bytes (order.take asked x)) =
-    takes ws area qs (takeChange d (length ws) (lentAt qs (placeOf (d .settings) id) bytes) id asked x)
+-- the calls of an engine, on a record, marks and areas
+abbrev pub runAs : Engine → Device → List ℕ → List ℕ → (ℕ → List ℕ) → ℕ → Op → Outcome
+runAs en d ws area qs id (start x) = starts area qs x (startBy en d ws id x)
+runAs en d ws area qs id stop = stops area qs (stopBy en d ws id)
+runAs en d ws area qs id (write w) = notes d area qs (writeBy en d ws id w)
+runAs en d ws area qs id (receive x) = receipts d area qs (receiveBy en d ws id x)
+runAs en d ws area qs id (suspend kind) = flags ws area qs (suspendChange d (en .words ws) id kind)
+runAs en d ws area qs id resume = flags ws area qs (resumeChange d (en .words ws) id)
+runAs en d ws area qs id (part p) = arrives ws qs (p .bytes) (partChange d (en .words ws) area id p)
+runAs en d ws area qs id (queue bytes make) = flags ws area qs (makeChange d (en .words ws) id bytes)
+runAs en d ws area qs id (queue bytes (post e)) =
+    posts ws area qs (placeOf (d .settings) id) e (postChange d (en .words ws) (lentAt qs (placeOf (d .settings) id) bytes) id e)
+runAs en d ws area qs id (queue bytes (order.take asked x)) =
+    takes ws area qs (takeChange d (en .words ws) (lentAt qs (placeOf (d .settings) id) bytes) id asked x)
 
-unfoldable pub run : Device → List ℕ → List ℕ → (ℕ → List ℕ) → Call → Outcome
-run d ws area qs k = runAs d ws area qs (k .id) (k .op)
+unfoldable pub run : Engine → Device → List ℕ → List ℕ → (ℕ → List ℕ) → Call → Outcome
+run en d ws area qs k = runAs en d ws area qs (k .id) (k .op)

@@ -13,7 +13,9 @@ ghost use mathlib.Core.Path.{_≡_};
 ghost use Prim.Native.Nat.{_≤_};
 ghost use lib.ListN.{replicate};
 ghost use Rattle.rules.specs.declared.Sequence.the-variants.{Nothing};
-ghost use Rattle.rules.specs.Device.{freshController, cleaned, closedDevice};
+ghost use Rattle.rules.specs.Refusals.{refusal};
+ghost use Rattle.rules.specs.Order.{freshOrder};
+ghost use Rattle.rules.specs.Device.{freshController, cleaned, closedDevice, freshOf};
 ghost use Rattle.calls.specs.Calls.{freshChange};
 
 // Settings with zeros in the places that are not in use.
@@ -68,20 +70,31 @@ fn closed() -> Device
     untracked(s)
 }
 
-// Makes a fresh device from settings: all marks are 0, nobody is tracked or suspended. Refused, in this order: 16 settings that break the rules, 1
-// marks of another number of words; then the device is closed, all zeros, and answers 1 to every call.
-pub fn fresh(s: Settings, marks: &mut [u64]) -> Changed
-    ensures { λ r. ⌜ (r ≡ freshChange s (now (marks .entry)) .answer) × (now (marks .exit) ≡ freshChange s (now (marks .entry)) .marks) ⌝ }
+// What a fresh answers on marks of so many words, however they are held: the refusal, and the device.
+pub fn made(s: Settings, words: usize) -> Changed
+    ensures { λ r. ⌜ r ≡ record { number = refusal (freshOrder s words); device = freshOf s words } ⌝ }
 {
     if !settings::settings_ok(s) {
         let device = closed();
         return Changed { number: 16, device };
     }
-    if marks.len() != MARK_WORDS {
+    if words != MARK_WORDS {
         let device = closed();
         return Changed { number: 1, device };
     }
-    bits::clear_span(marks, 0, 64 * MARK_WORDS);
     let device = untracked(clean(s));
     Changed { number: 0, device }
+}
+
+// Makes a fresh device from settings: all marks are 0, nobody is tracked or suspended. Refused, in this order: 16 settings that break the rules, 1
+// marks of another number of words; then the device is closed, all zeros, and answers 1 to every call.
+pub fn fresh(s: Settings, marks: &mut [u64]) -> Changed
+    ensures { λ r. ⌜ (r ≡ freshChange s (now (marks .entry)) .answer) × (now (marks .exit) ≡ freshChange s (now (marks .entry)) .marks) ⌝ }
+{
+    let answer = made(s, marks.len());
+    if answer.number != 0 {
+        return answer;
+    }
+    bits::clear_span(marks, 0, 64 * MARK_WORDS);
+    answer
 }

@@ -9,12 +9,11 @@ ghost use mathlib.Core.Path.{_≡_};
 ghost use lib.ListN.{length};
 ghost use Rattle.calls.specs.Calls.{dropped, suspendChange, resumeChange};
 
-// Suspends a controller: type 1 suspends, also where it is suspended already; type 0 is a notice and changes nothing. Pending units stay. Refused, in
-// this order: 1, 2, 15 another type.
-pub fn suspend(d: Device, marks: &[u64], id: u16, kind: u8) -> Changed
-    ensures { λ r. ⌜ r ≡ suspendChange d (length (now (marks .entry))) id kind ⌝ }
+// `suspend` on marks of so many words, however they are held.
+pub fn suspend_on(d: Device, words: usize, id: u16, kind: u8) -> Changed
+    ensures { λ r. ⌜ r ≡ suspendChange d words id kind ⌝ }
 {
-    let place = record::locate(d, marks.len(), id);
+    let place = record::locate(d, words, id);
     let Place::At(i) = place else {
         let number = calls::number_of(place);
         return Changed { number, device: d };
@@ -39,6 +38,14 @@ pub fn suspend(d: Device, marks: &[u64], id: u16, kind: u8) -> Changed
     }
 }
 
+// Suspends a controller: type 1 suspends, also where it is suspended already; type 0 is a notice and changes nothing. Pending units stay. Refused, in
+// this order: 1, 2, 15 another type.
+pub fn suspend(d: Device, marks: &[u64], id: u16, kind: u8) -> Changed
+    ensures { λ r. ⌜ r ≡ suspendChange d (length (now (marks .entry))) id kind ⌝ }
+{
+    suspend_on(d, marks.len(), id, kind)
+}
+
 // The sequence without one of this controller's own.
 fn without(q: Sequence, id: u16) -> Sequence
     ensures { λ r. ⌜ r ≡ dropped id q ⌝ }
@@ -52,11 +59,11 @@ fn without(q: Sequence, id: u16) -> Sequence
     q
 }
 
-// Resumes a controller: a state of its own that arrives in parts is dropped. Pending units stay. Refused, in this order: 1, 2, 13 not suspended.
-pub fn resume(d: Device, marks: &[u64], id: u16) -> Changed
-    ensures { λ r. ⌜ r ≡ resumeChange d (length (now (marks .entry))) id ⌝ }
+// `resume` on marks of so many words, however they are held.
+pub fn resume_on(d: Device, words: usize, id: u16) -> Changed
+    ensures { λ r. ⌜ r ≡ resumeChange d words id ⌝ }
 {
-    let place = record::locate(d, marks.len(), id);
+    let place = record::locate(d, words, id);
     let Place::At(i) = place else {
         let number = calls::number_of(place);
         return Changed { number, device: d };
@@ -80,4 +87,11 @@ pub fn resume(d: Device, marks: &[u64], id: u16) -> Changed
         sequence,
     };
     Changed { number: 0, device }
+}
+
+// Resumes a controller: a state of its own that arrives in parts is dropped. Pending units stay. Refused, in this order: 1, 2, 13 not suspended.
+pub fn resume(d: Device, marks: &[u64], id: u16) -> Changed
+    ensures { λ r. ⌜ r ≡ resumeChange d (length (now (marks .entry))) id ⌝ }
+{
+    resume_on(d, marks.len(), id)
 }

@@ -125,7 +125,7 @@ module _ (bits : List Bool) (bases sizes : List ℕ) (clear : ℕ) where
         go (no e) (yes z) = rw (marksOf-empty i z) (length-replicate (getD sizes i 0) false)
         go (no e) (no z) = rw (marksOf-kept i e) (getShare-length bits (getD bases i 0) (getD sizes i 0) (h .inside i l e (omega arith)))
 
-    joined-length : (n : ℕ) → n ≤ 8 → length (joined bits bases sizes clear n) ≡ newBase sizes n
+    pub joined-length : (n : ℕ) → n ≤ 8 → length (joined bits bases sizes clear n) ≡ newBase sizes n
     unfolding joined newBase
     joined-length zero l = refl
     joined-length (suc n) l = rw (length-append, joined-length n (omega arith), marksOf-length n (omega arith))

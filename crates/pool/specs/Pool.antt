@@ -42,7 +42,7 @@ module _ (bits : List Bool) (bases sizes : List ℕ) (clear : ℕ) where
   unfoldable pub packed : List Bool
   packed = padded (length bits) (joined 8)
 
-  -- what a caller sees to: each share that is kept and has bits lies within the bits given, and all shares together fit there
-  pub record Packs : Type 0 where
-    pub inside : (i : ℕ) → i < 8 → (i ≡ clear → ⊥) → 1 ≤ getD sizes i 0 → getD bases i 0 + getD sizes i 0 ≤ length bits
-    pub fits : newBase sizes 8 ≤ length bits
+-- what a caller sees to, of marks held one an element in any list: each share that is kept and has marks lies within it, and all shares together fit there
+pub record Packs {A : Type 0} (marks : List A) (bases sizes : List ℕ) (clear : ℕ) : Type 0 where
+  pub inside : (i : ℕ) → i < 8 → (i ≡ clear → ⊥) → 1 ≤ getD sizes i 0 → getD bases i 0 + getD sizes i 0 ≤ length marks
+  pub fits : newBase sizes 8 ≤ length marks

@@ -214,12 +214,11 @@ fn after_take(r: Ring, m: usize) -> Ring
 
 // ---- the calls
 
-// Makes a controller's queue in an area, or makes it anew: it is empty, with totals 0, and has as many places as the area. No byte of the area changes. Refused, in
-// this order: 1, 2, 28 the area is no whole 2 to 1,024 places.
-pub fn make_queue(d: Device, marks: &[u64], id: u16, area: &[u8]) -> Changed
-    ensures { λ r. ⌜ r ≡ makeChange d (length (now (marks .entry))) id (length (now (area .entry))) ⌝ }
+// `make_queue` on marks of so many words, however they are held.
+pub fn make_queue_on(d: Device, words: usize, id: u16, area: &[u8]) -> Changed
+    ensures { λ r. ⌜ r ≡ makeChange d words id (length (now (area .entry))) ⌝ }
 {
-    let place = record::locate(d, marks.len(), id);
+    let place = record::locate(d, words, id);
     let Place::At(i) = place else {
         let number = calls::number_of(place);
         return Changed { number, device: d };
@@ -242,14 +241,20 @@ pub fn make_queue(d: Device, marks: &[u64], id: u16, area: &[u8]) -> Changed
     Changed { number: 0, device }
 }
 
-// Posts an entry to a controller's queue: it is stored behind those that are queued. Where only one place is free the closing entry is stored there instead, and the
-// answer says that logging has stopped. Refused, in this order: 1, 2, 28 the area is no whole 2 to 1,024 places or not the size made, 29 no queue, 8 an entry that
-// has not 32 bytes, 30 logging has stopped.
-pub fn post(d: Device, marks: &[u64], area: &mut [u8], id: u16, entry: &[u8]) -> Posted
-    ensures { λ r. ⌜ (r ≡ postChange d (length (now (marks .entry))) (now (area .entry)) id (now (entry .entry)) .answer)
-        × (now (area .exit) ≡ postChange d (length (now (marks .entry))) (now (area .entry)) id (now (entry .entry)) .area) ⌝ }
+// Makes a controller's queue in an area, or makes it anew: it is empty, with totals 0, and has as many places as the area. No byte of the area changes. Refused, in
+// this order: 1, 2, 28 the area is no whole 2 to 1,024 places.
+pub fn make_queue(d: Device, marks: &[u64], id: u16, area: &[u8]) -> Changed
+    ensures { λ r. ⌜ r ≡ makeChange d (length (now (marks .entry))) id (length (now (area .entry))) ⌝ }
 {
-    let place = record::locate(d, marks.len(), id);
+    make_queue_on(d, marks.len(), id, area)
+}
+
+// `post` on marks of so many words, however they are held.
+pub fn post_on(d: Device, words: usize, area: &mut [u8], id: u16, entry: &[u8]) -> Posted
+    ensures { λ r. ⌜ (r ≡ postChange d words (now (area .entry)) id (now (entry .entry)) .answer)
+        × (now (area .exit) ≡ postChange d words (now (area .entry)) id (now (entry .entry)) .area) ⌝ }
+{
+    let place = record::locate(d, words, id);
     let Place::At(i) = place else {
         let number = calls::number_of(place);
         return refused_post(d, number);
@@ -277,14 +282,29 @@ pub fn post(d: Device, marks: &[u64], area: &mut [u8], id: u16, entry: &[u8]) ->
     }
 }
 
-// Takes the oldest entries of a controller's queue into a buffer, one after another from its front on: as many as were asked for, are queued and fit whole, and maybe
-// none. The other bytes of the buffer stay. The answer says whether the last one taken is the closing entry. Refused, in this order: 1, 2, 28 the area is no whole 2
-// to 1,024 places or not the size made, 29 no queue.
-pub fn take(d: Device, marks: &[u64], area: &[u8], id: u16, asked: u32, buffer: &mut [u8]) -> Taken
-    ensures { λ r. ⌜ (r ≡ takeChange d (length (now (marks .entry))) (now (area .entry)) id asked (now (buffer .entry)) .answer)
-        × (now (buffer .exit) ≡ takeChange d (length (now (marks .entry))) (now (area .entry)) id asked (now (buffer .entry)) .buffer) ⌝ }
+// Posts an entry to a controller's queue: it is stored behind those that are queued. Where only one place is free the closing entry is stored there instead, and the
+// answer says that logging has stopped. Refused, in this order: 1, 2, 28 the area is no whole 2 to 1,024 places or not the size made, 29 no queue, 8 an entry that
+// has not 32 bytes, 30 logging has stopped.
+pub fn post(d: Device, marks: &[u64], area: &mut [u8], id: u16, entry: &[u8]) -> Posted
+    ensures { λ r. ⌜ (r ≡ postChange d (length (now (marks .entry))) (now (area .entry)) id (now (entry .entry)) .answer)
+        × (now (area .exit) ≡ postChange d (length (now (marks .entry))) (now (area .entry)) id (now (entry .entry)) .area) ⌝ }
 {
-    let place = record::locate(d, marks.len(), id);
+    post_on(d, marks.len(), area, id, entry)
+}
+
+// `take` on marks of so many words, however they are held.
+pub fn take_on(
+    d: Device,
+    words: usize,
+    area: &[u8],
+    id: u16,
+    asked: u32,
+    buffer: &mut [u8],
+) -> Taken
+    ensures { λ r. ⌜ (r ≡ takeChange d words (now (area .entry)) id asked (now (buffer .entry)) .answer)
+        × (now (buffer .exit) ≡ takeChange d words (now (area .entry)) id asked (now (buffer .entry)) .buffer) ⌝ }
+{
+    let place = record::locate(d, words, id);
     let Place::At(i) = place else {
         let number = calls::number_of(place);
         return refused_take(d, number);
@@ -306,4 +326,14 @@ pub fn take(d: Device, marks: &[u64], area: &[u8], id: u16, asked: u32, buffer: 
         closing,
         device,
     }
+}
+
+// Takes the oldest entries of a controller's queue into a buffer, one after another from its front on: as many as were asked for, are queued and fit whole, and maybe
+// none. The other bytes of the buffer stay. The answer says whether the last one taken is the closing entry. Refused, in this order: 1, 2, 28 the area is no whole 2
+// to 1,024 places or not the size made, 29 no queue.
+pub fn take(d: Device, marks: &[u64], area: &[u8], id: u16, asked: u32, buffer: &mut [u8]) -> Taken
+    ensures { λ r. ⌜ (r ≡ takeChange d (length (now (marks .entry))) (now (area .entry)) id asked (now (buffer .entry)) .answer)
+        × (now (buffer .exit) ≡ takeChange d (length (now (marks .entry))) (now (area .entry)) id asked (now (buffer .entry)) .buffer) ⌝ }
+{
+    take_on(d, marks.len(), area, id, asked, buffer)
 }

@@ -38,12 +38,12 @@ pub receives-nothing : (c : Receipt) (n : ℕ) (ws x : List ℕ) (r : Received) 
 receives-nothing c n ws x r e f = (f ∙ sym (ap (λ (y : Receipt). y .answer) e), sym (ap (λ (y : Receipt). y .marks) e), sym (ap (λ (y : Receipt). y .buffer) e))
 
 -- no more runs are listed than there are units
+pub reported-few : (room : ℕ) (us : List Unit) (p : List Bool) (count : ℕ) → count ≡ length (reportedRuns room us p) → count ≤ length us
+reported-few room us p count e = omega (arith, length-take room (runs (pending us p)), runs-length-le (pending us p), pending-length-le us p)
+
 pub lists-few : (g : ℕ) (rs : List Range) (l : List Bool) (base : ℕ) (x : List ℕ) (room count : ℕ) (more : Bool) (l′ : List Bool) (x′ : List ℕ)
     → Lists g rs l base x room count more l′ x′ → count ≤ length (units g rs)
-lists-few g rs l base x room count more l′ x′ s =
-    let us : List Unit = units g rs in
-    let p : List Bool = getShare l base (length us) in
-    omega (arith, s .count-is, length-take room (runs (pending us p)), runs-length-le (pending us p), pending-length-le us p)
+lists-few g rs l base x room count more l′ x′ s = reported-few room (units g rs) (getShare l base (length (units g rs))) count (s .count-is)
 
 -- ---- the cases
 

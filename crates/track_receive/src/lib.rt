@@ -10,7 +10,7 @@ ghost use mathlib.Core.Bool.{false};
 ghost use Rattle.calls.specs.Calls.{receiveReceipt};
 
 // A refused receive: its number and zeros.
-fn nothing(number: u8) -> Received
+pub fn nothing(number: u8) -> Received
     ensures { λ r. ⌜ r ≡ record { number = number; suspended = false; more = false; granularity = 0; runs = 0 } ⌝ }
 {
     Received {

@@ -1,4 +1,5 @@
--- Laws of the loops over eight places: a sum, an array that is filled place by place, and controllers that are given their new places; and of packed words.
+-- Laws of the loops over eight places: a sum, an array that is filled place by place, and controllers that are given their new places; of the shares with a new
+-- one among them; and of packed words.
 -- Assumes nothing.
 use mathlib.Core.Path.{_≡_, refl, sym, ap, _∙_}
 use mathlib.Core.Logic.{_≢_}
@@ -8,20 +9,25 @@ use Prim.Native.Nat.{ℕ, zero, suc, _+_, _≤_, _<_}
 use native.Mathlib.Omega.{arith}
 use native.Mathlib.Numerals.{add-one}
 use lib.Dec.{eqb}
-use lib.ListN.{length, getD, set, drop, length-map, length-set}
+use lib.ListN.{length, getD, set, take, drop, length-map, length-set}
 use lib.Seq.{ext-getD, getD-set-same, getD-set-other}
 use borrow.Author.Tests.{eqb-true, eqb-false, eq-eqb, ne-eqb}
 use Rattle.bits.specs.Flat.{flat, Words}
 use Rattle.bits.proofs.Pack.{pack-only}
 use Rattle.rules.specs.Lists.{sum}
+use Rattle.rules.specs.Settings.{mostUnits}
+use Rattle.rules.specs.Units.{units}
 use Rattle.rules.specs.Device.{noShare}
+use Rattle.rules.specs.declared.Range.{Range}
 use Rattle.rules.specs.declared.Share.{Share}
 use Rattle.rules.specs.declared.Controller.{Controller}
 use Rattle.rules.specs.declared.Device.{Device}
 use Rattle.record.specs.Record.{noController}
-use Rattle.pool.specs.Pool.{newBase, packed}
-use Rattle.calls.specs.Calls.{withBase, packedFrom, packedWords}
-use Rattle.calls.proofs.PoolLaws.{packedAt, packedFrom-at, packedFrom-length}
+use Rattle.record.proofs.RecordLaws.{soundDevice-facts}
+use Rattle.pool.specs.Pool.{newBase, packed, Packs}
+use Rattle.calls.specs.Calls.{withBase, basesOf, sizesOf, packedFrom, packedWords}
+use Rattle.calls.proofs.PoolLaws.{packedAt, packedFrom-at, packedFrom-length, sizes-with, sizes-fit, start-packs-in}
+use Rattle.track_send.specs.Inner.{tracked, tracking, Starts}
 
 -- ---- a sum
 
@@ -108,6 +114,25 @@ module _ (sizes : List ℕ) (old : List Controller) where
 pub device-is : (e d : Device) (cs : List Controller) → e .settings ≡ d .settings → e .controllers ≡ cs → e .sequence ≡ d .sequence
     → e ≡ record { settings = d .settings; controllers = cs; sequence = d .sequence }
 device-is e d cs p q r = rw (sym p, sym q, sym r)
+
+-- ---- the shares with that of a start among them
+
+module _ (d : Device) (eight : length (d .controllers) ≡ 8) (i g n : ℕ) (rs : List Range) (s : Starts d i g n rs) where
+  -- its place is one of eight
+  pub starts-below : i < 8
+  starts-below = omega (arith, s .used, soundDevice-facts d (s .sound) .count)
+
+  -- the sizes with its own are those of the record in which the controller is tracked
+  pub starts-sizes : set (sizesOf d) i (length (units g (take n rs))) ≡ sizesOf (tracking d i g n rs)
+  starts-sizes = sym (sizes-with d eight (soundDevice-facts d (s .sound) .count) i (tracked d i g n rs) (s .used))
+
+  -- they fit
+  pub starts-fit : newBase (sizesOf (tracking d i g n rs)) 8 ≤ 16384
+  starts-fit = sizes-fit d eight (s .sound) i (s .used) (s .off) (tracked d i g n rs) (s .room)
+
+  -- they may be packed, in whatever holds the pool's marks
+  pub starts-packs : {A : Type 0} (l : List A) → length l ≡ mostUnits → Packs l (basesOf d) (sizesOf (tracking d i g n rs)) i
+  starts-packs = start-packs-in d eight (s .sound) i (s .used) (s .off) (tracked d i g n rs) (s .room)
 
 -- ---- words that have the shares packed
 

@@ -18,6 +18,7 @@ use Rattle.rules.specs.Units.{units}
 use Rattle.rules.specs.Ranges.{rowsOk, rowsTests, rangeTests, listTests}
 use Rattle.rules.specs.StartData.{granularityOf, countOf, rangesOf, rangeAt, startSize, headerOf, noRange, placed}
 use Rattle.rules.specs.Order.{startListed, startShared, startOrder}
+use Rattle.rules.specs.Device.{soundDevice}
 use Rattle.rules.specs.declared.Device.{Device}
 use Rattle.rules.specs.declared.Refusal.{Refusal}
 use Rattle.rules.specs.declared.Settings.{Settings}
@@ -28,12 +29,13 @@ use Rattle.rules.proofs.RefusalLaws.{Passed, Passed-left, Passed-right, passes-
 use Rattle.rules.proofs.RowLaws.{rowsTests-passes}
 use Rattle.record.specs.Record.{noController, whereIs, seenIn, countsOf, unitsOf}
 use Rattle.record.specs.declared.Place.the-variants.{At, Refused}
-use Rattle.record.proofs.RecordLaws.{Located, whereIs-at, whereIs-refused}
+use Rattle.record.proofs.RecordLaws.{Located, whereIs-at, whereIs-refused, soundDevice-facts}
+use Rattle.settings.proofs.SettingsLaws.{granularityOk-greatest}
 use Rattle.ranges.proofs.RangeLaws.{listTests-numbers}
 use Rattle.start_data.specs.Answer.{headerSays}
 use Rattle.start_data.proofs.Answers.{headerOf-is, HeaderIs, headerOf-refused, HeaderRefused, noHeader, otherVersion}
 use Rattle.calls.specs.Calls.{Engine, startBy, startedWith, basesOf, sizesOf, packedDevice, startDone}
-use Rattle.track_send.specs.Inner.{tracking}
+use Rattle.track_send.specs.Inner.{tracking, Starts}
 
 -- the tests of a start after those of its header: 7, 8 (listed ranges), 18 to 21, 10, 11 and 12
 abbrev listedTests : Settings → ℕ → ℕ → List ℕ → List Test
@@ -151,6 +153,21 @@ module _ (s : Settings) (counts held : ℕ) (x : List ℕ) (g n : ℕ) (e : head
         rows = rw (sym (h .granularity)) (sym (rowsTests-passes (granularityOf x) 0 (rangesOf x)) ∙ passes-all (rowsTests (granularityOf x) 0 (rangesOf x)) (rows .1 .1));
         room = rw (sym (h .granularity)) (leb-true _ mostUnits (Passed-right tests (startShared s counts held x) (p .1 .1) .0));
       }
+
+-- and of the record: a sound one, in which the controller at a place in use is off
+pub start-known : (d : Device) (x : List ℕ) (i g n : ℕ) → soundDevice d ≡ true → i < d .settings .count → getD (d .controllers) i noController .tracking ≡ Off
+    → (q : headerOf x ≡ header.Is g n) → Listed (d .settings) (countsOf d) (unitsOf d) x g n q → Starts d i g n (placed (recordsAt rangeAt 12 x 8 n))
+start-known d x i g n sure used off q k =
+    let same = ranges-read (d .settings) (countsOf d) (unitsOf d) x g n q (k .allowed) (k .there) (k .few) in
+    record {
+      sound = sure;
+      used = used;
+      off = off;
+      small = omega (arith, granularityOk-greatest (d .settings) g (k .allowed), soundDevice-facts d sure .greatest);
+      few = k .few;
+      rows = rw same (k .rows);
+      room = rw same (k .room);
+    }
 
 -- ---- the start
 

@@ -46,6 +46,6 @@ module _ (en : Engine) (d : Device) (id : ℕ) where
       pub stop-done : (g n : ℕ) → getD (d .controllers) i noController .suspended ≡ false → getD (d .controllers) i noController .tracking ≡ On g n
           → let c = getD (d .controllers) i noController in
           stopBy en d ws id
-          ≡ changed 0 (withController d i (record { tracking = Off; base = 0; suspended = false; ranges = stopped noController .ranges; queue = c .queue })) (en .cleared ws (c .base) (length (units g (take n (c .ranges)))))
+          ≡ changed 0 (withController d i (stopped c)) (en .cleared ws (c .base) (length (units g (take n (c .ranges)))))
       unfolding stopBy
       stop-done g n f t = rw (l .place, l .seen, f, t)

@@ -1,4 +1,4 @@
--- What the inner functions of `start` speak of. These serve this crate alone.
+-- What the inner functions of `start` speak of.
 use mathlib.Core.Path.{_≡_}
 use mathlib.Core.Bool.{true, false}
 use mathlib.Core.List.{List}
@@ -21,14 +21,18 @@ tracked d i g n rs = record { tracking = On g n; base = 0; suspended = false; ra
 abbrev pub tracking : Device → ℕ → ℕ → ℕ → List Range → Device
 tracking d i g n rs = withController d i (tracked d i g n rs)
 
--- what is known where a start is not refused: record and marks are sound, the controller at a place in use is off, its ranges keep their rules, and their units
--- are in the pool's room
-pub record Installs (d : Device) (ws : List ℕ) (i g n : ℕ) (rs : List Range) : Type 0 where
+-- what is known of the record and of the ranges where a start is not refused: the record is sound, the controller at a place in use is off, its ranges keep their
+-- rules, and their units are in the pool's room
+pub record Starts (d : Device) (i g n : ℕ) (rs : List Range) : Type 0 where
   pub sound : soundDevice d ≡ true
-  pub words : length ws ≡ markWords
   pub used : i < d .settings .count
   pub off : getD (d .controllers) i noController .tracking ≡ Off
   pub small : g ≤ 20
   pub few : n ≤ 16
   pub rows : rowsOk g (take n rs) ≡ true
   pub room : length (units g (take n rs)) + unitsOf d ≤ mostUnits
+
+-- and of the marks' words
+pub record Installs (d : Device) (ws : List ℕ) (i g n : ℕ) (rs : List Range) : Type 0 where
+  pub starts : Starts d i g n rs
+  pub words : length ws ≡ markWords

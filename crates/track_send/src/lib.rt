@@ -16,24 +16,35 @@ ghost use mathlib.Core.Path.{_≡_};
 ghost use mathlib.Core.Bool.{true};
 ghost use mathlib.Core.List.{_++_, map};
 ghost use Prim.Native.Nat.{_+_, _<_, _≤_};
-ghost use lib.ListN.{length, set};
+ghost use lib.ListN.{length, getD, set};
 ghost use Rattle.rules.specs.Lists.{sum};
 ghost use Rattle.rules.specs.Refusals.{refusalAt};
 ghost use Rattle.rules.specs.Settings.{markWords};
 ghost use Rattle.rules.specs.StartData.{headerOf};
 ghost use Rattle.rules.specs.declared.Header.the-variants.{Is};
 ghost use Rattle.rules.specs.Device.{soundDevice};
-ghost use Rattle.record.specs.Record.{countsOf, unitsOf};
+ghost use Rattle.record.specs.Record.{noController, withController, countsOf, unitsOf};
 ghost use Rattle.start_data.specs.Answer.{headerSays};
-ghost use Rattle.calls.specs.Calls.{withClear, basesOf, sizesOf, packedFrom, packedDevice, packedWords, startChange, stopChange};
+ghost use Rattle.calls.specs.Calls.{withClear, basesOf, sizesOf, packedFrom, packedDevice, packedWords, stopped, startChange, stopChange};
 ghost use Rattle.pool.specs.Pool.{newBase, newBases};
 ghost use Rattle.track_send.specs.Inner.{tracking, Installs};
 ghost use Rattle.rules.specs.Order.{startListed, startShared};
 
 // ---- start
 
+// The answer of a refused start, with the row that it was refused for: the record is as it was.
+pub fn refused(d: Device, number: u8, row: u8) -> Started
+    ensures { λ r. ⌜ r ≡ record { number = number; row = row; device = d } ⌝ }
+{
+    Started {
+        number,
+        row,
+        device: d,
+    }
+}
+
 // The number of a refused header.
-fn header_number(h: Header) -> u8
+pub fn header_number(h: Header) -> u8
     ensures { λ r. ⌜ r ≡ headerSays h .number ⌝ }
 {
     match h {
@@ -55,7 +66,7 @@ fn together(shares: [Share; 8]) -> usize
 }
 
 // The first of 7, 8 (listed ranges), 18 to 21, 10, 11 and 12 that a start structure with this granularity and count breaks, with its row.
-fn listed_refusal(d: Device, g: u8, n: u32, data: &[u8]) -> Refusal
+pub fn listed_refusal(d: Device, g: u8, n: u32, data: &[u8]) -> Refusal
     requires { ⌜ (soundDevice d ≡ true) × (headerOf (now «data») ≡ Is g n) ⌝ }
     ensures { λ r. ⌜ r ≡ refusalAt (startListed (d .settings) (now («data» .entry)) ++ startShared (d .settings) (countsOf d) (unitsOf d) (now («data» .entry))) ⌝ }
 {
@@ -87,7 +98,7 @@ fn listed_refusal(d: Device, g: u8, n: u32, data: &[u8]) -> Refusal
 }
 
 // Where some shares begin.
-fn bases_of(shares: [Share; 8]) -> [usize; 8]
+pub fn bases_of(shares: [Share; 8]) -> [usize; 8]
     ensures { λ r. ⌜ r ≡ map (λ a. a .base) shares ⌝ }
 {
     let mut bases = [0usize; 8];
@@ -98,7 +109,7 @@ fn bases_of(shares: [Share; 8]) -> [usize; 8]
 }
 
 // How many bits some shares have, where the one at place i has `size`.
-fn sizes_with(shares: [Share; 8], i: usize, size: usize) -> [usize; 8]
+pub fn sizes_with(shares: [Share; 8], i: usize, size: usize) -> [usize; 8]
     requires { ⌜ i < 8 ⌝ }
     ensures { λ r. ⌜ r ≡ set (map (λ a. a .size) shares) i size ⌝ }
 {
@@ -124,16 +135,11 @@ fn based(d: Device, sizes: [usize; 8], bases: [usize; 8]) -> Device
     e
 }
 
-// Records that a controller is tracked, and packs the shares: they stand one after another from bit 0 on, in the order of the settings, with their marks; the new
-// one is clear.
-fn install(d: Device, marks: &mut [u64], i: usize, g: u8, n: u8, ranges: [Range; 16]) -> Device
-    requires { ⌜ Installs d (now marks) i g n ranges ⌝ }
-    ensures { λ r. ⌜ (r ≡ packedDevice (tracking d i g n ranges)) × (now (marks .exit) ≡ packedWords (now (marks .entry)) (basesOf d) (sizesOf (tracking d i g n ranges)) i) ⌝ }
+// Records that a controller is tracked, its queue as it was, and where the shares, which with its own have these sizes, begin once packed.
+pub fn recorded(d: Device, i: usize, g: u8, n: u8, ranges: [Range; 16], sizes: [usize; 8]) -> Device
+    requires { ⌜ (i < 8) × (sizes ≡ sizesOf (tracking d i g n ranges)) × (newBase sizes 8 ≤ 16384) ⌝ }
+    ensures { λ r. ⌜ r ≡ packedDevice (tracking d i g n ranges) ⌝ }
 {
-    let shares = record::shares(d);
-    let units = ranges::units_in(g, n as usize, ranges);
-    let sizes = sizes_with(shares, i, units.0 as usize);
-    pool::pack(marks, bases_of(shares), sizes, i);
     let on = Tracking::On(g, n);
     let was = d.controllers[i];
     let queue = was.queue;
@@ -149,6 +155,19 @@ fn install(d: Device, marks: &mut [u64], i: usize, g: u8, n: u8, ranges: [Range;
     based(e, sizes, bases)
 }
 
+// Records that a controller is tracked, and packs the shares: they stand one after another from bit 0 on, in the order of the settings, with their marks; the new
+// one is clear.
+fn install(d: Device, marks: &mut [u64], i: usize, g: u8, n: u8, ranges: [Range; 16]) -> Device
+    requires { ⌜ Installs d (now marks) i g n ranges ⌝ }
+    ensures { λ r. ⌜ (r ≡ packedDevice (tracking d i g n ranges)) × (now (marks .exit) ≡ packedWords (now (marks .entry)) (basesOf d) (sizesOf (tracking d i g n ranges)) i) ⌝ }
+{
+    let shares = record::shares(d);
+    let units = ranges::units_in(g, n as usize, ranges);
+    let sizes = sizes_with(shares, i, units.0 as usize);
+    pool::pack(marks, bases_of(shares), sizes, i);
+    recorded(d, i, g, n, ranges, sizes)
+}
+
 // Starts tracking a controller from a start structure: its granularity and ranges are recorded, and the shares of the pool are packed, its own clear among them. Refused, in this
 // order: 1, 2, 4 suspended, 3 already tracked, 8 no whole header, 6 version, 7 granularity, 8 listed ranges not there, 18 no range or more than 16, then row
 // by row 19 length 0, 20 unaligned, 21 past 2^64, then 10 power of two, 11 too many units, 12 descriptor limit passed. A refusal with 19 to 21 names its row.
@@ -157,45 +176,23 @@ pub fn start(d: Device, marks: &mut [u64], id: u16, data: &[u8]) -> Started
 {
     let place = record::locate(d, marks.len(), id);
     let Place::At(i) = place else {
-        let number = calls::number_of(place);
-        return Started {
-            number,
-            row: 0,
-            device: d,
-        };
+        return refused(d, calls::number_of(place), 0);
     };
     let c = d.controllers[i];
     if c.suspended {
-        return Started {
-            number: 4,
-            row: 0,
-            device: d,
-        };
+        return refused(d, 4, 0);
     }
     let t = c.tracking;
     let Tracking::Off = t else {
-        return Started {
-            number: 3,
-            row: 0,
-            device: d,
-        };
+        return refused(d, 3, 0);
     };
     let header = start_data::read_header(data);
     let Header::Is(g, n) = header else {
-        let number = header_number(header);
-        return Started {
-            number,
-            row: 0,
-            device: d,
-        };
+        return refused(d, header_number(header), 0);
     };
     let refusal = listed_refusal(d, g, n, data);
     if refusal.number != 0 {
-        return Started {
-            number: refusal.number,
-            row: refusal.row,
-            device: d,
-        };
+        return refused(d, refusal.number, refusal.row);
     }
     let ranges = start_data::read_ranges(data, n as usize);
     let device = install(d, marks, i, g, n as u8, ranges);
@@ -214,6 +211,26 @@ fn clear_share(marks: &mut [u64], base: usize, n: usize)
     ensures { λ _. ⌜ now (marks .exit) ≡ withClear (now (marks .entry)) base n ⌝ }
 {
     bits::clear_span(marks, base, base + n);
+}
+
+// The record with the ranges of the controller at place i forgotten, and its share with them. Its queue stays.
+pub fn forgotten(d: Device, i: usize) -> Device
+    requires { ⌜ i < 8 ⌝ }
+    ensures { λ r. ⌜ r ≡ withController d i (stopped (getD (d .controllers) i noController)) ⌝ }
+{
+    let c = d.controllers[i];
+    let off = Tracking::Off;
+    let none = rules::no_ranges();
+    let queue = c.queue;
+    let mut e = d;
+    e.controllers[i] = Controller {
+        tracking: off,
+        base: 0,
+        suspended: c.suspended,
+        ranges: none,
+        queue,
+    };
+    e
 }
 
 // Stops tracking a controller: its ranges are forgotten and its share of the marks is clear. Refused, in this order: 1, 2, 4 suspended, 5 not tracked.
@@ -242,19 +259,6 @@ pub fn stop(d: Device, marks: &mut [u64], id: u16) -> Changed
     let ranges = calls::ranges_of(c);
     let units = ranges::units_in(g, n as usize, ranges);
     clear_share(marks, c.base as usize, units.0 as usize);
-    let off = Tracking::Off;
-    let none = rules::no_ranges();
-    let queue = c.queue;
-    let mut e = d;
-    e.controllers[i] = Controller {
-        tracking: off,
-        base: 0,
-        suspended: false,
-        ranges: none,
-        queue,
-    };
-    Changed {
-        number: 0,
-        device: e,
-    }
+    let device = forgotten(d, i);
+    Changed { number: 0, device }
 }

@@ -1,4 +1,4 @@
--- What a turn of `writes::batch` does, over plain values: no word of memory here. Assumes nothing.
+-- What a turn of a batch does, over plain values, for any engine: no word of memory here. Assumes nothing.
 --     left         what a batch that has come to (b, m) will answer and leave
 --     Facts b m    the loop's invariant.        μ        its measure
 --     starts       the invariant where the loop begins.        turned       it goes from turn to turn, and the measure falls.        stopped      the contract, where the loop is left
@@ -17,7 +17,7 @@ use borrow.Author.Tests.{ltb-false, leb-true, eqb-true, eqb-false, eq-eqb, ne-eq
 use Rattle.bits.specs.Flat.{flat}
 use Rattle.bits.specs.Share.{getShare}
 use Rattle.bits.proofs.Flat.{flat-length}
-use Rattle.rules.specs.Settings.{markWords, mostNotes, placeOf}
+use Rattle.rules.specs.Settings.{markWords, mostUnits, mostNotes, placeOf}
 use Rattle.rules.specs.Units.{Unit, Write, units, touches, newly}
 use Rattle.rules.specs.Order.{writeOrder}
 use Rattle.rules.specs.Device.{soundDevice}
@@ -31,7 +31,7 @@ use Rattle.record.specs.Record.{soundWith, controllerAt, seenIn}
 use Rattle.calls.specs.declared.Written.{Written}
 use Rattle.calls.specs.declared.WriteRecord.{WriteRecord}
 use Rattle.calls.specs.declared.Batched.{Batched}
-use Rattle.calls.specs.Calls.{batchBy, inWords, writeBy, Change, marksAt, Note, noted, noteIn, writeDone, writeNote, writeIn, batched, notesFrom, batchChange}
+use Rattle.calls.specs.Calls.{Engine, inWords, Change, Note, noted, noteIn, writeDone, writeBy, writeIn, batched, notesFrom, batchBy}
 use Rattle.writes.specs.Inner.{beginOf, isDue, tallyOf}
 use Rattle.writes.proofs.BatchLaws.{due-left, due-cut, due-is, tally-cut, tally-done}
 
@@ -46,22 +46,31 @@ newly-most w (u ∷ us) (b ∷ p) = go (touches w u && not b) (newly-most w us p
     go true h = omega arith
     go false h = omega arith
 
-marks-most : (ws : List ℕ) (base n : ℕ) → length (marksAt ws base n) ≤ 64 * length ws
-unfolding getShare
-marks-most ws base n = omega (arith, length-take n (drop base (flat ws)), length-drop base (flat ws), flat-length ws)
+-- what a batch asks of an engine: areas of one length stand for as many words, and one that stands for the marks' words has at most a mark for each unit of the pool
+pub record Sized (en : Engine) : Type 0 where
+  pub alike : (ws ws′ : List ℕ) → length ws ≡ length ws′ → en .words ws ≡ en .words ws′
+  pub most : (ws : List ℕ) (base n : ℕ) → en .words ws ≡ markWords → length (en .marks ws base n) ≤ mostUnits
 
-note-most : (d : Device) (ws : List ℕ) (id : ℕ) (w : Write) → writeNote d ws id w .answer .count ≤ 64 * length ws
+pub words-sized : Sized inWords
+unfolding getShare
+words-sized =
+    record {
+      alike = λ ws ws′ e. e;
+      most = λ ws base n e. omega (arith, length-take n (drop base (flat ws)), length-drop base (flat ws), flat-length ws, e);
+    }
+
+note-most : (en : Engine) (sized : Sized en) (d : Device) (ws : List ℕ) (id : ℕ) (w : Write) → en .words ws ≡ markWords → writeBy en d ws id w .answer .count ≤ mostUnits
 unfolding writeBy
-note-most d ws id w =
-    verdict-has (λ (n : Note). n .answer .count ≤ 64 * length ws) (λ n i. noted n 0 ws) (λ n i. omega arith)
-    (writeOrder (seenIn d (length ws) (placeOf (d .settings) id)) w) (writeDone inWords d ws w (placeOf (d .settings) id)) (λ p. done (placeOf (d .settings) id))
+note-most en sized d ws id w e =
+    verdict-has (λ (n : Note). n .answer .count ≤ mostUnits) (λ n i. noted n 0 ws) (λ n i. omega arith)
+    (writeOrder (seenIn d (en .words ws) (placeOf (d .settings) id)) w) (writeDone en d ws w (placeOf (d .settings) id)) (λ p. done (placeOf (d .settings) id))
   where
-    in-share : (base : ℕ) (t : Tracking) (rs : List Range) → noteIn inWords ws base t rs w .answer .count ≤ 64 * length ws
+    in-share : (base : ℕ) (t : Tracking) (rs : List Range) → noteIn en ws base t rs w .answer .count ≤ mostUnits
     in-share base Off rs = omega arith
     in-share base (On g n) rs =
-        omega (arith, newly-most w (units g (take n rs)) (marksAt ws base (length (units g (take n rs)))), marks-most ws base (length (units g (take n rs))))
+        omega (arith, newly-most w (units g (take n rs)) (en .marks ws base (length (units g (take n rs)))), sized .most ws base (length (units g (take n rs))) e)
 
-    done : (p : Option ℕ) → writeDone inWords d ws w p .answer .count ≤ 64 * length ws
+    done : (p : Option ℕ) → writeDone en d ws w p .answer .count ≤ mostUnits
     done none = omega arith
     done (some i) = in-share (controllerAt d (some i) .base) (controllerAt d (some i) .tracking) (controllerAt d (some i) .ranges)
 
@@ -69,52 +78,52 @@ note-most d ws id w =
 abbrev pub noRecord : WriteRecord
 noRecord = record { id = 0; address = 0; bytes = record { 0 = 0 } }
 
-module _ (d : Device) (m₀ : List ℕ) (rs : List WriteRecord) where
+module _ (en : Engine) (sized : Sized en) (d : Device) (m₀ : List ℕ) (rs : List WriteRecord) where
   abbrev n : ℕ
   n = length rs
 
   abbrev pub left : Batched → List ℕ → Change Batched
-  left b m = cond (isDue b n) (notesFrom inWords d m (b .done) (b .count) (drop (b .done) rs)) (record { answer = b; marks = m })
+  left b m = cond (isDue b n) (notesFrom en d m (b .done) (b .count) (drop (b .done) rs)) (record { answer = b; marks = m })
 
   abbrev pub μ : Batched → ℕ
   μ b = cond (isDue b n) (n - b .done) 0
 
   pub record Facts (b : Batched) (m : List ℕ) : Type 0 where
-    pub ok : isDue b n ≡ true → (n ≤ mostNotes) × (soundWith d (length m₀) ≡ true)
-    pub small : b .count ≤ 32768 * b .done
-    pub inv : left b m ≡ batchChange d m₀ rs
+    pub ok : isDue b n ≡ true → (n ≤ mostNotes) × (soundWith d (en .words m₀) ≡ true)
+    pub small : b .count ≤ mostUnits * b .done
+    pub inv : left b m ≡ batchBy en d m₀ rs
 
   -- k notes are done and none was refused: those that are left give the answer, also where none is
-  go-at : (m : List ℕ) (k c : ℕ) → k ≤ n → cond (ltb k n) (notesFrom inWords d m k c (drop k rs)) (batched 0 k c 0 m) ≡ notesFrom inWords d m k c (drop k rs)
+  go-at : (m : List ℕ) (k c : ℕ) → k ≤ n → cond (ltb k n) (notesFrom en d m k c (drop k rs)) (batched 0 k c 0 m) ≡ notesFrom en d m k c (drop k rs)
   go-at m k c le = go (ltb k n) refl
     where
-      go : (b : Bool) → ltb k n ≡ b → cond b (notesFrom inWords d m k c (drop k rs)) (batched 0 k c 0 m) ≡ notesFrom inWords d m k c (drop k rs)
+      go : (b : Bool) → ltb k n ≡ b → cond b (notesFrom en d m k c (drop k rs)) (batched 0 k c 0 m) ≡ notesFrom en d m k c (drop k rs)
       go true e = refl
       go false e =
           let z : k ≡ n = omega (arith, ltb-false k n e) in
-          sym (ap (λ (l : List WriteRecord). notesFrom inWords d m k c l) (ap (λ (j : ℕ). drop j rs) z ∙ drop-length rs))
+          sym (ap (λ (l : List WriteRecord). notesFrom en d m k c l) (ap (λ (j : ℕ). drop j rs) z ∙ drop-length rs))
 
   -- ---- the loop begins
 
-  starts-inv : left (beginOf d (length m₀) n) m₀ ≡ batchChange d m₀ rs
+  starts-inv : left (beginOf d (en .words m₀) n) m₀ ≡ batchBy en d m₀ rs
   unfolding beginOf batchBy isDue
-  starts-inv = go (soundWith d (length m₀)) (leb n mostNotes) refl refl
+  starts-inv = go (soundWith d (en .words m₀)) (leb n mostNotes) refl refl
     where
-      go : (a b : Bool) → soundWith d (length m₀) ≡ a → leb n mostNotes ≡ b → left (beginOf d (length m₀) n) m₀ ≡ batchChange d m₀ rs
+      go : (a b : Bool) → soundWith d (en .words m₀) ≡ a → leb n mostNotes ≡ b → left (beginOf d (en .words m₀) n) m₀ ≡ batchBy en d m₀ rs
       go true true e f = rw (e, f) (go-at m₀ 0 0 (omega arith))
       go true false e f = rw (e, f)
       go false b e f = rw e
 
-  starts-ok : isDue (beginOf d (length m₀) n) n ≡ true → (n ≤ mostNotes) × (soundWith d (length m₀) ≡ true)
+  starts-ok : isDue (beginOf d (en .words m₀) n) n ≡ true → (n ≤ mostNotes) × (soundWith d (en .words m₀) ≡ true)
   unfolding beginOf isDue
-  starts-ok = go (soundWith d (length m₀)) (leb n mostNotes) refl refl
+  starts-ok = go (soundWith d (en .words m₀)) (leb n mostNotes) refl refl
     where
-      go : (a b : Bool) → soundWith d (length m₀) ≡ a → leb n mostNotes ≡ b → isDue (beginOf d (length m₀) n) n ≡ true → (n ≤ mostNotes) × (soundWith d (length m₀) ≡ true)
+      go : (a b : Bool) → soundWith d (en .words m₀) ≡ a → leb n mostNotes ≡ b → isDue (beginOf d (en .words m₀) n) n ≡ true → (n ≤ mostNotes) × (soundWith d (en .words m₀) ≡ true)
       go true true e f h = (leb-true n mostNotes f, e)
       go true false e f h = absurd (true≢false (sym (rw (e, f) at h)))
       go false b e f h = absurd (true≢false (sym (rw e at h)))
 
-  pub starts : Facts (beginOf d (length m₀) n) m₀
+  pub starts : Facts (beginOf d (en .words m₀) n) m₀
   unfolding beginOf
   starts = record { ok = starts-ok; small = omega arith; inv = starts-inv }
 
@@ -125,23 +134,23 @@ module _ (d : Device) (m₀ : List ℕ) (rs : List WriteRecord) where
     elem = getD rs (b .done) noRecord
 
     abbrev pub note : Note
-    note = writeNote d m (elem .id) (writeIn elem)
+    note = writeBy en d m (elem .id) (writeIn elem)
 
     is : (b .number ≡ 0) × (b .refusal ≡ 0) × (b .done < n)
     is = due-is b n on
 
-    words : length m ≡ markWords
+    words : en .words m ≡ markWords
     unfolding soundWith
-    words = len ∙ eqb-true (length m₀) markWords (and-right (soundDevice d) (eqb (length m₀) markWords) (f .ok on .1))
+    words = sized .alike m m₀ len ∙ eqb-true (en .words m₀) markWords (and-right (soundDevice d) (eqb (en .words m₀) markWords) (f .ok on .1))
 
-    pub sound-now : soundWith d (length m) ≡ true
-    sound-now = rw len (f .ok on .1)
+    pub sound-now : soundWith d (en .words m) ≡ true
+    sound-now = rw (sized .alike m m₀ len) (f .ok on .1)
 
-    few : note .answer .count ≤ 32768
-    few = omega (arith, note-most d m (elem .id) (writeIn elem), words)
+    few : note .answer .count ≤ mostUnits
+    few = note-most en sized d m (elem .id) (writeIn elem) words
 
     -- what is left, the record apart
-    before : left b m ≡ cond (eqb (note .answer .number) 0) (notesFrom inWords d (note .marks) (b .done + 1) (b .count + note .answer .count) (drop (b .done + 1) rs))
+    before : left b m ≡ cond (eqb (note .answer .number) 0) (notesFrom en d (note .marks) (b .done + 1) (b .count + note .answer .count) (drop (b .done + 1) rs))
         (batched 0 (b .done) (b .count) (note .answer .number) (note .marks))
     before = rw (on, cons-at)
       where
@@ -156,7 +165,7 @@ module _ (d : Device) (m₀ : List ℕ) (rs : List WriteRecord) where
       done-due = sym (due-left next n (is .0) (is .1))
 
       abbrev rest : Change Batched
-      rest = notesFrom inWords d (note .marks) (b .done + 1) (b .count + note .answer .count) (drop (b .done + 1) rs)
+      rest = notesFrom en d (note .marks) (b .done + 1) (b .count + note .answer .count) (drop (b .done + 1) rs)
 
       after : left next (note .marks) ≡ rest
       after = rw (done-due, is .0, is .1) (go-at (note .marks) (b .done + 1) (b .count + note .answer .count) (omega (arith, is .2)))
@@ -164,7 +173,7 @@ module _ (d : Device) (m₀ : List ℕ) (rs : List WriteRecord) where
       so : cond (eqb (note .answer .number) 0) rest (batched 0 (b .done) (b .count) (note .answer .number) (note .marks)) ≡ rest
       so = rw (eq-eqb (note .answer .number) 0 e)
 
-      done-inv : left next (note .marks) ≡ batchChange d m₀ rs
+      done-inv : left next (note .marks) ≡ batchBy en d m₀ rs
       done-inv = after ∙ sym (before ∙ so) ∙ f .inv
 
       done-less : cond (isDue next n) (n - (b .done + 1)) 0 < n - b .done
@@ -187,10 +196,10 @@ module _ (d : Device) (m₀ : List ℕ) (rs : List WriteRecord) where
       stays : left cut (note .marks) ≡ ended
       stays = rw (cut-due, is .0)
 
-      so-cut : cond (eqb (note .answer .number) 0) (notesFrom inWords d (note .marks) (b .done + 1) (b .count + note .answer .count) (drop (b .done + 1) rs)) ended ≡ ended
+      so-cut : cond (eqb (note .answer .number) 0) (notesFrom en d (note .marks) (b .done + 1) (b .count + note .answer .count) (drop (b .done + 1) rs)) ended ≡ ended
       so-cut = rw (ne-eqb (note .answer .number) 0 e)
 
-      cut-inv : left cut (note .marks) ≡ batchChange d m₀ rs
+      cut-inv : left cut (note .marks) ≡ batchBy en d m₀ rs
       cut-inv = stays ∙ sym (before ∙ so-cut) ∙ f .inv
 
     turned-at : (Facts (tallyOf b (note .answer)) (note .marks)) × (μ (tallyOf b (note .answer)) < n - b .done)
@@ -226,8 +235,8 @@ module _ (d : Device) (m₀ : List ℕ) (rs : List WriteRecord) where
 
   -- ---- the loop is left
 
-  pub stopped : (b : Batched) (m : List ℕ) → isDue b n ≡ false → Facts b m → (b ≡ batchChange d m₀ rs .answer) × (m ≡ batchChange d m₀ rs .marks)
+  pub stopped : (b : Batched) (m : List ℕ) → isDue b n ≡ false → Facts b m → (b ≡ batchBy en d m₀ rs .answer) × (m ≡ batchBy en d m₀ rs .marks)
   stopped b m off f = (ap (λ (c : Change Batched). c .answer) e, ap (λ (c : Change Batched). c .marks) e)
     where
-      e : record { answer = b; marks = m } ≡ batchChange d m₀ rs
-      e = sym (ap (λ (y : Bool). cond y (notesFrom inWords d m (b .done) (b .count) (drop (b .done) rs)) (record { answer = b; marks = m })) off) ∙ f .inv
+      e : record { answer = b; marks = m } ≡ batchBy en d m₀ rs
+      e = sym (ap (λ (y : Bool). cond y (notesFrom en d m (b .done) (b .count) (drop (b .done) rs)) (record { answer = b; marks = m })) off) ∙ f .inv

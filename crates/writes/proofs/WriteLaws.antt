@@ -1,4 +1,4 @@
--- What a noted write answers, case by case of its table; a written range of no bytes leaves every word as it was. Assumes nothing.
+-- What a noted write answers, case by case of its table, for any engine; in words, a written range of no bytes leaves every word as it was. Assumes nothing.
 use mathlib.Core.Path.{_≡_, refl, sym, ap, ap₂, subst, _∙_}
 use mathlib.Core.Logic.{_≢_}
 use mathlib.Core.Bool.{Bool, true, false, cond, or-false, and-true, and-false}
@@ -34,10 +34,10 @@ use Rattle.settings.specs.Found.{foundAt}
 use Rattle.settings.specs.declared.Found.the-variants as found
 use Rattle.record.specs.declared.Place.the-variants.{At, Refused}
 use Rattle.record.proofs.RecordLaws.{whereIs-at, whereIs-refused}
-use Rattle.calls.specs.Calls.{inWords, writeBy, Note, withMarks, marksAt, noted, noteIn, writeDone, writeNote}
+use Rattle.calls.specs.Calls.{Engine, inWords, writeBy, Note, withMarks, marksAt, noted, noteIn, writeDone}
 use Rattle.calls.proofs.PlaceLaws.{held-at, share-within}
 use Rattle.writes.specs.declared.Single.{Single}
-use Rattle.writes.specs.Inner.{Lies, MayNote, noteTests, noteOn, isOne, Fronts, alone}
+use Rattle.writes.specs.Inner.{Lies, MayNote, noteTests, noteBy, noteOn, isOne, Fronts, alone}
 
 -- ---- the place, on a record that is known to be sound
 
@@ -75,7 +75,7 @@ ready-sound d words b h e = e ∙ rw (eq-eqb words markWords h, and-true (soundD
 -- ---- a written range of no bytes
 
 module _ (w : Write) (e : w .bytes ≡ 0) where
-  touches-none : (u : Unit) → touches w u ≡ false
+  pub touches-none : (u : Unit) → touches w u ≡ false
   touches-none u = rw e
 
   mark-none : (us : List Unit) (p : List Bool) → length p ≡ length us → mark w us p ≡ p
@@ -84,7 +84,7 @@ module _ (w : Write) (e : w .bytes ≡ 0) where
   mark-none (u ∷ us) [] h = absurd (omega arith)
   mark-none (u ∷ us) (b ∷ p) h = ap₂ (λ x l. x ∷ l) (rw (touches-none u) (or-false b)) (mark-none us p (omega arith))
 
-  newly-none : (us : List Unit) (p : List Bool) → newly w us p ≡ 0
+  pub newly-none : (us : List Unit) (p : List Bool) → newly w us p ≡ 0
   newly-none [] p = refl
   newly-none (u ∷ us) [] = refl
   newly-none (u ∷ us) (b ∷ p) = rw (touches-none u) (zero-add (newly w us p) ∙ newly-none us p)
@@ -109,9 +109,9 @@ note-passes false w e = (refl, go (leb (w .address + w .bytes) (2 ^ 64)) refl e)
 
 -- ---- the cases of a note to one controller
 
-module _ (c : Controller) (ws : List ℕ) (base : ℕ) (w : Write) (k : ℕ) (e : k ≡ refusal (noteTests (c .suspended) w)) where
-  pub on-refused : k ≢ 0 → noteOn c ws base w ≡ noted k 0 ws
-  unfolding noteOn
+module _ (en : Engine) (c : Controller) (ws : List ℕ) (base : ℕ) (w : Write) (k : ℕ) (e : k ≡ refusal (noteTests (c .suspended) w)) where
+  pub on-refused : k ≢ 0 → noteBy en c ws base w ≡ noted k 0 ws
+  unfolding noteBy
   on-refused h = verdict-refused (noteTests (c .suspended) w) _ (λ n i. noted n 0 ws) (λ z. h (e ∙ z)) ∙ ap (λ j. noted j 0 ws) (sym e)
 
   module _ (z : k ≡ 0) where
@@ -121,43 +121,47 @@ module _ (c : Controller) (ws : List ℕ) (base : ℕ) (w : Write) (k : ℕ) (e 
     on-within : w .address + w .bytes ≤ 2 ^ 64
     on-within = note-passes (c .suspended) w (sym e ∙ z) .1
 
-    pub on-off : c .tracking ≡ Off → noteOn c ws base w ≡ noted 0 0 ws
-    unfolding noteOn
+    pub on-off : c .tracking ≡ Off → noteBy en c ws base w ≡ noted 0 0 ws
+    unfolding noteBy
     on-off t = rw (f, le-leb (w .address + w .bytes) (2 ^ 64) on-within, t)
 
-    module _ (g n : ℕ) (t : c .tracking ≡ On g n) where
-      abbrev us : List Unit
-      us = units g (take n (c .ranges))
+    pub on-marks : (g n : ℕ) → c .tracking ≡ On g n
+        → let us = units g (take n (c .ranges)) in noteBy en c ws base w ≡ noted 0 (newly w us (en .marks ws base (length us))) (en .marked ws base w us)
+    unfolding noteBy
+    on-marks g n t = rw (f, le-leb (w .address + w .bytes) (2 ^ 64) on-within, t)
 
-      abbrev p : List Bool
-      p = marksAt ws base (length us)
+-- ---- the same in words
 
-      on-marks : noteOn c ws base w ≡ noted 0 (newly w us p) (withMarks ws base (mark w us p))
-      unfolding noteOn
-      on-marks = rw (f, le-leb (w .address + w .bytes) (2 ^ 64) on-within, t)
+module _ (c : Controller) (ws : List ℕ) (base : ℕ) (w : Write) (k : ℕ) (e : k ≡ refusal (noteTests (c .suspended) w)) (z : k ≡ 0) where
+  module _ (g n : ℕ) (t : c .tracking ≡ On g n) where
+    abbrev us : List Unit
+    us = units g (take n (c .ranges))
 
-      -- what marks the ranges' spans is the note
-      pub on-done : (ws′ : List ℕ) (count : ℕ) → Words ws′ → length ws′ ≡ length ws → count ≡ newly w us p → flat ws′ ≡ putShare (flat ws) base (mark w us p)
-          → noteOn c ws base w ≡ noted 0 count ws′
-      unfolding withMarks
-      on-done ws′ count h k e b = on-marks ∙ ap₂ (noted 0) (sym e) (sym (pack-only (length ws) ws′ (putShare (flat ws) base (mark w us p)) k h b))
+    abbrev p : List Bool
+    p = marksAt ws base (length us)
 
-      on-empty-marks : Lies g n (c .ranges) ws base → Words ws → w .bytes ≡ 0 → noteOn c ws base w ≡ noted 0 0 ws
-      unfolding withMarks
-      on-empty-marks l k z =
-          let m : base + length us ≤ length (flat ws) = omega (arith, flat-length ws, l .within .within) in
-          on-marks
-          ∙ ap₂ (noted 0) (newly-none w z us p)
-          (ap (λ q. pack (length ws) (putShare (flat ws) base q)) (mark-none w z us p (getShare-length (flat ws) base (length us) m))
-          ∙ ap (pack (length ws)) (putShare-getShare (flat ws) base (length us) m)
-          ∙ pack-flat ws k)
+    -- what marks the ranges' spans is the note
+    pub on-done : (ws′ : List ℕ) (count : ℕ) → Words ws′ → length ws′ ≡ length ws → count ≡ newly w us p → flat ws′ ≡ putShare (flat ws) base (mark w us p)
+        → noteOn c ws base w ≡ noted 0 count ws′
+    unfolding withMarks
+    on-done ws′ count h j q b = on-marks inWords c ws base w k e z g n t ∙ ap₂ (noted 0) (sym q) (sym (pack-only (length ws) ws′ (putShare (flat ws) base (mark w us p)) j h b))
 
-    pub on-empty : MayNote c ws base → Words ws → w .bytes ≡ 0 → noteOn c ws base w ≡ noted 0 0 ws
-    on-empty l k z = go (c .tracking) refl
-      where
-        go : (t : Tracking) → c .tracking ≡ t → noteOn c ws base w ≡ noted 0 0 ws
-        go Off t = on-off t
-        go (On g n) t = on-empty-marks g n t (l g n t) k z
+    on-empty-marks : Lies g n (c .ranges) ws base → Words ws → w .bytes ≡ 0 → noteOn c ws base w ≡ noted 0 0 ws
+    unfolding withMarks
+    on-empty-marks l h y =
+        let m : base + length us ≤ length (flat ws) = omega (arith, flat-length ws, l .within .within) in
+        on-marks inWords c ws base w k e z g n t
+        ∙ ap₂ (noted 0) (newly-none w y us p)
+        (ap (λ q. pack (length ws) (putShare (flat ws) base q)) (mark-none w y us p (getShare-length (flat ws) base (length us) m))
+        ∙ ap (pack (length ws)) (putShare-getShare (flat ws) base (length us) m)
+        ∙ pack-flat ws h)
+
+  pub on-empty : MayNote c ws base → Words ws → w .bytes ≡ 0 → noteOn c ws base w ≡ noted 0 0 ws
+  on-empty l h y = go (c .tracking) refl
+    where
+      go : (t : Tracking) → c .tracking ≡ t → noteOn c ws base w ≡ noted 0 0 ws
+      go Off t = on-off inWords c ws base w k e z t
+      go (On g n) t = on-empty-marks g n t (l g n t) h y
 
 -- ---- a controller that has one range or is not tracked
 
@@ -182,7 +186,7 @@ module _ (c : Controller) (s : Single) (f : Fronts s c) (o : isOne (s .tracking)
   same n z = rw z (sym front)
 
   pub one-note : (ws : List ℕ) (base : ℕ) (w : Write) → noteOn c ws base w ≡ noteOn (alone s) ws base w
-  unfolding noteOn
+  unfolding noteBy
   one-note ws base w =
       ap (λ (x : Single). verdict (noteTests (x .suspended) w) (noteIn inWords ws base (x .tracking) (c .ranges) w) (λ n i. noted n 0 ws)) (sym (f .0)) ∙ go (s .tracking) o
     where
@@ -228,32 +232,33 @@ last-place i h e0 e1 e2 e3 e4 e5 e6 =
 pub same-base : (s t : Single) → s ≡ t → s .base ≡ t .base
 same-base s t e = ap (λ (x : Single). x .base) e
 
-module _ (d : Device) (ws : List ℕ) (id : ℕ) where
+module _ (en : Engine) (d : Device) (ws : List ℕ) (id : ℕ) where
   -- where there is none
-  pub write-refused : (w : Write) (n : ℕ) → whereIs d (length ws) id ≡ Refused n → writeNote d ws id w ≡ noted n 0 ws
+  pub write-refused : (w : Write) (n : ℕ) → whereIs d (en .words ws) id ≡ Refused n → writeBy en d ws id w ≡ noted n 0 ws
   unfolding writeBy
   write-refused w n e =
-      whereIs-refused d (length ws) id n e (drop 2 (writeOrder (seenIn d (length ws) (placeOf (d .settings) id)) w)) (writeDone inWords d ws w (placeOf (d .settings) id)) (λ n i. noted n 0 ws)
+      whereIs-refused d (en .words ws) id n e (drop 2 (writeOrder (seenIn d (en .words ws) (placeOf (d .settings) id)) w)) (writeDone en d ws w (placeOf (d .settings) id)) (λ n i. noted n 0 ws)
 
   -- where it stands at place i, which is known by the number k: its note is the call's
-  module _ (i : ℕ) (e : whereIs d (length ws) id ≡ At i) (k : ℕ) (s : i ≡ k) where
-    pub write-on : (base : ℕ) → base ≡ getD (d .controllers) i noController .base → (w : Write) → writeNote d ws id w ≡ noteOn (getD (d .controllers) k noController) ws base w
-    unfolding writeBy noteOn
-    write-on base b w = let l = whereIs-at d (length ws) id i e in rw (l .place, l .seen, b, sym s)
+  pub write-on : (i : ℕ) → whereIs d (en .words ws) id ≡ At i → (k : ℕ) → i ≡ k → (base : ℕ) → base ≡ getD (d .controllers) i noController .base → (w : Write)
+      → writeBy en d ws id w ≡ noteBy en (getD (d .controllers) k noController) ws base w
+  unfolding writeBy noteBy
+  write-on i e k s base b w = let l = whereIs-at d (en .words ws) id i e in rw (l .place, l .seen, b, sym s)
 
-    pub may-note : length (d .controllers) ≡ 8 → 1 ≤ length (getD (d .controllers) i noController .ranges) → (base : ℕ) → base ≡ getD (d .controllers) i noController .base
-        → MayNote (getD (d .controllers) k noController) ws base
-    may-note h listed base b = subst (λ (j : ℕ). MayNote (getD (d .controllers) j noController) ws base) s go
-      where
-        go : MayNote (getD (d .controllers) i noController) ws base
-        go g n t =
-            let l = whereIs-at d (length ws) id i e in
-            let there : i < length (d .controllers) = omega (arith, l .below) in
-            let f = held-at d (length ws) id i e there g n t in
-            let fits = share-within d (length ws) id i e there g n t listed in
-            record {
-              small = f .small;
-              few = f .few;
-              rows = f .rows;
-              within = record { within = omega (arith, fits, l .whole); small = omega (arith, fits) };
-            }
+pub may-note : (d : Device) (ws : List ℕ) (id i : ℕ) → whereIs d (length ws) id ≡ At i → (k : ℕ) → i ≡ k → length (d .controllers) ≡ 8
+    → 1 ≤ length (getD (d .controllers) i noController .ranges) → (base : ℕ) → base ≡ getD (d .controllers) i noController .base
+    → MayNote (getD (d .controllers) k noController) ws base
+may-note d ws id i e k s h listed base b = subst (λ (j : ℕ). MayNote (getD (d .controllers) j noController) ws base) s go
+  where
+    go : MayNote (getD (d .controllers) i noController) ws base
+    go g n t =
+        let l = whereIs-at d (length ws) id i e in
+        let there : i < length (d .controllers) = omega (arith, l .below) in
+        let f = held-at d (length ws) id i e there g n t in
+        let fits = share-within d (length ws) id i e there g n t listed in
+        record {
+          small = f .small;
+          few = f .few;
+          rows = f .rows;
+          within = record { within = omega (arith, fits, l .whole); small = omega (arith, fits) };
+        }

@@ -1,4 +1,4 @@
--- What a note to one controller does, and what the parts of a batch's loop compute. These serve this crate alone.
+-- What a note to one controller does, and what the parts of a batch's loop compute. The plain engine (W9) has its notes' refusals and its batch's parts from here.
 use Prim.Native.Nat.{ℕ, _+_, _^_, _≤_}
 use mathlib.Core.Path.{_≡_}
 use mathlib.Core.Bool.{Bool, true, not, _&&_, cond}
@@ -18,7 +18,7 @@ use Rattle.rules.specs.declared.Queue.the-variants as queue
 use Rattle.rules.specs.declared.Controller.{Controller}
 use Rattle.rules.specs.declared.Device.{Device}
 use Rattle.record.specs.Record.{soundWith}
-use Rattle.calls.specs.Calls.{inWords, Note, noted, noteIn}
+use Rattle.calls.specs.Calls.{Engine, inWords, Note, noted, noteIn}
 use Rattle.calls.specs.declared.Written.{Written}
 use Rattle.calls.specs.declared.Batched.{Batched}
 use Rattle.writes.specs.declared.Single.{Single}
@@ -40,11 +40,14 @@ abbrev pub noteTests : Bool → Write → List Test
 noteTests suspended w = (not suspended else 4) ∷ (leb (w .address + w .bytes) (2 ^ 64) else 14) ∷ []
 
 -- what it answers and leaves: a refusal's number, or as the rules mark
-unfoldable pub noteOn : Controller → List ℕ → ℕ → Write → Note
-noteOn c ws base w =
+unfoldable pub noteBy : Engine → Controller → List ℕ → ℕ → Write → Note
+noteBy e c ws base w =
     verdict (noteTests (c .suspended) w)
-    (noteIn inWords ws base (c .tracking) (c .ranges) w)
+    (noteIn e ws base (c .tracking) (c .ranges) w)
     (λ n i. noted n 0 ws)
+
+abbrev pub noteOn : Controller → List ℕ → ℕ → Write → Note
+noteOn c ws base w = noteBy inWords c ws base w
 
 -- ---- a controller that has one range or is not tracked
 

@@ -31,7 +31,7 @@ struct Single {
 }
 
 // The first refusal of a note to a controller, 4 suspended, 14 a written range that ends past 2^64, or 0.
-fn note_number(suspended: bool, at: u64, bytes: Bytes) -> u8
+pub fn note_number(suspended: bool, at: u64, bytes: Bytes) -> u8
     ensures { λ r. ⌜ r ≡ refusal (noteTests suspended (record { address = at; bytes = bytes .0 })) ⌝ }
 {
     if suspended {
@@ -205,7 +205,7 @@ pub fn write(d: Device, marks: &mut [u64], id: u16, at: u64, bytes: Bytes) -> Wr
     note(d, marks, id, at, bytes)
 }
 
-// ---- a batch
+// ---- a batch: what begins it, asks for its next note and tallies one is public for the plain engine, which has the same loop
 
 // The first of 1 and 22 that a batch is refused with, or 0: whether record and marks are sound, and whether there are too many records.
 fn begin_number(whole: bool, many: bool) -> u8
@@ -221,7 +221,7 @@ fn begin_number(whole: bool, many: bool) -> u8
 }
 
 // A batch of `total` records before its first note. Refused, in this order: 1, 22 more than 1,024 records.
-fn begin(d: Device, words: usize, total: usize) -> Batched
+pub fn begin(d: Device, words: usize, total: usize) -> Batched
     ensures { λ r. ⌜ r ≡ beginOf d words total ⌝ }
 {
     let whole = ready(d, words);
@@ -235,7 +235,7 @@ fn begin(d: Device, words: usize, total: usize) -> Batched
 }
 
 // Whether a batch of `total` records that has come so far has a note to do.
-fn due(b: Batched, total: usize) -> bool
+pub fn due(b: Batched, total: usize) -> bool
     ensures { λ r. ⌜ r ≡ isDue b total ⌝ }
 {
     if b.number != 0 {
@@ -248,7 +248,7 @@ fn due(b: Batched, total: usize) -> bool
 }
 
 // A batch after one more note: done, it is counted; refused, it cuts the batch.
-fn tally(b: Batched, w: Written) -> Batched
+pub fn tally(b: Batched, w: Written) -> Batched
     requires { ⌜ (b .done + 1 < 2 ^ 64) × (b .count + w .count < 2 ^ 64) ⌝ }
     ensures { λ r. ⌜ r ≡ tallyOf b w ⌝ }
 {
@@ -293,7 +293,7 @@ fn batch_front(d: Device, marks: &mut [u64], list: [WriteRecord; 1025], n: usize
 }
 
 // How many of the 1,025 records are among the first n.
-fn listed(n: usize) -> usize
+pub fn listed(n: usize) -> usize
     ensures { λ r. ⌜ r ≡ min n 1025 ⌝ }
 {
     if n < 1025 { n } else { 1025 }

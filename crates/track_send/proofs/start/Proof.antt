@@ -1,6 +1,6 @@
 -- `track_send::start` is right: it refuses in the order of its table; done, the share is clear and granularity, count and ranges are recorded.
 -- Assumes nothing.
-use mathlib.Core.Path.{_≡_, sym, ap, _∙_}
+use mathlib.Core.Path.{_≡_, refl, sym, ap, _∙_}
 use Prim.Native.Nat.{_<_}
 use native.Mathlib.Omega.{arith}
 use denote.Ref.{now}
@@ -8,15 +8,14 @@ use lib.ListN.{length}
 use borrow.Author.Needs.{needs}
 use Rattle.rules.specs.StartData.{headerOf}
 use Rattle.rules.specs.declared.Header.the-variants.{Is}
-use Rattle.settings.proofs.SettingsLaws.{granularityOk-greatest}
 use Rattle.record.specs.Record.{whereIs, countsOf, unitsOf}
 use Rattle.start_data.specs.Answer.{headerSays}
 use Rattle.start_data.proofs.Answers.{rangesRead-there}
 use Rattle.record.specs.declared.Place.the-variants.{At, Refused}
-use Rattle.record.proofs.RecordLaws.{whereIs-at, soundDevice-facts}
-use Rattle.calls.proofs.Answers.{leaves, leaves-unchanged}
+use Rattle.record.proofs.RecordLaws.{whereIs-at}
+use Rattle.calls.proofs.Answers.{leaves}
 use Rattle.calls.proofs.PlaceLaws.{refused-place}
-use Rattle.track_send.proofs.StartedLaws.{start-refused, start-suspended, start-tracked, start-header, start-listed, start-done, ranges-read, Listed, listed-known}
+use Rattle.track_send.proofs.StartedLaws.{start-refused, start-suspended, start-tracked, start-header, start-listed, start-known, start-done, Listed, listed-known}
 use Rattle.track_send.proofs.start.Statement.{statement}
 use Rattle.track_send.proofs.start.Tie as tie
 
@@ -56,8 +55,11 @@ enum-told c = search needs
 number-of-requires : tie.Need-number-of-requires
 number-of-requires c κs = search needs
 
+refused-requires : tie.Need-refused-requires
+refused-requires c κs = search needs
+
 returns : tie.Need-returns
-returns c = leaves-unchanged _ _ _ (start-refused _ _ _ _ _ _ (refused c))
+returns c = leaves _ _ _ _ _ (start-refused _ _ _ _ _ _ (refused (c .before))) (c .refused .ensures) refl
 
 mul-c : tie.Need-mul-c
 mul-c c = omega (arith, below c)
@@ -65,8 +67,11 @@ mul-c c = omega (arith, below c)
 element-copy-out-c : tie.Need-element-copy-out-c
 element-copy-out-c c = below c
 
+refused-requires-2 : tie.Need-refused-requires-2
+refused-requires-2 c κs = search needs
+
 returns-2 : tie.Need-returns-2
-returns-2 c = leaves-unchanged _ _ _ (start-suspended _ _ _ _ _ _ (found (c .before .before)) (c .if1 .taken))
+returns-2 c = leaves _ _ _ _ _ (start-suspended _ _ _ _ _ _ (found (c .before .before .before)) (c .before .if1 .taken)) (c .refused2 .ensures) refl
 
 enum-told-2 : tie.Need-enum-told-2
 enum-told-2 c = search needs
@@ -74,8 +79,11 @@ enum-told-2 c = search needs
 enum-told-3 : tie.Need-enum-told-3
 enum-told-3 c = search needs
 
+refused-requires-3 : tie.Need-refused-requires-3
+refused-requires-3 c κs = search needs
+
 returns-3 : tie.Need-returns-3
-returns-3 c = leaves-unchanged _ _ _ (start-tracked _ _ _ _ _ _ (found (c .before .before .before .before)) (c .before .before .if1 .left) _ _ (c .enum-told3 .given .1))
+returns-3 c = leaves _ _ _ _ _ (start-tracked _ _ _ _ _ _ (found (c .before .before .before .before .before)) (c .before .before .before .if1 .left) _ _ (c .before .enum-told3 .given .1)) (c .refused3 .ensures) refl
 
 read-header-requires : tie.Need-read-header-requires
 read-header-requires c κs = search needs
@@ -89,16 +97,23 @@ enum-told-4 c = search needs
 header-number-requires : tie.Need-header-number-requires
 header-number-requires c κs = search needs
 
+refused-requires-4 : tie.Need-refused-requires-4
+refused-requires-4 c κs = search needs
+
 returns-4 : tie.Need-returns-4
 returns-4 c =
-    let e = sym (c .before .before .before .read-header .ensures .is) in
-    leaves-unchanged _ _ _ (start-header _ _ _ _ _ _ (found (c .before .before .before .before .before .before .before .before)) (c .before .before .before .before .before .before .if1 .left) (c .before .before .before .before .enum-told2 .given .1) _ _ _ (e ∙ c .before .enum-told4 .given .1) (c .header-number .ensures ∙ ap (λ h. headerSays h .number) (sym e)))
+    let e = sym (c .before .before .before .before .read-header .ensures .is) in
+    leaves _ _ _ _ _ (start-header _ _ _ _ _ _ (found (c .before .before .before .before .before .before .before .before .before)) (c .before .before .before .before .before .before .before .if1 .left) (c .before .before .before .before .before .enum-told2 .given .1) _ _ _ (e ∙ c .before .before .enum-told4 .given .1) (c .before .header-number .ensures ∙ ap (λ h. headerSays h .number) (sym e)))
+    (c .refused4 .ensures) refl
 
 listed-refusal-requires : tie.Need-listed-refusal-requires
 listed-refusal-requires c κs = (whereIs-at _ _ _ _ (found (c .before .before .before .before .before .before .before .before)) .sound, listed c)
 
+refused-requires-5 : tie.Need-refused-requires-5
+refused-requires-5 c κs = search needs
+
 returns-5 : tie.Need-returns-5
-returns-5 c = leaves-unchanged _ _ _ (start-listed _ _ _ _ _ _ (found (c .before .before .before .before .before .before .before .before .before .before .before)) (c .before .before .before .before .before .before .before .before .before .if1 .left) (c .before .before .before .before .before .before .before .enum-told2 .given .1) _ _ (listed (c .before .before .before)) _ (c .before .before .listed-refusal .ensures) (c .if2 .taken))
+returns-5 c = leaves _ _ _ _ _ (start-listed _ _ _ _ _ _ (found (c .before .before .before .before .before .before .before .before .before .before .before .before)) (c .before .before .before .before .before .before .before .before .before .before .if1 .left) (c .before .before .before .before .before .before .before .before .enum-told2 .given .1) _ _ (listed (c .before .before .before .before)) _ (c .before .before .before .listed-refusal .ensures) (c .before .if2 .taken)) (c .refused5 .ensures) refl
 
 cast-read-ranges : tie.Need-cast-read-ranges
 cast-read-ranges c = search needs
@@ -111,21 +126,14 @@ cast-install c = omega (arith, known (c .before .before) .few)
 
 install-requires : tie.Need-install-requires
 install-requires c κs =
-    let k = known (c .before .before) in
-    let p = c .before .before .before .before .before .before .before .before .before .before .before .before .before in
-    let a = c .before .before .before .before .before .before .before .before .before .before .before .before .before .before .before .before .before .before .before .args in
-    let l = whereIs-at _ _ _ _ (found p) in
-    let read = c .before .read-ranges .ensures ∙ rangesRead-there _ _ (k .few) (k .there) in
-    let same = ranges-read (a .t1 .settings) (countsOf (a .t1)) (unitsOf (a .t1)) _ _ _ (listed (c .before .before .before .before .before)) (k .allowed) (k .there) (k .few) in
+    let e = c .before .before in
+    let k = known e in
+    let l = whereIs-at _ _ _ _ (found (e .before .before .before .before .before .before .before .before .before .before .before)) in
     record {
-      sound = l .sound;
+      starts =
+          rw (c .before .read-ranges .ensures ∙ rangesRead-there _ _ (k .few) (k .there))
+          (start-known _ _ _ _ _ (l .sound) (l .used) (e .before .before .before .before .before .before .before .enum-told2 .given .1) (listed (e .before .before .before)) k);
       words = l .whole;
-      used = l .used;
-      off = c .before .before .before .before .before .before .before .before .before .enum-told2 .given .1;
-      small = omega (arith, granularityOk-greatest _ _ (k .allowed), soundDevice-facts (a .t1) (l .sound) .greatest);
-      few = k .few;
-      rows = rw (read, same) (k .rows);
-      room = rw (read, same) (k .room);
     }
 
 same-length : tie.Need-same-length
@@ -134,11 +142,9 @@ same-length c = search needs
 returns-6 : tie.Need-returns-6
 returns-6 c =
     let e = c .before .before .before .before .before in
-    let k = c .before .before .before .before .before .before .before .before .before .before .before .before .before .before .before .before in
-    let a = c .before .before .before .before .before .before .before .before .before .before .before .before .before .before .before .before .before .before .before .before .before .before .args in
     let l = known e in
     let read = c .before .before .before .before .read-ranges .ensures ∙ rangesRead-there _ _ (l .few) (l .there) in
-    leaves _ _ _ _ _ (start-done _ (a .t1) (now (a .marks)) (a .id) (now (a .«data»)) _ (found k) (e .before .before .before .before .before .before .before .before .before .if1 .left) (e .before .before .before .before .before .before .before .enum-told2 .given .1) _ _ (listed (e .before .before .before)) _ (e .before .before .listed-refusal .ensures) (e .if2 .left))
+    leaves _ _ _ _ _ (start-done _ _ _ _ _ _ (found (e .before .before .before .before .before .before .before .before .before .before .before)) (e .before .before .before .before .before .before .before .before .before .if1 .left) (e .before .before .before .before .before .before .before .enum-told2 .given .1) _ _ (listed (e .before .before .before)) _ (e .before .before .listed-refusal .ensures) (e .if2 .left))
     (rw (c .before .before .install .ensures .0, read)) (c .before .before .install .ensures .1 ∙ rw read)
 
 pub start-spec : {M : Type 1} → statement M
@@ -149,19 +155,24 @@ start-spec =
     enum-known-place
     enum-told
     number-of-requires
+    refused-requires
     returns
     mul-c
     element-copy-out-c
+    refused-requires-2
     returns-2
     enum-told-2
     enum-told-3
+    refused-requires-3
     returns-3
     read-header-requires
     enum-known-header
     enum-told-4
     header-number-requires
+    refused-requires-4
     returns-4
     listed-refusal-requires
+    refused-requires-5
     returns-5
     cast-read-ranges
     read-ranges-requires

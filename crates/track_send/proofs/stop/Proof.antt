@@ -5,7 +5,6 @@ use native.Mathlib.Omega.{arith}
 use denote.Ref.{now}
 use lib.ListN.{length, getD, take}
 use borrow.Author.Needs.{needs}
-use Rattle.little.proofs.Put.{put-nil}
 use Rattle.rules.proofs.LoopLaws.{length-mapped}
 use Rattle.ranges.proofs.RangeLaws.{HeldFacts}
 use Rattle.record.specs.Record.{noController, whereIs}
@@ -101,14 +100,8 @@ clear-share-requires c κs =
       whereIs-at _ _ _ _ (found p) .whole,
     )
 
-no-ranges-requires : tie.Need-no-ranges-requires
-no-ranges-requires c κs = search needs
-
-mul-t30 : tie.Need-mul-t30
-mul-t30 c = omega (arith, below (c .before .before .before .before .before .before .before .before .before .before .before .before .before))
-
-element-set-from-e : tie.Need-element-set-from-e
-element-set-from-e c = omega (arith, below (c .before .before .before .before .before .before .before .before .before .before .before .before .before))
+forgotten-requires : tie.Need-forgotten-requires
+forgotten-requires c κs = below (c .before .before .before .before .before .before .before .before .before .before .before .before)
 
 same-length : tie.Need-same-length
 same-length c = search needs
@@ -121,7 +114,7 @@ returns-4 c =
     let r = c .before .before .before .before .before .before .before .ranges-of in
     let u = c .before .before .before .before .before .before .units-in .ensures .0 in
     leaves _ _ _ _ _ (stop-done _ (a .t1) (a .id) (now (a .marks)) _ (found p) _ _ (k .before .before .before .if1 .left) (k .before .t .given .1))
-    (rw (c .no-ranges .ensures, put-nil)) (c .before .before .before .clear-share .ensures ∙ rw (u, r .ensures .0))
+    (rw (c .forgotten .ensures)) (c .before .before .before .clear-share .ensures ∙ rw (u, r .ensures .0))
 
 pub stop-spec : {M : Type 1} → statement M
 stop-spec =
@@ -143,8 +136,6 @@ stop-spec =
     units-in-requires
     cast-clear-share
     clear-share-requires
-    no-ranges-requires
-    mul-t30
-    element-set-from-e
+    forgotten-requires
     same-length
     returns-4)

@@ -42,7 +42,7 @@ enum-told : tie.Need-enum-told
 enum-told c = search needs
 
 returns : tie.Need-returns
-returns c = leaves-unchanged _ _ _ (write-refused _ _ _ _ _ (sound-nothing _ _ _ (c .before .before .before .before .before .pre) (sym (c .before .before .find .ensures) ∙ c .enum-told .given .1)))
+returns c = leaves-unchanged _ _ _ (write-refused _ _ _ _ _ _ (sound-nothing _ _ _ (c .before .before .before .before .before .pre) (sym (c .before .before .find .ensures) ∙ c .enum-told .given .1)))
 
 single-at-requires : tie.Need-single-at-requires
 single-at-requires c κs = below c
@@ -69,7 +69,7 @@ returns-2 : tie.Need-returns-2
 returns-2 c =
     let k = c .before .before .before .before .before .before .before .before in
     let o = sym (c .before .before .before .before .before .is-one .ensures) ∙ c .before .before .before .before .if1 .taken in
-    leaves-as _ _ _ _ (write-on _ _ _ _ (found k) _ refl _ (same-base _ _ ((c .before .before .before .before .before .before .before .single-at .ensures) .0)) _ ∙ one-note _ _ (c .before .before .before .before .before .before .before .single-at .ensures) o _ _ _) (c .before .before .note-one .ensures)
+    leaves-as _ _ _ _ (write-on _ _ _ _ _ (found k) _ refl _ (same-base _ _ ((c .before .before .before .before .before .before .before .single-at .ensures) .0)) _ ∙ one-note _ _ (c .before .before .before .before .before .before .before .single-at .ensures) o _ _ _) (c .before .before .note-one .ensures)
 
 -- ---- several ranges
 
@@ -151,7 +151,7 @@ same-length-2 c = search needs
 returns-3 : tie.Need-returns-3
 returns-3 c =
     let k = c .before .before .before .before .before .before .before .before .before .before in
-    leaves-as _ _ _ _ (write-on _ _ _ _ (found k) 0 (c .before .before .before .before .before .match2 .keys1) _ (same-base _ _ ((c .before .before .before .before .before .before .before .before .before .single-at .ensures) .0)) _) (c .before .before .note-on .ensures)
+    leaves-as _ _ _ _ (write-on _ _ _ _ _ (found k) 0 (c .before .before .before .before .before .match2 .keys1) _ (same-base _ _ ((c .before .before .before .before .before .before .before .before .before .single-at .ensures) .0)) _) (c .before .before .note-on .ensures)
 
 same-length-3 : tie.Need-same-length-3
 same-length-3 c = search needs
@@ -159,7 +159,7 @@ same-length-3 c = search needs
 returns-4 : tie.Need-returns-4
 returns-4 c =
     let k = c .before .before .before .before .before .before .before .before .before .before in
-    leaves-as _ _ _ _ (write-on _ _ _ _ (found k) 1 (c .before .before .before .before .before .match2 .keys2) _ (same-base _ _ ((c .before .before .before .before .before .before .before .before .before .single-at .ensures) .0)) _) (c .before .before .note-on2 .ensures)
+    leaves-as _ _ _ _ (write-on _ _ _ _ _ (found k) 1 (c .before .before .before .before .before .match2 .keys2) _ (same-base _ _ ((c .before .before .before .before .before .before .before .before .before .single-at .ensures) .0)) _) (c .before .before .note-on2 .ensures)
 
 same-length-4 : tie.Need-same-length-4
 same-length-4 c = search needs
@@ -167,7 +167,7 @@ same-length-4 c = search needs
 returns-5 : tie.Need-returns-5
 returns-5 c =
     let k = c .before .before .before .before .before .before .before .before .before .before in
-    leaves-as _ _ _ _ (write-on _ _ _ _ (found k) 2 (c .before .before .before .before .before .match2 .keys3) _ (same-base _ _ ((c .before .before .before .before .before .before .before .before .before .single-at .ensures) .0)) _) (c .before .before .note-on3 .ensures)
+    leaves-as _ _ _ _ (write-on _ _ _ _ _ (found k) 2 (c .before .before .before .before .before .match2 .keys3) _ (same-base _ _ ((c .before .before .before .before .before .before .before .before .before .single-at .ensures) .0)) _) (c .before .before .note-on3 .ensures)
 
 same-length-5 : tie.Need-same-length-5
 same-length-5 c = search needs
@@ -175,7 +175,7 @@ same-length-5 c = search needs
 returns-6 : tie.Need-returns-6
 returns-6 c =
     let k = c .before .before .before .before .before .before .before .before .before .before in
-    leaves-as _ _ _ _ (write-on _ _ _ _ (found k) 3 (c .before .before .before .before .before .match2 .keys4) _ (same-base _ _ ((c .before .before .before .before .before .before .before .before .before .single-at .ensures) .0)) _) (c .before .before .note-on4 .ensures)
+    leaves-as _ _ _ _ (write-on _ _ _ _ _ (found k) 3 (c .before .before .before .before .before .match2 .keys4) _ (same-base _ _ ((c .before .before .before .before .before .before .before .before .before .single-at .ensures) .0)) _) (c .before .before .note-on4 .ensures)
 
 same-length-6 : tie.Need-same-length-6
 same-length-6 c = search needs
@@ -183,7 +183,7 @@ same-length-6 c = search needs
 returns-7 : tie.Need-returns-7
 returns-7 c =
     let k = c .before .before .before .before .before .before .before .before .before .before in
-    leaves-as _ _ _ _ (write-on _ _ _ _ (found k) 4 (c .before .before .before .before .before .match2 .keys5) _ (same-base _ _ ((c .before .before .before .before .before .before .before .before .before .single-at .ensures) .0)) _) (c .before .before .note-on5 .ensures)
+    leaves-as _ _ _ _ (write-on _ _ _ _ _ (found k) 4 (c .before .before .before .before .before .match2 .keys5) _ (same-base _ _ ((c .before .before .before .before .before .before .before .before .before .single-at .ensures) .0)) _) (c .before .before .note-on5 .ensures)
 
 same-length-7 : tie.Need-same-length-7
 same-length-7 c = search needs
@@ -191,7 +191,7 @@ same-length-7 c = search needs
 returns-8 : tie.Need-returns-8
 returns-8 c =
     let k = c .before .before .before .before .before .before .before .before .before .before in
-    leaves-as _ _ _ _ (write-on _ _ _ _ (found k) 5 (c .before .before .before .before .before .match2 .keys6) _ (same-base _ _ ((c .before .before .before .before .before .before .before .before .before .single-at .ensures) .0)) _) (c .before .before .note-on6 .ensures)
+    leaves-as _ _ _ _ (write-on _ _ _ _ _ (found k) 5 (c .before .before .before .before .before .match2 .keys6) _ (same-base _ _ ((c .before .before .before .before .before .before .before .before .before .single-at .ensures) .0)) _) (c .before .before .note-on6 .ensures)
 
 same-length-8 : tie.Need-same-length-8
 same-length-8 c = search needs
@@ -199,7 +199,7 @@ same-length-8 c = search needs
 returns-9 : tie.Need-returns-9
 returns-9 c =
     let k = c .before .before .before .before .before .before .before .before .before .before in
-    leaves-as _ _ _ _ (write-on _ _ _ _ (found k) 6 (c .before .before .before .before .before .match2 .keys7) _ (same-base _ _ ((c .before .before .before .before .before .before .before .before .before .single-at .ensures) .0)) _) (c .before .before .note-on7 .ensures)
+    leaves-as _ _ _ _ (write-on _ _ _ _ _ (found k) 6 (c .before .before .before .before .before .match2 .keys7) _ (same-base _ _ ((c .before .before .before .before .before .before .before .before .before .single-at .ensures) .0)) _) (c .before .before .note-on7 .ensures)
 
 same-length-9 : tie.Need-same-length-9
 same-length-9 c = search needs
@@ -207,7 +207,7 @@ same-length-9 c = search needs
 returns-10 : tie.Need-returns-10
 returns-10 c =
     let k = c .before .before .before .before .before .before .before .before .before .before in
-    leaves-as _ _ _ _ (write-on _ _ _ _ (found k) 7 (last (c .before .before .before .before .before)) _ (same-base _ _ ((c .before .before .before .before .before .before .before .before .before .single-at .ensures) .0)) _) (c .before .before .note-on8 .ensures)
+    leaves-as _ _ _ _ (write-on _ _ _ _ _ (found k) 7 (last (c .before .before .before .before .before)) _ (same-base _ _ ((c .before .before .before .before .before .before .before .before .before .single-at .ensures) .0)) _) (c .before .before .note-on8 .ensures)
 
 pub note-spec : {M : Type 1} → statement M
 note-spec =

@@ -15,7 +15,7 @@ note-number-requires : tie.Need-note-number-requires
 note-number-requires c κs = search needs
 
 returns : tie.Need-returns
-returns c = leaves-unchanged _ _ _ (on-refused _ _ _ _ _ (c .before .note-number .ensures) (c .if1 .taken))
+returns c = leaves-unchanged _ _ _ (on-refused _ _ _ _ _ _ (c .before .note-number .ensures) (c .if1 .taken))
 
 returns-2 : tie.Need-returns-2
 returns-2 c =
@@ -30,7 +30,7 @@ enum-told : tie.Need-enum-told
 enum-told c = search needs
 
 returns-3 : tie.Need-returns-3
-returns-3 c = leaves-unchanged _ _ _ (on-off _ _ _ _ _ (c .before .before .before .before .note-number .ensures) (c .before .before .before .if1 .left) (c .enum-told .given .1))
+returns-3 c = leaves-unchanged _ _ _ (on-off _ _ _ _ _ _ (c .before .before .before .before .note-number .ensures) (c .before .before .before .if1 .left) (c .enum-told .given .1))
 
 -- the written range ends within memory
 within : (c : tie.After-known-told) → let a = c .before .before .before .before .before .before .before .args in a .at + a .bytes .0 ≤ 2 ^ 64

@@ -11,7 +11,7 @@ ready-requires : tie.Need-ready-requires
 ready-requires c κs = search needs
 
 returns : tie.Need-returns
-returns c = leaves-unchanged _ _ _ (write-refused _ _ _ _ _ (unsound-place _ _ _ (sym (c .before .ready .ensures) ∙ not-true _ (c .if1 .taken))))
+returns c = leaves-unchanged _ _ _ (write-refused _ _ _ _ _ _ (unsound-place _ _ _ (sym (c .before .ready .ensures) ∙ not-true _ (c .if1 .taken))))
 
 note-requires : tie.Need-note-requires
 note-requires c κs = sym (c .before .before .ready .ensures) ∙ not-false _ (c .before .if1 .left)
