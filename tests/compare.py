@@ -1,4 +1,4 @@
-"""Plays cases through both programs, compares every byte, and shortens a listing that shows a difference."""
+"""Plays cases through two programs or three, compares every byte, and shortens a listing that shows a difference."""
 
 import math
 from itertools import zip_longest
@@ -34,14 +34,16 @@ def play(cases, programs):
 
 
 def play_together(cases, programs):
-    def sides_of(case):
-        return [side(program.name, program, case) for program in programs]
-
-    sides = sides_of(joined(cases))
-    for one in sides:
+    first, *others = programs
+    given, *rest = (side(program.name, program, joined(cases)) for program in programs)
+    for one in (given, *rest):
         yield from against_hand(cases, one)
-    if differ(sides):
-        yield shortened_difference("first and second program", cases, sides, sides_of)
+    for program, other in zip(others, rest):
+        def sides_of(case):
+            return [side(one.name, one, case) for one in (first, program)]
+
+        if differ([given, other]):
+            yield shortened_difference(f"first and {program.name} program", cases, [given, other], sides_of)
 
 
 def joined(cases):

@@ -1,4 +1,4 @@
-"""What tests/listings and tests/shelf share: groups of listings played through two programs, seed after seed, and how a
+"""What tests/listings and tests/shelf share: groups of listings played through two programs or three, seed after seed, and how a
 difference is printed."""
 
 import itertools
@@ -15,11 +15,11 @@ LINES_SHOWN = 20  # of an answer; a take may have 129
 SHORT_CHUNKS = [[1], [2, 3, 5, 7, 11, 13], [1023], [1024, 1]]
 
 
-def status(title, about, first, words, fixed_groups, seed_groups):
+def status(title, about, first, words, fixed_groups, seed_groups, plain=None):
     """Plays the fixed groups, then those of a seed, with --long of seed after seed. Answers the exit status.
 
-    `words` tell the second program what it is to play."""
-    chosen = arguments(title, about, first, " ".join(["second", *words]), "go on with new seeds until stopped")
+    `words` tell the second program what it is to play; `plain` is the program on the plain engine, if there is one."""
+    chosen = arguments(title, about, first, " ".join(["second", *words]), "go on with new seeds until stopped", plain)
     try:
         test = Test(title, both_programs(chosen, *words))
     except Trouble as trouble:
@@ -39,7 +39,7 @@ def status(title, about, first, words, fixed_groups, seed_groups):
 
 
 class Test:
-    """Two programs, what was played through them, and how many differences were shown."""
+    """Two programs or three, what was played through them, and how many differences were shown."""
 
     def __init__(self, title, programs):
         self.title, self.programs = title, programs
@@ -87,9 +87,9 @@ class Test:
     def pieces(self, chunked, talked):
         """The input in chunks, line by line with the answer awaited, and an output that takes nothing.
 
-        `chunked` are pairs of cases and the sizes of their chunks."""
+        `chunked` are pairs of cases and the sizes of their chunks. The plain engine's program reads and writes as the first does."""
         begin = time.monotonic()
-        troubles = [trouble for program in self.programs
+        troubles = [trouble for program in self.programs[:2]
                     for trouble in (*(chunk_trouble(program, *one) for one in chunked), talk_trouble(program, talked), unheard_trouble(program))]
         for trouble in filter(None, troubles):
             self.trouble(f"{trouble}\n")

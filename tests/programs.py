@@ -25,7 +25,7 @@ class Hang(Exception):
 
 
 class Program(NamedTuple):
-    name: str      # "first" or "second"
+    name: str      # "first", "second" or "plain"
     command: list
 
 
@@ -34,19 +34,24 @@ class Run(NamedTuple):
     ending: str    # "ended", or with which status
 
 
-def arguments(title, about, first, second, long):
-    """The options of a test. `first` and `second` name the programs that it plays through unless others are given."""
+def arguments(title, about, first, second, long, plain=None):
+    """The options of a test. `first`, `second` and, where there is one, `plain` name the programs that it plays through unless
+    others are given."""
     parser = argparse.ArgumentParser(prog=f"tests/{title}", description=about)
     parser.add_argument("--long", action="store_true", help=long)
     parser.add_argument("--seed", type=int, default=1, metavar="N", help="the first seed (1)")
     parser.add_argument("--first", type=shlex.split, metavar="PROGRAM", default=[ROOT / first], help=f"in place of {first}")
     parser.add_argument("--second", type=shlex.split, metavar="PROGRAM", help=f"in place of `{second}`")
+    if plain:
+        parser.add_argument("--plain", type=shlex.split, metavar="PROGRAM", default=[ROOT / plain], help=f"in place of {plain}")
     return parser.parse_args()
 
 
 def both_programs(chosen, *words):
-    """The chosen ones. The second one is else built from second/, and these words tell it what it is to play."""
-    return [program("first", chosen.first), program("second", chosen.second or [built_second(), *words])]
+    """The chosen ones. The second one is else built from second/, and these words tell it what it is to play. Behind both stands
+    the one on the plain engine, where there is one."""
+    plain = [program("plain", chosen.plain)] if "plain" in chosen else []
+    return [program("first", chosen.first), program("second", chosen.second or [built_second(), *words]), *plain]
 
 
 def program(name, command):

@@ -10,6 +10,7 @@ from record_case import batch, make, numbers, part, post, rotated, structure, ta
 MIXED = 0x8E5A0F3C7001C0D1  # a mark word with set and clear bits in every byte; rotated by 1 to 63 it is another
 WRONG_WORDS = (0, 1, 64, 255, 257, 512)  # "1 expects 256 words" (document 02, W7)
 BASES = (0, 4096, 8192, 12288)  # where the shares of the first four controllers begin unless said: in words 0, 64, 128, 192
+WRONG_UNITS = (0, 1, 64, 256, 16_320, 16_383, 16_385, 32_768)  # "its own lent area of 16,384 bytes" (document 02, W9)
 WRONG_AREAS = (0, 1, 48, 4095, 4097, 4200)  # "in one lent area of that size (else 1)", of 4,096 bytes
 
 
@@ -1796,6 +1797,22 @@ def several_sizes():
             entries = lent(*((place + one) % size for one in range(count)))
             known = takes(entries, size, fill + 7, 7 + count, (place + count) % size)
             yield named(Case(record, "take", **take(WORD - 1, 1000, size=32 * size)), f"{name}, take", *known)
+
+
+def on_bytes():
+    """The plain engine's own (document 02, W9): "its own lent area of 16,384 bytes", and "0 is clear, all else pending". Every unit
+    is pending, and those of 5 and 7 hold each value in turn. A write leaves them as they are, a report makes them 0, and a start
+    moves 7's to where they are now, behind 6's, which is clear."""
+    for units, (call, fields) in itertools.product(WRONG_UNITS, BASE_CALLS.items()):
+        yield Case(base(), call, mark=MIXED, **fields).named(f"{call} with {units} bytes", 1).on_bytes(units % 256, units=units)
+    for call in ("start", "stop", "write", "receive", "suspend", "resume"):
+        yield Case(base(), call, mark=MIXED, **{**BASE_CALLS[call], "id": 4}).named(f"{call} of an unknown controller on bytes", 2).on_bytes(3)
+    calls = {"write": numbers(), "batch": numbers(notes_done=2), "receive": numbers(runs=2), "start": (0,), "stop": (0,), "fresh": (0,)}
+    after = {"receive": dict(marks={0: ALL_ONES - 63}, runs=((65536, 4), (0, 2))), "start": dict(marks={0: 0x3BF}, bases=(0, 6, 7)),
+             "stop": dict(marks={0: ALL_ONES - 63})}
+    for value, (call, known) in itertools.product(range(255), calls.items()):
+        case = Case(base(), call, mark=ALL_ONES, **BASE_CALLS[call]).named(f"{call}, all pending, unit 0 holds {value + 1}", *known, **after.get(call, {}))
+        yield case.on_bytes(value, shown=8190 if value % 2 and call != "start" else 0)
 
 
 def named(case, name, known, *after):

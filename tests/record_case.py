@@ -13,11 +13,16 @@ QUEUE_CALLS = CALLS[9:]
 CASE_BYTES = 3056
 MOST_WORDS, MOST_DATA, MOST_AREA = 512, 1024, 4200  # that a case may lend; a part may have more data, zeros past the 1,024
 MOST_QUEUE_AREA = 32_800  # that a queue call may be lent; an answer shows 4,200 bytes of it
+MOST_UNITS = 64 * MOST_WORDS  # bytes that may be lent to the plain engine, one a unit
 FRONT_BYTES = 64  # of an area, told one by one
 ROW = struct.Struct("<HQQ")  # of a batch: id, address, bytes
 MOST_ROWS = MOST_DATA // ROW.size
 MEMORY = 2**64
 ALL_ONES = 2**64 - 1
+
+
+VALUES = bytes(range(1, 256)) * (MOST_UNITS // 255 + 2)  # of pending bytes, one behind the other
+SPREAD = bytes(255 * (digit == ord("1")) for digit in range(256))
 
 
 def rotated(mark, bits):
@@ -109,6 +114,8 @@ class Case:
     share_damaged = False  # a random case whose record was damaged in a share's place
     queue_damaged = False  # in a queue
     sound = None           # whether record and words of a random case are, where that is known
+    units = None           # how many bytes are lent to the plain engine; None for the other engine
+    value = 0              # tells what pending ones of these hold
 
     def __init__(self, record, call, id=0, address=0, bytes=0, type=0, data=b"", records=0, words=pool.WORDS, mark=0,
                  indicator=0, low=0, high=0, count=0, area=0, fill=0, front=b"", asked=0, shown=0):
@@ -129,15 +136,39 @@ class Case:
         self.known = (*known, 0) if len(known) == 1 else known
         return self
 
+    def on_bytes(self, value, shown=0, units=None):
+        """The same call of the plain engine (document 02, W9), lent a byte for each bit of the marks, or so many bytes. All that
+        is known stays known: an answer has a bit for each byte."""
+        other = copy.copy(self)
+        other.units, other.value = 64 * self.words if units is None else units, value
+        other.words = -(-other.units // 64)
+        if self.call not in QUEUE_CALLS:
+            other.shown = shown
+        return other
+
     def packed(self):
         call = (self.words, self.mark, CALLS.index(self.call), self.id, self.address, self.bytes, self.type)
         fields = struct.pack("<HQBHQQBH", *call, len(self.data)) + in_room(self.data, MOST_DATA) + struct.pack("<H", self.records)
         part = struct.pack("<BIIIHB", self.indicator, self.low, self.high, self.count, self.area, self.fill) + self.front
-        return (self.record.packed() + fields + part + struct.pack("<IH", self.asked, self.shown)).ljust(CASE_BYTES, b"\0")
+        plain = struct.pack("<BHB", self.units is not None, self.units or 0, self.value)
+        return (self.record.packed() + fields + part + struct.pack("<IH", self.asked, self.shown) + plain).ljust(CASE_BYTES, b"\0")
 
     def lent_words(self):
-        """The lent marks. Words near each other differ, save for 0 and all ones, so that one that moved can be told."""
-        return ([rotated(self.mark, bits) for bits in range(64)] * (MOST_WORDS // 64))[:self.words]
+        """The lent marks. Words near each other differ, save for 0 and all ones, so that one that moved can be told. Of the plain
+        engine's bytes it is the bits that they stand for."""
+        words = ([rotated(self.mark, bits) for bits in range(64)] * (MOST_WORDS // 64))[:self.words]
+        if self.units is not None and self.units % 64:
+            words[-1] &= (1 << self.units % 64) - 1
+        return words
+
+    def lent_bytes(self):
+        """The bytes that are lent to the plain engine: each that isn't 0 differs from those near it, and all values are met."""
+        first = self.value % 255
+        return both(VALUES[first:first + self.units], where_set(pool.as_number(self.lent_words()), self.units))
+
+    def shows_bytes(self):
+        """Whether the answer shows the plain engine's bytes: those of a part and a queue call are the area's."""
+        return self.units is not None and self.call not in ("part", *QUEUE_CALLS)
 
     def lent_area(self):
         """A part's state area: the front, and behind it one byte again and again. A queue call's own area: the front, which
@@ -153,6 +184,8 @@ class Case:
         yield f"case: {self.name}"
         yield from self.record.readable()
         yield f"marks: {self.words} words, of which word w is {self.mark:#x} rotated left by w modulo 64 bits"
+        if self.units is not None:
+            yield f"in their place {self.units} bytes, the plain engine's: u + {self.value} modulo 255, and 1, where bit u is set, else 0; shown from {self.shown} on"
         yield (f"call: {self.call}, id {self.id}, address {self.address}, bytes {self.bytes}, type {self.type}, "
                f"{len(self.data)} lent bytes {self.data.hex()}")
         if self.call == "batch":
@@ -290,6 +323,14 @@ def differences(one, other):
 
 
 def asked_for(case, answer):
+    """The answer that the documents ask for. Of the plain engine all that is known by bits, and the bytes that are shown."""
+    asked = asked_by_bits(case, answer)
+    if not case.shows_bytes():
+        return asked
+    return asked[:AREA_AT] + in_room(bytes_left(case, asked)[case.shown:], MOST_AREA)
+
+
+def asked_by_bits(case, answer):
     """The answer that the documents ask for; of a random case as far as its number alone tells. Of a refused call all is
     known: the number, the row, zeros, and what was given (of a fresh the closed device). So it is of a batch by hand whose
     numbers are all known: what was given, save the mark words named; of a done part, save its own bytes of the area and the
@@ -352,6 +393,35 @@ def left(case, answered):
     if case.call == "receive":
         marks &= answered | ~pool.mask(one)
     return record, pool.as_words(marks), count
+
+
+def bytes_left(case, asked):
+    """The plain engine's bytes after a call whose bits are these then: one that is clear is 0, one that was clear before is 1, and
+    every other is as it was, also where its share has moved."""
+    before = case.lent_bytes()
+    if case.call == "start" and asked[0] == 0:
+        before = moved_bytes(case, before)
+    marked = bytes(byte or 1 for byte in before)
+    return both(marked, where_set(int.from_bytes(asked[MARKS_AT:DATA_AT], "little"), len(before)))
+
+
+def where_set(bits, count):
+    """A byte for each of so many bits, lowest first: FFh where it is set, else 0."""
+    return f"{bits:0{count}b}"[::-1].encode().translate(SPREAD)[:count]
+
+
+def both(one, other):
+    """The bits that are set in both of two strings of bytes of one length."""
+    return (int.from_bytes(one, "little") & int.from_bytes(other, "little")).to_bytes(len(one), "little")
+
+
+def moved_bytes(case, before):
+    """The plain engine's bytes where a done start has moved the shares."""
+    after, (record, _, _) = bytearray(len(before)), left(case, ())
+    for one, now in zip(pool.used(case.record), pool.used(record)):
+        if one.tracking:
+            after[now.base:now.base + pool.units(one)] = before[one.base:one.base + pool.units(one)]
+    return after
 
 
 def moves(case, record):

@@ -175,6 +175,7 @@ fn put_batched(out: &mut Buffer, waiting: Waiting, b: Batched) -> Waiting {
 pub fn answer(
     d: Device,
     marks: &mut [u64],
+    bytes: &mut [u8],
     line: &[u8],
     out: &mut Buffer,
     waiting: Waiting,
@@ -184,6 +185,6 @@ pub fn answer(
         return playing::put_bad(out, waiting);
     }
     let list = burst.list;
-    let batched = tracker::batch_of(d, marks, list, burst.count);
+    let batched = engines::batch_of(d, marks, bytes, list, burst.count);
     put_batched(out, waiting, batched)
 }

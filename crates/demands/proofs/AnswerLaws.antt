@@ -11,7 +11,8 @@ use Rattle.little.specs.Little.{put}
 use Rattle.rules.specs.Refusals.{Test, verdict, refusal, placeIn}
 use Rattle.rules.specs.Settings.{markWords, settingsOk, placeOf}
 use Rattle.rules.specs.Units.{Write}
-use Rattle.rules.specs.Order.{freshOrder, startOrder, Part, offsetOf, isLast, joinedWith}
+use Rattle.rules.specs.Machine.{noReport}
+use Rattle.rules.specs.Order.{freshOrder, startOrder, receiveOrder, Part, offsetOf, isLast, joinedWith}
 use Rattle.rules.specs.Device.{closedDevice, freshOf}
 use Rattle.rules.specs.declared.Sequence.the-variants.{Nothing, Open}
 use Rattle.rules.specs.declared.Queue.{Queue}
@@ -24,7 +25,7 @@ use Rattle.rules.specs.declared.Tracking.the-variants.{Off, On}
 use Rattle.rules.proofs.RefusalLaws.{verdict-has, verdict-map}
 use Rattle.record.specs.Record.{controllerAt, withSequence, seenIn, frontIn}
 use Rattle.calls.specs.declared.Started.{Started}
-use Rattle.calls.specs.Calls.{freshBy, Engine, startBy, freshChange, Change, startedWith, startDone, startChange, stopDone, flagDone, resumeDone, noteIn, writeDone, receiveIn, receiveDone, arrival, partDone, makeDone, postIn, postDone, takeIn, takeDone}
+use Rattle.calls.specs.Calls.{freshBy, Engine, startBy, freshChange, Change, startedWith, startDone, startChange, stopDone, flagDone, resumeDone, noteIn, writeDone, Receipt, received, receiveIn, receiveDone, receiveBy, arrival, partDone, makeDone, postIn, postDone, takeIn, takeDone}
 use Rattle.demands.specs.Demand1.{Answers}
 
 -- what a table's call answers: the first test's number, and refused what is had of every refusal
@@ -107,6 +108,24 @@ note-zero en ws base (On g n) rs w = refl
 pub write-zero : (en : Engine) (d : Device) (ws : List ℕ) (w : Write) (p : Option ℕ) → writeDone en d ws w p .answer .number ≡ 0
 write-zero en d ws w none = refl
 write-zero en d ws w (some i) = note-zero en ws (controllerAt d (some i) .base) (controllerAt d (some i) .tracking) (controllerAt d (some i) .ranges) w
+
+abbrev SaidBy : Receipt → Type 0
+SaidBy r =
+    r .answer
+    ≡ record { number = r .answer .number; suspended = r .report .suspended; more = r .report .more; granularity = r .report .granularity; runs = length (r .report .descriptors) }
+
+pub receive-says : (en : Engine) (d : Device) (ws : List ℕ) (id : ℕ) (x : List ℕ) → SaidBy (receiveBy en d ws id x)
+unfolding receiveBy
+receive-says en d ws id x =
+    verdict-has SaidBy (λ n j. received n noReport ws x) (λ n j. refl) (receiveOrder (seenIn d (en .words ws) (placeOf (d .settings) id)) x) (receiveDone en d ws id x (placeOf (d .settings) id)) (λ p. done (placeOf (d .settings) id))
+  where
+    go : (base : ℕ) (b : Bool) (t : Tracking) (rs : List Range) → SaidBy (receiveIn en ws base id b t rs x)
+    go base b Off rs = refl
+    go base b (On g n) rs = refl
+
+    done : (p : Option ℕ) → SaidBy (receiveDone en d ws id x p)
+    done none = refl
+    done (some i) = go (controllerAt d (some i) .base) (controllerAt d (some i) .suspended) (controllerAt d (some i) .tracking) (controllerAt d (some i) .ranges)
 
 report-zero : (en : Engine) (ws : List ℕ) (base id : ℕ) (b : Bool) (t : Tracking) (rs : List Range) (x : List ℕ) → receiveIn en ws base id b t rs x .answer .number ≡ 0
 report-zero en ws base id b Off rs x = refl

@@ -67,7 +67,7 @@ room r i a b = (
 
 lent : Lent
 lent =
-    record { start = refl; stop = refl; write = refl; receive = refl; suspend = refl; resume = refl; set-state = refl; make-queue = refl; post = refl; take-queue = refl }
+    record { fresh = refl; start = refl; stop = refl; write = refl; batch = refl; batch-of = refl; receive = refl; suspend = refl; resume = refl; set-state = refl; make-queue = refl; post = refl; take-queue = refl }
 
 structures : StructuresAre
 structures =

@@ -30,7 +30,7 @@ use Rattle.calls.specs.Calls.{Engine, inWords, receiveBy, startBy, stopBy, writ
 use Rattle.calls.specs.declared.Changed.{Changed}
 use Rattle.calls.specs.declared.Started.{Started}
 use Rattle.demands.specs.Demand1.{MarkCalls, Answers, Demand1}
-use Rattle.demands.proofs.AnswerLaws.{answers, fresh-answers, start-zero, row-is, stop-zero, flag-zero, resume-zero, write-zero, receive-zero, part-zero, make-zero, post-zero, take-zero}
+use Rattle.demands.proofs.AnswerLaws.{answers, fresh-answers, start-zero, row-is, stop-zero, flag-zero, resume-zero, write-zero, receive-zero, receive-says, part-zero, make-zero, post-zero, take-zero}
 
 -- a start answers by its table
 start-number : (en : Engine) (d : Device) (ws : List ℕ) (id : ℕ) (x : List ℕ)
@@ -117,6 +117,7 @@ mark-calls en =
           (λ r. (r .answer ≡ record { number = r .answer .number; suspended = false; more = false; granularity = 0; runs = 0 }) × (r .marks ≡ ws) × (r .buffer ≡ x))
           (receiveOrder (seenIn d (en .words ws) (placeOf (d .settings) id)) x) (receiveDone en d ws id x (placeOf (d .settings) id)) (λ n i. received n noReport ws x)
           (receive-zero en d ws id x (placeOf (d .settings) id)) (λ n i. refl) (λ n i. (refl, refl, refl));
+      says = receive-says en;
     }
 
 pub demand-1 : Demand1

@@ -15,7 +15,10 @@ use borrow.Fn.Kinds.{pNum}
 use borrow.Kind.ShrSlice.{pShrS}
 use borrow.Kind.MutSlice.{pMutS}
 use borrow.Table.Referent.{rtF, fInt}
+use borrow.Kind.Array.{pArr, eStruct, eStruct-laws}
 use mir.Syntax.{w8, w16, w32, w64}
+use denote.Signature.{Signature, plain}
+use denote.Builtin.{SliceRefOf, SliceRefMutOf, u64}
 use denote.Laws.{Is}
 use denote.Struct.Laws as machine
 use denote.Ref.{now}
@@ -26,6 +29,7 @@ use Rattle.rules.specs.Order.{Part}
 use Rattle.rules.specs.ReportReader.{reportRefusal, reportBadIndex, reportSuspended, reportMore, reportIdentifier, reportGranularity, reportCount, reportRefusalAt, reportAddress, reportLength, reportRunAddress, reportRunLength}
 use Rattle.start_data.specs.Answer.{rangesRead}
 use Rattle.listing.specs.Listing.{lineOf}
+use Rattle.rules.specs.declared.Bytes.{Bytes}
 use Rattle.rules.specs.declared.Device.{Device}
 use Rattle.calls.specs.declared.WriteRecord.{WriteRecord}
 use Rattle.calls.specs.declared.Batched.{Batched}
@@ -33,6 +37,7 @@ use Rattle.calls.specs.Calls.{freshChange, startChange, stopChange, writeNote, 
 use Rattle.calls.proofs.WriteRecord as record-type
 use Rattle.calls.proofs.WriteRecord.Laws as record-laws
 use Rattle.fresh.proofs.fresh.Reads as fresh
+use Rattle.fresh.proofs.fresh.Kinds as fresh-kinds
 use Rattle.track_send.proofs.start.Reads as start
 use Rattle.track_send.proofs.start.Kinds as start-kinds
 use Rattle.track_send.proofs.stop.Reads as stop
@@ -41,6 +46,7 @@ use Rattle.writes.proofs.write.Reads as write
 use Rattle.writes.proofs.write.Kinds as write-kinds
 use Rattle.writes.proofs.batch as batch
 use Rattle.writes.proofs.batch_of.Reads as batch-of
+use Rattle.writes.proofs.batch_of.Kinds as batch-of-kinds
 use Rattle.track_receive.proofs.receive.Reads as receive
 use Rattle.track_receive.proofs.receive.Kinds as receive-kinds
 use Rattle.migration_send.proofs.suspend.Reads as suspend
@@ -117,7 +123,8 @@ pub record CallsAre : Type 1 where
       → let c = stopChange (a .0) (now (a .1 .0)) (a .1 .1 .0) in
       (r ≡ c .answer) × (now (e .1 .0) ≡ c .marks)
   pub write : (κs : _) (a : _) (r : _) (e : _) → write.Post κs a r e
-      → let c = writeNote (a .0) (now (a .1 .0)) (a .1 .1 .0) (record { address = a .1 .1 .1 .0; bytes = a .1 .1 .1 .1 .0 .0 }) in
+      → let bytes : Bytes = a .1 .1 .1 .1 .0 in
+      let c = writeNote (a .0) (now (a .1 .0)) (a .1 .1 .0) (record { address = a .1 .1 .1 .0; bytes = bytes .0 }) in
       (r ≡ c .answer) × (now (e .1 .0) ≡ c .marks)
   -- W4, for callers that hold the records by value: a batch of the first so many
   pub batch-of : (κs : _) (a : _) (r : _) (e : _) → batch-of.Post κs a r e
@@ -162,9 +169,17 @@ HasRoom = (r : WriteRecord) → r .id < 2 ^ 16 → r .address < 2 ^ 64 → r .by
 -- speaks; and that its numbers have the bits that the documents say: identifiers 16, addresses 64, types and indicators 8, offsets, counts and entries asked for 32. Without
 -- this a promise about a narrower number would do
 pub record Lent : Type 3 where
+  pub fresh : drop 1 fresh-kinds.ps ≡ pMutS (rtF (fInt w64)) 0 tt ∷ []
   pub start : drop 1 start-kinds.ps ≡ pMutS (rtF (fInt w64)) 0 tt ∷ pNum w16 ∷ pShrS (rtF (fInt w8)) 1 tt ∷ []
   pub stop : drop 1 stop-kinds.ps ≡ pMutS (rtF (fInt w64)) 0 tt ∷ pNum w16 ∷ []
   pub write : take 3 (drop 1 write-kinds.ps) ≡ pMutS (rtF (fInt w64)) 0 tt ∷ pNum w16 ∷ pNum w64 ∷ []
+  -- the records of a batch are only read
+  pub batch : drop 1 (batch.signature .params) ≡ SliceRefMutOf (0 ∷ []) tt (plain λ κs. u64) (λ κs. tt) ∷ SliceRefOf (1 ∷ []) tt (plain λ κs. record-type.the-row) (λ κs. tt) ∷ []
+  pub batch-of : drop 1 batch-of-kinds.ps
+      ≡ pMutS (rtF (fInt w64)) 0 tt
+      ∷ pArr (eStruct record-type.the-type record-laws.the-laws record-laws.the-copy) (eStruct-laws record-type.the-type record-laws.the-laws record-laws.the-copy record-laws.the-plain) 1025
+      ∷ pNum w64
+      ∷ []
   pub receive : drop 1 receive-kinds.ps ≡ pMutS (rtF (fInt w64)) 0 tt ∷ pNum w16 ∷ pMutS (rtF (fInt w8)) 1 tt ∷ []
   pub suspend : drop 1 suspend-kinds.ps ≡ pShrS (rtF (fInt w64)) 0 tt ∷ pNum w16 ∷ pNum w8 ∷ []
   pub resume : drop 1 resume-kinds.ps ≡ pShrS (rtF (fInt w64)) 0 tt ∷ pNum w16 ∷ []

@@ -13,13 +13,19 @@ use contract.Monad.{Fun, fact}
 use borrow.Fn.Kinds.{pNum}
 use borrow.Kind.ShrSlice.{pShrS}
 use borrow.Kind.MutSlice.{pMutS}
+use borrow.Kind.Array.{pArr, eStruct, eStruct-laws}
 use borrow.Table.Referent.{rtF, fInt}
 use mir.Syntax.{w8, w16, w32, w64}
 use denote.Ref.{now}
+use denote.Signature.{Signature, plain}
+use denote.Builtin.{SliceRefOf, SliceRefMutOf, u8}
 use lib.ListN.{length, take, drop}
 use Rattle.rules.specs.Promise.{Determinate}
 use Rattle.rules.specs.Order.{Part}
 use Rattle.rules.specs.declared.Device.{Device}
+use Rattle.rules.specs.declared.Bytes.{Bytes}
+use Rattle.calls.proofs.WriteRecord as record-type
+use Rattle.calls.proofs.WriteRecord.Laws as record-laws
 use Rattle.calls.specs.declared.WriteRecord.{WriteRecord}
 use Rattle.calls.specs.declared.Batched.{Batched}
 use Rattle.calls.specs.Calls.{freshBy, startBy, stopBy, writeBy, batchBy, receiveBy, suspendChange, resumeChange, partChange, makeChange, postChange, takeChange}
@@ -34,6 +40,7 @@ use Rattle.plain.proofs.write.Reads as write
 use Rattle.plain.proofs.write.Kinds as write-kinds
 use Rattle.plain.proofs.batch as batch
 use Rattle.plain.proofs.batch_of.Reads as batch-of
+use Rattle.plain.proofs.batch_of.Kinds as batch-of-kinds
 use Rattle.plain.proofs.receive.Reads as receive
 use Rattle.plain.proofs.receive.Kinds as receive-kinds
 use Rattle.plain.proofs.suspend.Reads as suspend
@@ -77,7 +84,8 @@ pub record PlainAre : Type 1 where
       → let c = stopBy inBytes (a .0) (now (a .1 .0)) (a .1 .1 .0) in
       (r ≡ c .answer) × (now (e .1 .0) ≡ c .marks)
   pub write : (κs : _) (a : _) (r : _) (e : _) → write.Post κs a r e
-      → let c = writeBy inBytes (a .0) (now (a .1 .0)) (a .1 .1 .0) (record { address = a .1 .1 .1 .0; bytes = a .1 .1 .1 .1 .0 .0 }) in
+      → let bytes : Bytes = a .1 .1 .1 .1 .0 in
+      let c = writeBy inBytes (a .0) (now (a .1 .0)) (a .1 .1 .0) (record { address = a .1 .1 .1 .0; bytes = bytes .0 }) in
       (r ≡ c .answer) × (now (e .1 .0) ≡ c .marks)
   pub batch-of : (κs : _) (a : _) (r : _) (e : _) → batch-of.Post κs a r e
       → let c = batchBy inBytes (a .0) (now (a .1 .0)) (take (a .1 .1 .1 .0) (a .1 .1 .0)) in
@@ -117,6 +125,13 @@ pub record PlainLent : Type 3 where
   pub start : drop 1 start-kinds.ps ≡ pMutS (rtF (fInt w8)) 0 tt ∷ pNum w16 ∷ pShrS (rtF (fInt w8)) 1 tt ∷ []
   pub stop : drop 1 stop-kinds.ps ≡ pMutS (rtF (fInt w8)) 0 tt ∷ pNum w16 ∷ []
   pub write : take 3 (drop 1 write-kinds.ps) ≡ pMutS (rtF (fInt w8)) 0 tt ∷ pNum w16 ∷ pNum w64 ∷ []
+  -- the records of a batch are only read
+  pub batch : drop 1 (batch.signature .params) ≡ SliceRefMutOf (0 ∷ []) tt (plain λ κs. u8) (λ κs. tt) ∷ SliceRefOf (1 ∷ []) tt (plain λ κs. record-type.the-row) (λ κs. tt) ∷ []
+  pub batch-of : drop 1 batch-of-kinds.ps
+      ≡ pMutS (rtF (fInt w8)) 0 tt
+      ∷ pArr (eStruct record-type.the-type record-laws.the-laws record-laws.the-copy) (eStruct-laws record-type.the-type record-laws.the-laws record-laws.the-copy record-laws.the-plain) 1025
+      ∷ pNum w64
+      ∷ []
   pub receive : drop 1 receive-kinds.ps ≡ pMutS (rtF (fInt w8)) 0 tt ∷ pNum w16 ∷ pMutS (rtF (fInt w8)) 1 tt ∷ []
   pub suspend : drop 1 suspend-kinds.ps ≡ pShrS (rtF (fInt w8)) 0 tt ∷ pNum w16 ∷ pNum w8 ∷ []
   pub resume : drop 1 resume-kinds.ps ≡ pShrS (rtF (fInt w8)) 0 tt ∷ pNum w16 ∷ []

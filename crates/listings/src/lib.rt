@@ -63,18 +63,20 @@ fn kind_of(shelf: bool, line: &[u8]) -> Kind {
     Kind::Session
 }
 
-// Plays the listing, to its end or until writing fails. A shelf's lends `area` to the parts of a state and `areas` to the queues; document 01's uses neither. A
-// proved loop has to end, and nothing says that the input does: it counts its turns down, from a number that no run uses up.
+// Plays the listing, to its end or until writing fails, on the engine that marks or bytes were lent for. A shelf's lends `area` to the parts of a state and `areas`
+// to the queues; document 01's uses neither. A proved loop has to end, and nothing says that the input does: it counts its turns down, from a number that no run
+// uses up.
 pub fn run(
     shelf: bool,
     marks: &mut [u64],
+    bytes: &mut [u8],
     area: &mut Area,
     areas: &mut [u8],
     line: &mut [u8],
     out: &mut Buffer,
     input: &mut [u8],
 ) {
-    let mut device = playing::none(marks);
+    let mut device = playing::none(marks, bytes);
     let mut waiting = Waiting::Bytes(0);
     let mut used: usize = 0;
     let mut at: usize = 0;
@@ -103,15 +105,31 @@ pub fn run(
             let kind = kind_of(shelf, &line[..length]);
             match kind {
                 Kind::Burst => {
-                    waiting = bursts::answer(device, marks, &line[..length], out, waiting);
+                    waiting = bursts::answer(device, marks, bytes, &line[..length], out, waiting);
                 }
                 Kind::Part => {
-                    let played = parts::play(device, marks, area, &line[..length], out, waiting);
+                    let played = parts::play(
+                        device,
+                        marks,
+                        bytes,
+                        area,
+                        &line[..length],
+                        out,
+                        waiting,
+                    );
                     device = played.device;
                     waiting = played.waiting;
                 }
                 Kind::Queue => {
-                    let played = queues::play(device, marks, areas, &line[..length], out, waiting);
+                    let played = queues::play(
+                        device,
+                        marks,
+                        bytes,
+                        areas,
+                        &line[..length],
+                        out,
+                        waiting,
+                    );
                     device = played.device;
                     waiting = played.waiting;
                 }
@@ -119,11 +137,11 @@ pub fn run(
                     let read = listing::read_line(&line[..length]);
                     let call = read.call;
                     if playing::changes(call) {
-                        let played = playing::change(device, marks, read, out, waiting);
+                        let played = playing::change(device, marks, bytes, read, out, waiting);
                         device = played.device;
                         waiting = played.waiting;
                     } else {
-                        waiting = playing::answer(device, marks, call, out, waiting);
+                        waiting = playing::answer(device, marks, bytes, call, out, waiting);
                     }
                 }
             }

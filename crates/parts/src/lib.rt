@@ -93,6 +93,7 @@ fn put_set(out: &mut Buffer, waiting: Waiting, area: &Area, number: u8, whole: u
 pub fn play(
     d: Device,
     marks: &[u64],
+    bytes: &[u8],
     area: &mut Area,
     line: &[u8],
     out: &mut Buffer,
@@ -109,9 +110,10 @@ pub fn play(
         return playing::bad(d, out, waiting);
     }
     let size = read.size;
-    let set = tracker::set_state(
+    let set = engines::set_state(
         d,
         marks,
+        bytes,
         area,
         part.id,
         part.indicator,

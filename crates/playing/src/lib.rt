@@ -1,5 +1,6 @@
-// A line of a listing, played on a device, and its answer as text. What a line asks for is said by `listing`, what a call answers by `tracker`.
+// A line of a listing, played on a device, and its answer as text. What a line asks for is said by `listing`, what a call answers by `engines`.
 
+use calls::Received;
 use listing::Call;
 use listing::Line;
 use output::Buffer;
@@ -8,7 +9,6 @@ use rules::Bytes;
 use rules::Device;
 use rules::Range;
 use rules::Settings;
-use tracker::Received;
 ghost use Prim.Native.Nat.{_+_, _*_, _≤_};
 ghost use lib.ListN.{length};
 ghost use Rattle.listing.specs.Listing.{Bounded};
@@ -59,7 +59,7 @@ pub fn bit(b: bool) -> u64 {
 // ---- calls
 
 // A device of which every call answers 1, as before a done `dev`.
-pub fn none(marks: &mut [u64]) -> Device {
+pub fn none(marks: &mut [u64], bytes: &mut [u8]) -> Device {
     let s = Settings {
         manager: 0,
         least: 0,
@@ -69,13 +69,20 @@ pub fn none(marks: &mut [u64]) -> Device {
         count: 0,
         identifiers: [0; 8],
     };
-    let made = tracker::fresh(s, marks);
+    let made = engines::fresh(s, marks, bytes);
     made.device
 }
 
 // Plays a `dev`: refused, it keeps the device there was.
-fn dev(d: Device, marks: &mut [u64], s: Settings, out: &mut Buffer, waiting: Waiting) -> Played {
-    let made = tracker::fresh(s, marks);
+fn dev(
+    d: Device,
+    marks: &mut [u64],
+    bytes: &mut [u8],
+    s: Settings,
+    out: &mut Buffer,
+    waiting: Waiting,
+) -> Played {
+    let made = engines::fresh(s, marks, bytes);
     let number = made.number;
     let waiting = put_answer(out, waiting, number);
     if number != 0 {
@@ -89,6 +96,7 @@ fn dev(d: Device, marks: &mut [u64], s: Settings, out: &mut Buffer, waiting: Wai
 fn start(
     d: Device,
     marks: &mut [u64],
+    bytes: &mut [u8],
     id: u16,
     granularity: u8,
     count: usize,
@@ -100,15 +108,22 @@ fn start(
 {
     let mut data = [0u8; 200];
     start_data::write_start(&mut data, granularity, count as u32, ranges);
-    let started = tracker::start(d, marks, id, &data);
+    let started = engines::start(d, marks, bytes, id, &data);
     let waiting = put_started(out, waiting, started.number, started.row);
     let device = started.device;
     Played { device, waiting }
 }
 
 // Plays a `stop`.
-fn stop(d: Device, marks: &mut [u64], id: u16, out: &mut Buffer, waiting: Waiting) -> Played {
-    let changed = tracker::stop(d, marks, id);
+fn stop(
+    d: Device,
+    marks: &mut [u64],
+    bytes: &mut [u8],
+    id: u16,
+    out: &mut Buffer,
+    waiting: Waiting,
+) -> Played {
+    let changed = engines::stop(d, marks, bytes, id);
     let waiting = put_answer(out, waiting, changed.number);
     let device = changed.device;
     Played { device, waiting }
@@ -118,20 +133,28 @@ fn stop(d: Device, marks: &mut [u64], id: u16, out: &mut Buffer, waiting: Waitin
 fn suspend(
     d: Device,
     marks: &[u64],
+    bytes: &[u8],
     id: u16,
     kind: u8,
     out: &mut Buffer,
     waiting: Waiting,
 ) -> Played {
-    let changed = tracker::suspend(d, marks, id, kind);
+    let changed = engines::suspend(d, marks, bytes, id, kind);
     let waiting = put_answer(out, waiting, changed.number);
     let device = changed.device;
     Played { device, waiting }
 }
 
 // Plays a `resume`.
-fn resume(d: Device, marks: &[u64], id: u16, out: &mut Buffer, waiting: Waiting) -> Played {
-    let changed = tracker::resume(d, marks, id);
+fn resume(
+    d: Device,
+    marks: &[u64],
+    bytes: &[u8],
+    id: u16,
+    out: &mut Buffer,
+    waiting: Waiting,
+) -> Played {
+    let changed = engines::resume(d, marks, bytes, id);
     let waiting = put_answer(out, waiting, changed.number);
     let device = changed.device;
     Played { device, waiting }
@@ -141,13 +164,14 @@ fn resume(d: Device, marks: &[u64], id: u16, out: &mut Buffer, waiting: Waiting)
 fn write(
     d: Device,
     marks: &mut [u64],
+    bytes: &mut [u8],
     id: u16,
     at: u64,
-    bytes: u64,
+    length: u64,
     out: &mut Buffer,
     waiting: Waiting,
 ) -> Waiting {
-    let written = tracker::write(d, marks, id, at, Bytes(bytes));
+    let written = engines::write(d, marks, bytes, id, at, Bytes(length));
     if written.number != 0 {
         return put_answer(out, waiting, written.number);
     }
@@ -197,12 +221,13 @@ fn put_report(received: Received, report: &[u8], out: &mut Buffer, waiting: Wait
 fn receive(
     d: Device,
     marks: &mut [u64],
+    bytes: &mut [u8],
     id: u16,
     report: &mut [u8],
     out: &mut Buffer,
     waiting: Waiting,
 ) -> Waiting {
-    let received = tracker::receive(d, marks, id, report);
+    let received = engines::receive(d, marks, bytes, id, report);
     if received.number != 0 {
         return put_answer(out, waiting, received.number);
     }
@@ -213,6 +238,7 @@ fn receive(
 fn receive_into(
     d: Device,
     marks: &mut [u64],
+    bytes: &mut [u8],
     id: u16,
     size: usize,
     out: &mut Buffer,
@@ -221,7 +247,7 @@ fn receive_into(
     requires { ⌜ size ≤ 4096 ⌝ }
 {
     let mut report = [0u8; 4096];
-    receive(d, marks, id, &mut report[..size], out, waiting)
+    receive(d, marks, bytes, id, &mut report[..size], out, waiting)
 }
 
 // ---- lines
@@ -246,6 +272,7 @@ pub fn changes(call: Call) -> bool {
 pub fn change(
     d: Device,
     marks: &mut [u64],
+    bytes: &mut [u8],
     line: Line,
     out: &mut Buffer,
     waiting: Waiting,
@@ -272,7 +299,7 @@ pub fn change(
                 count,
                 identifiers,
             };
-            dev(d, marks, s, out, waiting)
+            dev(d, marks, bytes, s, out, waiting)
         }
         Call::Start {
             id,
@@ -280,11 +307,21 @@ pub fn change(
             count,
         } => {
             let ranges = line.ranges;
-            start(d, marks, id, granularity, count, ranges, out, waiting)
+            start(
+                d,
+                marks,
+                bytes,
+                id,
+                granularity,
+                count,
+                ranges,
+                out,
+                waiting,
+            )
         }
-        Call::Stop(id) => stop(d, marks, id, out, waiting),
-        Call::Susp { id, kind } => suspend(d, marks, id, kind, out, waiting),
-        Call::Resume(id) => resume(d, marks, id, out, waiting),
+        Call::Stop(id) => stop(d, marks, bytes, id, out, waiting),
+        Call::Susp { id, kind } => suspend(d, marks, bytes, id, kind, out, waiting),
+        Call::Resume(id) => resume(d, marks, bytes, id, out, waiting),
         _ => Played { device: d, waiting },
     }
 }
@@ -293,6 +330,7 @@ pub fn change(
 pub fn answer(
     d: Device,
     marks: &mut [u64],
+    bytes: &mut [u8],
     call: Call,
     out: &mut Buffer,
     waiting: Waiting,
@@ -300,8 +338,12 @@ pub fn answer(
     requires { ⌜ Bounded call ⌝ }
 {
     match call {
-        Call::Write { id, address, bytes } => write(d, marks, id, address, bytes, out, waiting),
-        Call::Recv { id, size } => receive_into(d, marks, id, size, out, waiting),
+        Call::Write {
+            id,
+            address,
+            bytes: length,
+        } => write(d, marks, bytes, id, address, length, out, waiting),
+        Call::Recv { id, size } => receive_into(d, marks, bytes, id, size, out, waiting),
         _ => put_bad(out, waiting),
     }
 }

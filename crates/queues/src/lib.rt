@@ -123,6 +123,7 @@ fn lend(d: Device, id: u16, size: usize, bytes: usize) -> Lent
 fn make(
     d: Device,
     marks: &[u64],
+    bytes: &[u8],
     area: &[u8],
     id: u16,
     line: &[u8],
@@ -133,7 +134,7 @@ fn make(
     if at < line.len() {
         return playing::bad(d, out, waiting);
     }
-    let changed = tracker::make_queue(d, marks, id, area);
+    let changed = engines::make_queue(d, marks, bytes, id, area);
     let waiting = playing::put_answer(out, waiting, changed.number);
     let device = changed.device;
     Played { device, waiting }
@@ -152,6 +153,7 @@ fn put_posted(out: &mut Buffer, waiting: Waiting, number: u8, stopped: bool) -> 
 fn post(
     d: Device,
     marks: &[u64],
+    bytes: &[u8],
     area: &mut [u8],
     id: u16,
     line: &[u8],
@@ -165,7 +167,7 @@ fn post(
         return playing::bad(d, out, waiting);
     }
     let size = read.size;
-    let posted = tracker::post(d, marks, area, id, &entry[..size]);
+    let posted = engines::post(d, marks, bytes, area, id, &entry[..size]);
     let waiting = put_posted(out, waiting, posted.number, posted.stopped);
     let device = posted.device;
     Played { device, waiting }
@@ -210,6 +212,7 @@ fn put_taken(
 fn take_into(
     d: Device,
     marks: &[u64],
+    bytes: &[u8],
     area: &[u8],
     id: u16,
     asked: u32,
@@ -217,7 +220,7 @@ fn take_into(
     out: &mut Buffer,
     waiting: Waiting,
 ) -> Played {
-    let taken = tracker::take(d, marks, area, id, asked, buffer);
+    let taken = engines::take(d, marks, bytes, area, id, asked, buffer);
     let waiting = put_taken(
         out,
         waiting,
@@ -234,6 +237,7 @@ fn take_into(
 fn take(
     d: Device,
     marks: &[u64],
+    bytes: &[u8],
     area: &[u8],
     id: u16,
     line: &[u8],
@@ -252,6 +256,7 @@ fn take(
     take_into(
         d,
         marks,
+        bytes,
         area,
         id,
         wanted.asked,
@@ -265,6 +270,7 @@ fn take(
 fn play_on(
     d: Device,
     marks: &[u64],
+    bytes: &[u8],
     area: &mut [u8],
     id: u16,
     line: &[u8],
@@ -275,18 +281,19 @@ fn play_on(
     requires { ⌜ at ≤ length (now line) ⌝ }
 {
     if fields::begins(line, b"queue") {
-        return make(d, marks, area, id, line, at, out, waiting);
+        return make(d, marks, bytes, area, id, line, at, out, waiting);
     }
     if fields::begins(line, b"post") {
-        return post(d, marks, area, id, line, at, out, waiting);
+        return post(d, marks, bytes, area, id, line, at, out, waiting);
     }
-    take(d, marks, area, id, line, at, out, waiting)
+    take(d, marks, bytes, area, id, line, at, out, waiting)
 }
 
 // Plays a line that begins with one of these words, and puts its answer. A line that is too long, or was cut for that, is bad by a number or by its entry.
 pub fn play(
     d: Device,
     marks: &[u64],
+    bytes: &[u8],
     areas: &mut [u8],
     line: &[u8],
     out: &mut Buffer,
@@ -303,6 +310,7 @@ pub fn play(
     play_on(
         d,
         marks,
+        bytes,
         &mut areas[from..to],
         read.id,
         line,

@@ -1,15 +1,19 @@
 // The records program: reads cases from standard input to its end, and answers each on standard output. A case is a device record of any kind, sound
-// or not, with lent marks, lent bytes and one call. The calls are `tracker`'s; here stand only the bytes of a case and of its answer, little-endian.
+// or not, with lent marks, lent bytes and one call. The calls are those of `engines`, for either engine; here stand only the bytes of a case and of its answer, little-endian.
 //
 // A case has 3056 bytes: the record (1732 bytes: settings, from 31 on 8 controllers of 212 bytes, from 1727 on the sequence), how many mark words are lent (2)
 // and their mark (8), the call (1, at 1742), its identifier (2), address (8), length in bytes (8) and type (1), how many bytes are lent (2),
 // these (1024; those past them are zeros), how many records a batch has (2), a part's indicator (1), low and high (4 each) and count (4), how many bytes of
-// area are lent (2), what is in those past the first 64 (1), these 64, how many entries a take asks for (4), from which byte on a queue's area is shown (2), zeros.
+// area are lent (2), what is in those past the first 64 (1), these 64, how many entries a take asks for (4), from which byte on an area is shown (2), whether the
+// engine is the plain one (1, at 2876), how many bytes are lent to that in place of mark words (2) and what pending ones hold (1), zeros.
 // An answer has 11100: the number (1), a start's row (1), the count of a write or a batch (8), a receive's suspended, more and granularity (1 each) and runs (8),
 // how many notes a batch did (8) and what cut it (1), how many bytes a part yields (8), whether a post has stopped its queue (1), how many entries a take took
-// (8) and whether the closing one (1), then the record (1732), 512 mark words, 1024 lent bytes and 4200 bytes of area as they are after the call, with zeros past
-// the lent ones.
+// (8) and whether the closing one (1), then the record (1732), 512 mark words (of the plain engine a bit for each byte, set where it is pending), 1024 lent bytes
+// and 4200 bytes of area as they are after the call, with zeros past the lent ones.
 
+use calls::Changed;
+use calls::Received;
+use calls::WriteRecord;
 use libc::STDIN_FILENO;
 use output::Buffer;
 use output::Waiting;
@@ -22,9 +26,6 @@ use rules::Ring;
 use rules::Sequence;
 use rules::Settings;
 use rules::Tracking;
-use tracker::Changed;
-use tracker::Received;
-use tracker::WriteRecord;
 ghost use Prim.Native.Nat.{_≤_};
 ghost use Rattle.io.specs.Counts.{Counts};
 
@@ -455,16 +456,16 @@ fn changed(c: Changed) -> Answer {
 }
 
 // Plays a fresh.
-fn fresh(case: &[u8], marks: &mut [u64]) -> Answer {
+fn fresh(case: &[u8], marks: &mut [u64], bytes: &mut [u8]) -> Answer {
     let s = read_settings(case);
-    changed(tracker::fresh(s, marks))
+    changed(engines::fresh(s, marks, bytes))
 }
 
 // Plays a start.
-fn start(case: &[u8], marks: &mut [u64], lent: &[u8]) -> Answer {
+fn start(case: &[u8], marks: &mut [u64], bytes: &mut [u8], lent: &[u8]) -> Answer {
     let d = read_device(case);
     let id = short_at(case, 1743);
-    let started = tracker::start(d, marks, id, lent);
+    let started = engines::start(d, marks, bytes, id, lent);
     let device = started.device;
     let mut answer = answer_of(started.number, device);
     answer.row = started.row;
@@ -472,47 +473,47 @@ fn start(case: &[u8], marks: &mut [u64], lent: &[u8]) -> Answer {
 }
 
 // Plays a stop.
-fn stop(case: &[u8], marks: &mut [u64]) -> Answer {
+fn stop(case: &[u8], marks: &mut [u64], bytes: &mut [u8]) -> Answer {
     let d = read_device(case);
     let id = short_at(case, 1743);
-    changed(tracker::stop(d, marks, id))
+    changed(engines::stop(d, marks, bytes, id))
 }
 
 // Plays a write: the record stays as given.
-fn write(case: &[u8], marks: &mut [u64]) -> Answer {
+fn write(case: &[u8], marks: &mut [u64], bytes: &mut [u8]) -> Answer {
     let device = read_device(case);
     let id = short_at(case, 1743);
     let at = long_at(case, 1745);
-    let bytes = long_at(case, 1753);
-    let written = tracker::write(device, marks, id, at, Bytes(bytes));
+    let length = long_at(case, 1753);
+    let written = engines::write(device, marks, bytes, id, at, Bytes(length));
     let mut answer = answer_of(written.number, device);
     answer.count = written.count;
     answer
 }
 
 // Plays a receive: the record stays as given.
-fn receive(case: &[u8], marks: &mut [u64], lent: &mut [u8]) -> Answer {
+fn receive(case: &[u8], marks: &mut [u64], bytes: &mut [u8], lent: &mut [u8]) -> Answer {
     let device = read_device(case);
     let id = short_at(case, 1743);
-    let received = tracker::receive(device, marks, id, lent);
+    let received = engines::receive(device, marks, bytes, id, lent);
     let mut answer = answer_of(received.number, device);
     answer.received = received;
     answer
 }
 
 // Plays a suspend.
-fn suspend(case: &[u8], marks: &[u64]) -> Answer {
+fn suspend(case: &[u8], marks: &[u64], bytes: &[u8]) -> Answer {
     let d = read_device(case);
     let id = short_at(case, 1743);
     let kind = byte_at(case, 1761);
-    changed(tracker::suspend(d, marks, id, kind))
+    changed(engines::suspend(d, marks, bytes, id, kind))
 }
 
 // Plays a resume.
-fn resume(case: &[u8], marks: &[u64]) -> Answer {
+fn resume(case: &[u8], marks: &[u64], bytes: &[u8]) -> Answer {
     let d = read_device(case);
     let id = short_at(case, 1743);
-    changed(tracker::resume(d, marks, id))
+    changed(engines::resume(d, marks, bytes, id))
 }
 
 // ---- a batch: its records are rows of the lent bytes, again and again
@@ -556,11 +557,11 @@ fn read_records(rows: &[u8]) -> [WriteRecord; 1025] {
 }
 
 // Plays a batch: the record stays as given.
-fn batch(case: &[u8], marks: &mut [u64], lent: &[u8]) -> Answer {
+fn batch(case: &[u8], marks: &mut [u64], bytes: &mut [u8], lent: &[u8]) -> Answer {
     let device = read_device(case);
     let n = lent_at(case, 2788, 1025);
     let records = read_records(lent);
-    let batched = tracker::batch_of(device, marks, records, n);
+    let batched = engines::batch_of(device, marks, bytes, records, n);
     let mut answer = answer_of(batched.number, device);
     answer.count = batched.count;
     answer.done = batched.done;
@@ -569,14 +570,14 @@ fn batch(case: &[u8], marks: &mut [u64], lent: &[u8]) -> Answer {
 }
 
 // Plays a part.
-fn part(case: &[u8], marks: &[u64], lent: &[u8], area: &mut [u8]) -> Answer {
+fn part(case: &[u8], marks: &[u64], bytes: &[u8], lent: &[u8], area: &mut [u8]) -> Answer {
     let d = read_device(case);
     let id = short_at(case, 1743);
     let indicator = byte_at(case, 2790);
     let low = word_at(case, 2791);
     let high = word_at(case, 2795);
     let count = word_at(case, 2799);
-    let set = tracker::set_state(d, marks, area, id, indicator, low, high, count, lent);
+    let set = engines::set_state(d, marks, bytes, area, id, indicator, low, high, count, lent);
     let device = set.device;
     let mut answer = answer_of(set.number, device);
     answer.whole = set.whole;
@@ -586,17 +587,17 @@ fn part(case: &[u8], marks: &[u64], lent: &[u8], area: &mut [u8]) -> Answer {
 // ---- a queue
 
 // Makes a queue.
-fn make(case: &[u8], marks: &[u64], area: &[u8]) -> Answer {
+fn make(case: &[u8], marks: &[u64], bytes: &[u8], area: &[u8]) -> Answer {
     let d = read_device(case);
     let id = short_at(case, 1743);
-    changed(tracker::make_queue(d, marks, id, area))
+    changed(engines::make_queue(d, marks, bytes, id, area))
 }
 
 // Plays a post.
-fn post(case: &[u8], marks: &[u64], lent: &[u8], area: &mut [u8]) -> Answer {
+fn post(case: &[u8], marks: &[u64], bytes: &[u8], lent: &[u8], area: &mut [u8]) -> Answer {
     let d = read_device(case);
     let id = short_at(case, 1743);
-    let posted = tracker::post(d, marks, area, id, lent);
+    let posted = engines::post(d, marks, bytes, area, id, lent);
     let device = posted.device;
     let mut answer = answer_of(posted.number, device);
     answer.stopped = posted.stopped;
@@ -604,11 +605,11 @@ fn post(case: &[u8], marks: &[u64], lent: &[u8], area: &mut [u8]) -> Answer {
 }
 
 // Plays a take.
-fn take(case: &[u8], marks: &[u64], lent: &mut [u8], area: &[u8]) -> Answer {
+fn take(case: &[u8], marks: &[u64], bytes: &[u8], lent: &mut [u8], area: &[u8]) -> Answer {
     let d = read_device(case);
     let id = short_at(case, 1743);
     let asked = word_at(case, 2870);
-    let taken = tracker::take(d, marks, area, id, asked, lent);
+    let taken = engines::take(d, marks, bytes, area, id, asked, lent);
     let device = taken.device;
     let mut answer = answer_of(taken.number, device);
     answer.taken = taken.count;
@@ -617,20 +618,26 @@ fn take(case: &[u8], marks: &[u64], lent: &mut [u8], area: &[u8]) -> Answer {
 }
 
 // Plays a case's call on what is lent to it. A call past the form is taken for the last one.
-fn call(case: &[u8], marks: &mut [u64], lent: &mut [u8], area: &mut [u8]) -> Answer {
+fn call(
+    case: &[u8],
+    marks: &mut [u64],
+    bytes: &mut [u8],
+    lent: &mut [u8],
+    area: &mut [u8],
+) -> Answer {
     match byte_at(case, 1742) {
-        0 => fresh(case, marks),
-        1 => start(case, marks, lent),
-        2 => stop(case, marks),
-        3 => write(case, marks),
-        4 => receive(case, marks, lent),
-        5 => suspend(case, marks),
-        6 => resume(case, marks),
-        7 => batch(case, marks, lent),
-        8 => part(case, marks, lent, area),
-        9 => make(case, marks, area),
-        10 => post(case, marks, lent, area),
-        _ => take(case, marks, lent, area),
+        0 => fresh(case, marks, bytes),
+        1 => start(case, marks, bytes, lent),
+        2 => stop(case, marks, bytes),
+        3 => write(case, marks, bytes),
+        4 => receive(case, marks, bytes, lent),
+        5 => suspend(case, marks, bytes),
+        6 => resume(case, marks, bytes),
+        7 => batch(case, marks, bytes, lent),
+        8 => part(case, marks, bytes, lent, area),
+        9 => make(case, marks, bytes, area),
+        10 => post(case, marks, bytes, lent, area),
+        _ => take(case, marks, bytes, lent, area),
     }
 }
 
@@ -652,6 +659,25 @@ fn fill_marks(marks: &mut [u64], mark: u64) {
     let mut i: usize = 0;
     while i < marks.len() {
         marks[i] = mark_word(mark, i);
+        i = i + 1;
+    }
+}
+
+// What the plain engine's byte `i` holds: 0 where the mark's bit is clear, else one of the other 255 values, each byte another than those near it.
+fn plain_byte(case: &[u8], i: usize) -> u8 {
+    let word = mark_word(long_at(case, 1734), i / 64);
+    if (word >> (i % 64)) % 2 == 0 {
+        return 0;
+    }
+    let value = byte_at(case, 2879) as usize;
+    ((value + i % 255) % 255 + 1) as u8
+}
+
+// Makes the plain engine's lent bytes.
+fn fill_bytes(case: &[u8], bytes: &mut [u8]) {
+    let mut i: usize = 0;
+    while i < bytes.len() {
+        bytes[i] = plain_byte(case, i);
         i = i + 1;
     }
 }
@@ -700,25 +726,70 @@ fn fill_area(case: &[u8], area: &mut [u8]) {
     }
 }
 
-// Fills what a case lends, and plays its call on that.
-fn lend(case: &[u8], marks: &mut [u64], lent: &mut [u8], area: &mut [u8]) -> Answer {
+// Whether a case is for the plain engine.
+fn is_plain(case: &[u8]) -> bool {
+    flag_at(case, 2876)
+}
+
+// How many mark words a case lends: none where it is for the plain engine.
+fn words_lent(case: &[u8], most: usize) -> usize
+    ensures { λ r. ⌜ r ≤ most ⌝ }
+{
+    if is_plain(case) {
+        return 0;
+    }
+    lent_at(case, 1732, most)
+}
+
+// How many bytes a case lends in their place.
+fn bytes_lent(case: &[u8], most: usize) -> usize
+    ensures { λ r. ⌜ r ≤ most ⌝ }
+{
+    if is_plain(case) {
+        return lent_at(case, 2877, most);
+    }
+    0
+}
+
+// Fills what a case lends.
+fn fill(case: &[u8], marks: &mut [u64], bytes: &mut [u8], lent: &mut [u8], area: &mut [u8]) {
     let mark = long_at(case, 1734);
     fill_marks(marks, mark);
+    fill_bytes(case, bytes);
     fill_lent(case, lent);
     fill_area(case, area);
-    call(case, marks, lent, area)
+}
+
+// Fills what a case lends, and plays its call on that.
+fn lend(
+    case: &[u8],
+    marks: &mut [u64],
+    bytes: &mut [u8],
+    lent: &mut [u8],
+    area: &mut [u8],
+) -> Answer {
+    fill(case, marks, bytes, lent, area);
+    call(case, marks, bytes, lent, area)
 }
 
 // Plays a case in this room, all zeros, for what it lends: what is past that stays zero.
-fn play_in(case: &[u8], marks: &mut [u64], lent: &mut [u8], area: &mut [u8]) -> Answer {
-    let words = lent_at(case, 1732, marks.len());
+fn play_in(
+    case: &[u8],
+    marks: &mut [u64],
+    bytes: &mut [u8],
+    lent: &mut [u8],
+    area: &mut [u8],
+) -> Answer {
+    let words = words_lent(case, marks.len());
+    let units = bytes_lent(case, bytes.len());
     let size = lent_at(case, 1762, lent.len());
-    let bytes = lent_at(case, 2803, area.len());
+    let long = lent_at(case, 2803, area.len());
     lend(
         case,
         &mut marks[..words],
+        &mut bytes[..units],
         &mut lent[..size],
-        &mut area[..bytes],
+        &mut area[..long],
     )
 }
 
@@ -745,16 +816,80 @@ fn put_shown(out: &mut Buffer, waiting: Waiting, bytes: &[u8], from: usize, coun
     waiting
 }
 
+// A bit that is set where a byte is not 0.
+fn bit_at(bytes: &[u8], at: usize, bit: u8) -> u8
+    ensures { λ r. ⌜ r ≤ bit ⌝ }
+{
+    if byte_at(bytes, at) != 0 { bit } else { 0 }
+}
+
+// Eight bytes from a place on, as the bits of one.
+fn bits_at(bytes: &[u8], at: usize) -> u8
+    requires { ⌜ at ≤ 65535 ⌝ }
+{
+    let low = bit_at(bytes, at, 1)
+        + bit_at(bytes, at + 1, 2)
+        + bit_at(bytes, at + 2, 4)
+        + bit_at(bytes, at + 3, 8);
+    let high = bit_at(bytes, at + 4, 16)
+        + bit_at(bytes, at + 5, 32)
+        + bit_at(bytes, at + 6, 64)
+        + bit_at(bytes, at + 7, 128);
+    low + high
+}
+
+// Puts the plain engine's bytes as the bits of 512 words.
+fn put_bits(out: &mut Buffer, waiting: Waiting, bytes: &[u8]) -> Waiting {
+    let mut waiting = waiting;
+    let mut i: usize = 0;
+    while i < 4096 {
+        waiting = output::put_byte(out, waiting, bits_at(bytes, 8 * i));
+        i = i + 1;
+    }
+    waiting
+}
+
+// Puts the marks of a case's engine.
+fn put_marks(
+    case: &[u8],
+    marks: &[u64],
+    bytes: &[u8],
+    out: &mut Buffer,
+    waiting: Waiting,
+) -> Waiting {
+    if is_plain(case) {
+        return put_bits(out, waiting, bytes);
+    }
+    put_words(out, waiting, marks)
+}
+
+// Whether an answer shows the plain engine's bytes: it does where its call has no other area.
+fn shows_bytes(case: &[u8]) -> bool {
+    if byte_at(case, 1742) < 8 {
+        return is_plain(case);
+    }
+    false
+}
+
+// Puts what an answer shows of an area.
+fn put_area(case: &[u8], bytes: &[u8], area: &[u8], out: &mut Buffer, waiting: Waiting) -> Waiting {
+    if shows_bytes(case) {
+        return put_shown(out, waiting, bytes, short_at(case, 2874) as usize, 4200);
+    }
+    put_shown(out, waiting, area, shown_from(case), 4200)
+}
+
 // Plays a case, and puts its answer. There is room for more marks and more area than a device has.
 fn play(case: &[u8], out: &mut Buffer, waiting: Waiting) -> Waiting {
     let mut marks = [0u64; 512];
+    let mut bytes = [0u8; 32768];
     let mut lent = [0u8; 4100];
     let mut area = [0u8; 32800];
-    let answer = play_in(case, &mut marks, &mut lent, &mut area);
+    let answer = play_in(case, &mut marks, &mut bytes, &mut lent, &mut area);
     let a = put_answer(out, waiting, answer);
-    let b = put_words(out, a, &marks);
+    let b = put_marks(case, &marks, &bytes, out, a);
     let c = put_shown(out, b, &lent, 0, 1024);
-    put_shown(out, c, &area, shown_from(case), 4200)
+    put_area(case, &bytes, &area, out, c)
 }
 
 // ---- input and output

@@ -3,9 +3,11 @@
 use rules::MARK_WORDS;
 use rules::STATE_BYTES;
 
-// A line's buffer has a byte more than a line may have, so that one which is cut is still too long. There is nothing to lend to queues, which have no line here.
+// A line's buffer has a byte more than a line may have, so that one which is cut is still too long. No bytes are lent to the plain engine, and
+// nothing to queues, which have no line here.
 fn main() {
     let mut marks = [0u64; MARK_WORDS];
+    let mut bytes = [0u8; 0];
     let mut area = [0u8; STATE_BYTES];
     let mut areas = [0u8; 0];
     let mut line = [0u8; 1024];
@@ -14,6 +16,7 @@ fn main() {
     listings::run(
         false,
         &mut marks,
+        &mut bytes,
         &mut area,
         &mut areas,
         &mut line,

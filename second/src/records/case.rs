@@ -1,5 +1,6 @@
 //! The form of a case (tests/RECORDS.md), and the device record as bytes in that form.
 
+use super::marks::Marks;
 use crate::little_endian::{get, put};
 use crate::rules::{Controller, Note, Queue, Range, Record, Sequence, Settings, Tracking};
 
@@ -7,6 +8,10 @@ use crate::rules::{Controller, Note, Queue, Range, Record, Sequence, Settings, T
 pub const CASE_BYTES: usize = 3056;
 /// A case may lend more words or fewer than the 256 that W7 wants, so that both are refused; as many as before W7 too.
 pub const MOST_WORDS: usize = 512;
+/// So it may lend more bytes or fewer than the 16,384 that the plain engine wants (W9).
+const MOST_UNITS: usize = 32768;
+/// As many values has a byte that isn't 0.
+const PENDING_VALUES: u64 = 255;
 /// As many bytes at most are lent for a start structure, a report, a batch's rows, an entry or a take's buffer, and a case has
 /// room for so many.
 pub const MOST_DATA: usize = 1024;
@@ -53,7 +58,9 @@ pub enum Call {
 #[derive(Clone, Debug, PartialEq, Eq)]
 pub struct Case {
     pub record: Record,
+    /// None of them are lent where the call is made on the plain engine.
     pub words: Vec<u64>,
+    pub plain: Option<Plain>,
     pub call: Call,
     pub id: u64,
     pub data: Vec<u8>,
@@ -61,6 +68,36 @@ pub struct Case {
     pub area: Vec<u8>,
     /// From which byte on the answer has the area: a queue's is longer than what an answer has room for.
     pub shown: usize,
+}
+
+impl Case {
+    /// What is lent to the engine on which the call is made.
+    pub fn marks(&self) -> &dyn Marks {
+        match &self.plain {
+            Some(plain) => &plain.bytes,
+            None => &self.words,
+        }
+    }
+}
+
+/// What is lent to the plain engine (W9): "one byte a unit (0 is clear, all else pending)".
+#[derive(Clone, Debug, PartialEq, Eq)]
+pub struct Plain {
+    pub bytes: Vec<u8>,
+    /// From which byte on the answer has them; nothing where it has a call's area in their place.
+    pub shown: Option<usize>,
+}
+
+impl Plain {
+    pub fn shown_bytes(&self) -> &[u8] {
+        self.shown.and_then(|shown| self.bytes.get(shown..)).unwrap_or(&[])
+    }
+
+    /// "bit u is set exactly if byte u was lent and isn't 0"
+    pub fn words(&self) -> Vec<u64> {
+        let word = |bytes: &[u8]| bytes.iter().rev().fold(0, |bits, byte| 2 * bits + u64::from(*byte != 0));
+        self.bytes.chunks(64).map(word).collect()
+    }
 }
 
 /// The case in these bytes; nothing if they aren't in the form.
@@ -72,7 +109,8 @@ pub fn read_case(bytes: &[u8]) -> Option<Case> {
         *controller = read_controller(&mut fields)?;
     }
     record.sequence = read_sequence(&mut fields)?;
-    let words = read_words(&mut fields)?;
+    let words = fields.next(2)?;
+    let mark = fields.next(8)?;
     let number = fields.next(1)?;
     let id = fields.next(2)?;
     let address = fields.next(8)?;
@@ -88,7 +126,8 @@ pub fn read_case(bytes: &[u8]) -> Option<Case> {
     let of_a_queue = [MAKE_QUEUE, POST, TAKE].contains(&number);
     let area = read_area(&mut fields, of_a_queue)?;
     let asked = fields.next(4)?;
-    let shown = fields.next(2)?;
+    let shown = fields.next(2)? as usize;
+    let lent_to_plain = read_lent_to_plain(&mut fields, mark)?;
     let call = match number {
         0 => Call::Fresh,
         1 => Call::Start,
@@ -104,9 +143,12 @@ pub fn read_case(bytes: &[u8]) -> Option<Case> {
         TAKE => Call::Take { asked },
         _ => return None,
     };
-    let area = if of_a_queue || number == PART { area } else { Vec::new() };
-    let shown = if of_a_queue { shown as usize } else { 0 };
-    Some(Case { record, words, call, id, data, area, shown })
+    let has_area = of_a_queue || number == PART;
+    let area = if has_area { area } else { Vec::new() };
+    let words = if lent_to_plain.is_none() { lent_words(words, mark)? } else { Vec::new() };
+    let plain = lent_to_plain.map(|bytes| Plain { bytes, shown: if has_area { None } else { Some(shown) } });
+    let shown = if of_a_queue { shown } else { 0 };
+    Some(Case { record, words, plain, call, id, data, area, shown })
 }
 
 fn read_settings(fields: &mut Fields) -> Option<Settings> {
@@ -171,10 +213,35 @@ fn read_sequence(fields: &mut Fields) -> Option<Sequence> {
 }
 
 /// "word w of these is mark rotated left by w modulo 64 bits". So words differ, and one that moved shows.
-fn read_words(fields: &mut Fields) -> Option<Vec<u64>> {
-    let words = fields.next_within(2, MOST_WORDS as u64)?;
-    let mark = fields.next(8)?;
-    Some((0..words).map(|word| mark.rotate_left((word % 64) as u32)).collect())
+/// Nothing for more than a case may lend.
+fn lent_words(words: u64, mark: u64) -> Option<Vec<u64>> {
+    if words > MOST_WORDS as u64 {
+        return None;
+    }
+    Some((0..words).map(|word| word_of(mark, word)).collect())
+}
+
+fn word_of(mark: u64, word: u64) -> u64 {
+    mark.rotate_left((word % 64) as u32)
+}
+
+/// Zeros where the call is made on words, 1 and how many bytes there are and what they hold where it is on the plain engine.
+/// The outer nothing is for bytes that aren't in the form.
+fn read_lent_to_plain(fields: &mut Fields, mark: u64) -> Option<Option<Vec<u8>>> {
+    match (fields.next(1)?, fields.next_within(2, MOST_UNITS as u64)?, fields.next(1)?) {
+        (0, 0, 0) => Some(None),
+        (1, units, value) => Some(Some((0..units).map(|unit| byte_of(mark, value, unit)).collect())),
+        _ => None,
+    }
+}
+
+/// "Byte u of it is 0 where bit u of the marks would be clear"; "where that is set it is (value + u) modulo 255, and 1".
+fn byte_of(mark: u64, value: u64, unit: u64) -> u8 {
+    if word_of(mark, unit / 64) >> (unit % 64) & 1 == 1 {
+        ((value + unit) % PENDING_VALUES + 1) as u8
+    } else {
+        0
+    }
 }
 
 /// The 64 of front and then fill in each, cut to the area's length. In a queue's area the fill grows by 1 from place to

@@ -1,6 +1,7 @@
 //! Cases with device records of any kind, sound or not. No listing leads to an unsound record, to marks that are not 256
 //! words or to a state area that is not 4,096 bytes, so refusal 1 is tested here, and so are the bits of every share and a
-//! queue's totals near 2^32. tests/RECORDS.md has the form of a case and of its answer.
+//! queue's totals near 2^32. A call may also be made on the plain engine (W9), on bytes in place of words. tests/RECORDS.md
+//! has the form of a case and of its answer.
 
 mod case;
 mod marks;
@@ -16,8 +17,8 @@ use crate::report::read_report;
 use crate::rules::{Note, Reason, Record, Refusal, UNSOUND};
 use crate::state::Part;
 
-use self::case::{read_case, record_bytes, Call, Case, CASE_BYTES, MOST_AREA, MOST_DATA, MOST_WORDS};
-use self::marks::{clear_share, mark_pending, pending_units, MARK_WORDS};
+use self::case::{read_case, record_bytes, Call, Case, Plain, CASE_BYTES, MOST_AREA, MOST_DATA, MOST_WORDS};
+use self::marks::{clear_share, held_by_units, mark_pending, pending_units, Marks};
 
 /// What a call answers, and what it leaves behind.
 #[derive(Clone, Debug, PartialEq, Eq)]
@@ -40,10 +41,21 @@ struct Outcome {
     closing: bool,
     record: Record,
     words: Vec<u64>,
+    plain: Option<Plain>,
     data: Vec<u8>,
     area: Vec<u8>,
     /// From which byte on the area is shown.
     shown: usize,
+}
+
+impl Outcome {
+    /// What was lent to the engine on which the call is made.
+    fn marks(&mut self) -> &mut dyn Marks {
+        match &mut self.plain {
+            Some(plain) => &mut plain.bytes,
+            None => &mut self.words,
+        }
+    }
 }
 
 /// Answers each case of `input`, in their order.
@@ -78,6 +90,7 @@ fn untouched(case: &Case) -> Outcome {
         closing: false,
         record: case.record.clone(),
         words: case.words.clone(),
+        plain: case.plain.clone(),
         data: case.data.clone(),
         area: case.area.clone(),
         shown: case.shown,
@@ -89,23 +102,24 @@ fn done(case: &Case) -> Result<Outcome, Reason> {
     if case.call == Call::Fresh {
         // "Fresh: 16, then 1 for the marks' length; done, all marks are 0".
         let device = Device::fresh(&case.record.settings)?;
-        lent_256(&case.words)?;
+        lent_whole(case)?;
         after.record = device.record;
-        after.words = vec![0; MARK_WORDS];
+        after.marks().clear_all();
         return Ok(after);
     }
-    lent_256(&case.words)?;
-    let mut device = Device { record: case.record.clone(), pending: pending_units(&case.record, &case.words) };
+    lent_whole(case)?;
+    let held = held_by_units(&case.record, case.marks());
+    let mut device = Device { record: case.record.clone(), pending: pending_units(&held) };
     match &case.call {
         Call::Fresh => {}
         Call::Start => {
-            // "every bit behind them 0": the words are made anew from what is pending, the new share's bits among them.
+            // "every bit behind them 0": the marks are made anew from what is pending, the new share's among them.
             device.start(case.id, &case.data)?;
-            after.words = vec![0; MARK_WORDS];
+            after.marks().clear_all();
         }
         Call::Stop => {
             device.stop(case.id)?;
-            clear_share(&case.record, case.id, &mut after.words);
+            clear_share(&case.record, case.id, after.marks());
         }
         Call::Write { address, bytes } => {
             after.count = device.write(&Note { id: case.id, address: *address, bytes: *bytes })?;
@@ -135,14 +149,14 @@ fn done(case: &Case) -> Result<Outcome, Reason> {
             after.closing = take.closing;
         }
     }
-    mark_pending(&device, &mut after.words);
+    mark_pending(&device, &held, after.marks());
     after.record = device.record;
     Ok(after)
 }
 
-/// Refusal 1, its second half, in W7: "1 expects 256 words".
-fn lent_256(words: &[u64]) -> Result<(), Refusal> {
-    if words.len() == MARK_WORDS {
+/// Refusal 1, its second half, in W7: "1 expects 256 words". W9: "1 speaks of each engine's own record and area".
+fn lent_whole(case: &Case) -> Result<(), Refusal> {
+    if case.marks().whole() {
         Ok(())
     } else {
         Err(UNSOUND)
@@ -177,15 +191,17 @@ fn answer(outcome: &Outcome) -> Vec<u8> {
     put(&mut bytes, u128::from(outcome.closing), 1);
     bytes.extend_from_slice(&record_bytes(&outcome.record));
     let marks_end = bytes.len() + 8 * MOST_WORDS;
-    for word in &outcome.words {
-        put(&mut bytes, u128::from(*word), 8);
+    for word in outcome.plain.as_ref().map_or_else(|| outcome.words.clone(), Plain::words) {
+        put(&mut bytes, u128::from(word), 8);
     }
     bytes.resize(marks_end, 0);
     // A part may lend more bytes than the answer has room for; these are left out.
     bytes.extend_from_slice(&outcome.data);
     bytes.resize(marks_end + MOST_DATA, 0);
-    // So may a queue's area; the bytes from the one on that the case names are there.
+    // So may a queue's area; the bytes from the one on that the case names are there. Of a call that has no area those of the
+    // plain engine are, if it is made on that one.
     bytes.extend(outcome.area.iter().skip(outcome.shown));
+    bytes.extend(outcome.plain.iter().flat_map(Plain::shown_bytes));
     bytes.resize(marks_end + MOST_DATA + MOST_AREA, 0);
     bytes
 }

@@ -28,7 +28,7 @@ fn base(call: Call, id: u64) -> Case {
     record.controllers[2].suspended = true;
     record.controllers[2].ranges[0] = Range { start: 1048576, length: 3 };
     record.controllers[2].base = 8192;
-    Case { record, words: vec![0; 256], call, id, data: Vec::new(), area: Vec::new(), shown: 0 }
+    Case { record, words: vec![0; 256], plain: None, call, id, data: Vec::new(), area: Vec::new(), shown: 0 }
 }
 
 /// A batch of these notes: identifier, address and bytes.
@@ -1250,7 +1250,7 @@ fn a_row_of_cases_is_a_session() {
             };
             let id = device.record.settings.identifiers[place];
             let data = if call == Call::Start { structure_bytes(0, ranges) } else { vec![170; 48] };
-            let case = Case { record, words, call, id, data: data.clone(), area: Vec::new(), shown: 0 };
+            let case = Case { record, words, call, data: data.clone(), ..base(Call::Fresh, id) };
             let after = outcome(&case);
             let mut buffer = data;
             let (refusal, count) = match &case.call {
@@ -1367,6 +1367,218 @@ fn last_bits_of_ranges_that_overlap() {
     case.call = Call::Write { address: 0, bytes: 1 };
     expected.words[0] = 2;
     assert_eq!(outcome(&case), expected);
+}
+
+// ---------------------------------------------------------------------------------------------------------------
+// The plain engine (W9)
+// ---------------------------------------------------------------------------------------------------------------
+
+/// The same call on the plain engine, which is lent these bytes and no words.
+fn on_bytes(case: &Case, bytes: &[u8]) -> Case {
+    Case { words: Vec::new(), plain: Some(Plain { bytes: bytes.to_vec(), shown: Some(0) }), ..case.clone() }
+}
+
+/// An area that tells its bytes apart: none is 0, and any two that are fewer than 255 apart differ.
+fn all_pending() -> Vec<u8> {
+    (0..16384).map(|byte| (byte % 255 + 1) as u8).collect()
+}
+
+/// The call is done, and leaves these bytes. All else of the outcome is answered.
+fn assert_leaves(case: &Case, bytes: &[u8]) -> Outcome {
+    let after = outcome(case);
+    assert_eq!((after.refusal, &after.words), (0, &vec![]));
+    // Those that differ are few, and shown by their numbers.
+    let given = &after.plain.as_ref().unwrap().bytes;
+    assert_eq!(given.len(), bytes.len());
+    let differ: Vec<usize> = (0..bytes.len()).filter(|byte| given[*byte] != bytes[*byte]).collect();
+    assert_eq!(differ, []);
+    after
+}
+
+#[test]
+fn areas_that_are_not_16384_bytes() {
+    for case in calls() {
+        for bytes in &[0, 1, 64, 256, 16320, 16383, 16385, 32768] {
+            // 256 words that are there as well are not looked at.
+            for words in &[0, 256] {
+                let case = Case { words: vec![0; *words], ..on_bytes(&case, &vec![7; *bytes]) };
+                assert_refused(&case, 1, 0);
+            }
+        }
+        // With 16,384 it is done, without a word too.
+        assert_eq!(outcome(&on_bytes(&case, &[7; 16384])).refusal, 0);
+        assert_eq!(outcome(&Case { words: Vec::new(), ..case }).refusal, 1);
+    }
+    // A fresh is closed, and 16 comes before.
+    let closed = |refusal, case: &Case| Outcome { refusal, record: Record::default(), ..untouched(case) };
+    let mut case = on_bytes(&base(Call::Fresh, 0), &[7; 16383]);
+    assert_eq!(outcome(&case), closed(1, &case));
+    case.record.settings.limit = 129;
+    assert_eq!(outcome(&case), closed(16, &case));
+    case = on_bytes(&case, &[7; 16384]);
+    assert_eq!(outcome(&case), closed(16, &case));
+}
+
+#[test]
+fn unsound_records_leave_the_bytes() {
+    for mut case in calls() {
+        case.record.controllers[0].ranges[1].length = 0;
+        assert_refused(&on_bytes(&case, &all_pending()), 1, 0);
+        case.record.controllers[0].ranges[1].length = 2;
+        case.record.controllers[2].base = 65535;
+        assert_refused(&on_bytes(&case, &all_pending()), 1, 0);
+    }
+}
+
+#[test]
+fn notes_leave_what_is_pending() {
+    // READINGS W9: page 17 holds 80h, and a write of pages 17 and 18 counts 18 alone.
+    let mut bytes = vec![0; 16384];
+    bytes[1] = 0x80;
+    let mut case = on_bytes(&base(Call::Write { address: 69632, bytes: 8192 }, 5), &bytes);
+    bytes[2] = 1;
+    assert_eq!(assert_leaves(&case, &bytes).count, 1);
+    // A batch: page 17 twice, page 16, and all of 6, which isn't tracked; then page 0, of which 7 is left.
+    case = on_bytes(&base(batch(&[(5, 69632, 1), (5, 69632, 1), (5, 65536, 1), (6, 0, 9), (5, 0, 1)]), 0), &bytes);
+    case.plain.as_mut().unwrap().bytes[4] = 7;
+    bytes[0] = 1;
+    bytes[4] = 7;
+    let after = assert_leaves(&case, &bytes);
+    assert_eq!((after.notes_done, after.count, after.cut), (5, 1, 0));
+    // With every value from 1 to 255 in every unit of 5 a write of all counts none.
+    for value in 1..=255 {
+        let case = on_bytes(&base(Call::Write { address: 0, bytes: u64::MAX }, 5), &[value; 16384]);
+        assert_eq!(assert_leaves(&case, &[value; 16384]).count, 0);
+    }
+}
+
+#[test]
+fn reported_bytes_are_0() {
+    // Pages 17 and 18, and page 0: two runs, of which 47 bytes hold one. Then all four bytes of the first range.
+    let mut bytes = all_pending();
+    for (byte, value) in [0, 0x80, 255, 0, 9, 0].iter().enumerate() {
+        bytes[byte] = *value;
+    }
+    let mut case = on_bytes(&base(Call::Receive, 5), &bytes);
+    case.data = vec![170; 47];
+    bytes[1] = 0;
+    bytes[2] = 0;
+    let after = assert_leaves(&case, &bytes);
+    assert_eq!(after.report, [0, 1, 0, 1]);
+    assert_eq!(after.data[16..32], [0, 16, 1, 0, 0, 0, 0, 0, 2, 0, 0, 0, 0, 0, 0, 0]);
+    // Both runs, of which the first is all of its range now. The bytes behind 5's share stay.
+    let mut bytes = all_pending();
+    let mut case = on_bytes(&base(Call::Receive, 5), &bytes);
+    case.data = vec![170; 48];
+    bytes[..6].copy_from_slice(&[0; 6]);
+    assert_eq!(assert_leaves(&case, &bytes).report, [0, 0, 0, 2]);
+}
+
+#[test]
+fn a_start_moves_bytes_as_they_are() {
+    // 5's six stay, 6's one is clear, and 7's three are those from 8192 on, which is 32 times 255 and 32; all behind them
+    // is 0.
+    let bytes = all_pending();
+    let mut moved = vec![0; 16384];
+    moved[..10].copy_from_slice(&[1, 2, 3, 4, 5, 6, 0, 33, 34, 35]);
+    let after = assert_leaves(&on_bytes(&calls()[0], &bytes), &moved);
+    assert_eq!((after.record.controllers[1].base, after.record.controllers[2].base), (6, 7));
+    // Shares that change their order: 5 lies behind 7, and 6 starts with two pages.
+    let mut case = base(Call::Start, 6);
+    share(&mut case.record, 0, 300, 3);
+    share(&mut case.record, 2, 299, 1);
+    case.data = structure_bytes(0, &[Range { start: 0, length: 2 }]);
+    let mut moved = vec![0; 16384];
+    moved[..6].copy_from_slice(&[46, 47, 48, 0, 0, 45]);
+    assert_leaves(&on_bytes(&case, &bytes), &moved);
+    // What was clear is clear, and isn't 1.
+    let mut few = bytes;
+    few[301] = 0;
+    moved[1] = 0;
+    assert_leaves(&on_bytes(&case, &few), &moved);
+    // A refused one moves nothing.
+    case.data = structure_bytes(0, &[Range { start: 0, length: 16381 }]);
+    assert_refused(&on_bytes(&case, &few), 11, 0);
+}
+
+#[test]
+fn bytes_after_the_other_calls() {
+    // A stop clears its share alone, here one across the bytes 299 to 302, and moves nothing.
+    let mut case = base(Call::Stop, 5);
+    share(&mut case.record, 0, 299, 4);
+    let mut bytes = all_pending();
+    bytes[299..303].copy_from_slice(&[0; 4]);
+    assert_leaves(&on_bytes(&case, &all_pending()), &bytes);
+    // A fresh clears all.
+    assert_leaves(&on_bytes(&base(Call::Fresh, 0), &all_pending()), &[0; 16384]);
+    // Suspend, resume, a part and the calls of a queue leave all.
+    for place in &[4, 5, 7, 8, 9, 10] {
+        assert_leaves(&on_bytes(&calls()[*place], &all_pending()), &all_pending());
+    }
+}
+
+/// Bytes of which those are 0 whose bit is clear.
+fn random_bytes(random: &mut Random, words: &[u64]) -> Vec<u8> {
+    bits_of(words).iter().map(|bit| if *bit { 1 + random.below(255) as u8 } else { 0 }).collect()
+}
+
+/// W9: "both engines meet every sequence of calls with the same answers, refusals, counts and report bytes". The bytes that
+/// aren't 0 after a call are those whose bits are set. A done start leaves every share's bytes as they were, wherever that is
+/// now; of any other call a byte stays, becomes 0, or was 0 and becomes 1.
+#[test]
+fn both_engines_answer_the_same() {
+    let mut random = Random(9);
+    let mut met = [0; 31];
+    for _ in 0..20 {
+        let mut words: Vec<u64> = (0..256).map(|word| 0x8e5a_0f3c_7001_c0d1_u64.rotate_left(word)).collect();
+        let mut bytes = random_bytes(&mut random, &words);
+        let mut record = base(Call::Fresh, 0).record;
+        record.settings.limit = 128;
+        for _ in 0..60 {
+            let id = 5 + random.below(3) as u64;
+            let page = 4096 * random.below(40) as u64;
+            let (address, length) = (page, 1 + 4096 * random.below(9) as u64);
+            let mut case = match random.below(12) {
+                0..=2 => base(Call::Start, id),
+                3 | 4 => base(Call::Stop, id),
+                5 | 6 => base(Call::Write { address, bytes: length }, id),
+                7 => base(Call::Receive, id),
+                8 => base(Call::Suspend { kind: 1 }, id),
+                9 | 10 => base(Call::Resume, id),
+                _ => base(batch(&[(5, address, length), (id, 0, 4097), (7, address, 1)]), 0),
+            };
+            case.data = vec![170; 64];
+            if case.call == Call::Start {
+                let length = [3, 130, 9000, 16380][random.below(4)];
+                case.data = structure_bytes(0, &[Range { start: page, length }, Range { start: 0, length: 3 }]);
+            }
+            case.record = record;
+            case.words = words;
+            let after = outcome(&case);
+            let plain = outcome(&on_bytes(&case, &bytes));
+            let bytes_after = plain.plain.clone().unwrap().bytes;
+            let pending: Vec<bool> = bytes_after.iter().map(|byte| *byte != 0).collect();
+            assert_eq!(pending, bits_of(&after.words));
+            assert_eq!(Outcome { words: after.words.clone(), plain: None, ..plain }, after);
+            if after.refusal == 0 && case.call == Call::Start {
+                for (before, now) in case.record.controllers.iter().zip(&after.record.controllers) {
+                    let share = |bytes: &[u8], base| bytes[base as usize..][..units(before).count()].to_vec();
+                    assert_eq!(share(&bytes_after, now.base), share(&bytes, before.base));
+                }
+            } else {
+                for (before, byte) in bytes.iter().zip(&bytes_after) {
+                    assert!(byte == before || *byte == 0 || (*before, *byte) == (0, 1), "{} {}", before, byte);
+                }
+            }
+            met[after.refusal as usize] += 1;
+            record = after.record;
+            words = after.words;
+            bytes = bytes_after;
+        }
+    }
+    for refusal in [0, 3, 4, 5, 11, 13].iter() {
+        assert!(met[*refusal] > 10, "{}: {}", refusal, met[*refusal]);
+    }
 }
 
 // ---------------------------------------------------------------------------------------------------------------
@@ -1539,6 +1751,58 @@ fn fields_of_a_queue() {
     }
 }
 
+/// The same with so many bytes lent to the plain engine, and this value.
+fn plain_bytes(units: u64, value: u8) -> Vec<u8> {
+    let mut bytes = case_bytes();
+    bytes[2876..2880].copy_from_slice(&[1, (units % 256) as u8, (units / 256) as u8, value]);
+    bytes
+}
+
+#[test]
+fn fields_of_the_plain_engine() {
+    assert_eq!(read_case(&case_bytes()).unwrap().plain, None);
+    // The mark is 25 and 26 in its lowest byte and its highest: bits 0, 3 and 4, and 57, 59 and 60. In the next word each is
+    // one higher, and so is each in word 64 than in word 63, where they are 63, 2 and 3, and 56, 58 and 59.
+    let case = read_case(&plain_bytes(4100, 200)).unwrap();
+    assert_eq!((case.words, case.call), (vec![], Call::Write { address: high(29, 30), bytes: high(31, 32) }));
+    let plain = case.plain.unwrap();
+    assert_eq!((plain.bytes.len(), plain.shown), (4100, Some(18503)));
+    let pending: Vec<usize> = (0..4100).filter(|unit| plain.bytes[*unit] != 0).collect();
+    assert_eq!(pending[..12], [0, 3, 4, 57, 59, 60, 65, 68, 69, 122, 124, 125]);
+    assert_eq!(pending[pending.len() - 8..], [4034, 4035, 4088, 4090, 4091, 4095, 4096, 4099]);
+    // 200 and the number of the unit, from 255 on again from 0, and 1.
+    let values: Vec<u8> = pending[..6].iter().map(|unit| plain.bytes[*unit]).collect();
+    assert_eq!(values, [201, 204, 205, 3, 5, 6]);
+    assert_eq!((plain.bytes[4091], plain.bytes[4095], plain.bytes[4096]), (212, 216, 217));
+
+    // All ones: every value in turn. 255 as the value is as 0.
+    for (value, first) in [(0, [1, 2]), (1, [2, 3]), (253, [254, 255]), (254, [255, 1]), (255, [1, 2])].iter() {
+        let mut bytes = plain_bytes(32768, *value);
+        bytes[1734..1742].copy_from_slice(&[255; 8]);
+        let lent = read_case(&bytes).unwrap().plain.unwrap().bytes;
+        assert_eq!((lent.len(), lent[..2].to_vec()), (32768, first.to_vec()));
+        assert_eq!(lent[255..], lent[..32513]);
+        assert_eq!(lent[..255].iter().collect::<std::collections::BTreeSet<_>>().len(), 255);
+        assert!(!lent.contains(&0));
+    }
+    // None.
+    assert_eq!(read_case(&plain_bytes(0, 9)).unwrap().plain, Some(Plain { bytes: vec![], shown: Some(18503) }));
+    // Words are not looked at, not even where there are too many.
+    let mut bytes = plain_bytes(64, 9);
+    let case = read_case(&bytes);
+    bytes[1732..1734].copy_from_slice(&[255, 255]);
+    assert_eq!(read_case(&bytes), case);
+    // A part and the calls of a queue show their own area.
+    for call in 0..12 {
+        let mut bytes = plain_bytes(64, 9);
+        bytes[1742] = call;
+        bytes[1762] = if call == 7 { 0 } else { 3 };
+        let case = read_case(&bytes).unwrap();
+        assert_eq!(case.plain.unwrap().shown, if call < 8 { Some(18503) } else { None });
+        assert_eq!(case.shown, if call < 9 { 0 } else { 18503 });
+    }
+}
+
 #[test]
 fn data_of_a_part() {
     // 4,100 bytes, of which the case has room for 1,024: the others are zeros.
@@ -1622,8 +1886,8 @@ fn bytes_that_are_no_batch() {
 fn bytes_that_are_no_case() {
     // Rule 2, tracking 2, off with a granularity, suspended 2, queue 2, none with what only a queue has, stopped 2, sequence
     // 2, none with an owner and an end or with one of them, 513 words, call 12, 1,025 lent bytes of a write and of a post,
-    // 4,201 bytes of area, and 32,801 of a queue's.
-    let damages: [&[(usize, u8)]; 24] = [
+    // 4,201 bytes of area, and 32,801 of a queue's; engine 2, words with bytes or a value of the plain engine, 32,769 bytes.
+    let damages: [&[(usize, u8)]; 29] = [
         &[(4, 2)],
         &[(31, 2)],
         &[(31, 0)],
@@ -1648,6 +1912,11 @@ fn bytes_that_are_no_case() {
         &[(1742, 10), (1762, 1), (1763, 4)],
         &[(2803, 105), (2804, 16)],
         &[(1742, 11), (2803, 33), (2804, 128)],
+        &[(2876, 2)],
+        &[(2877, 1)],
+        &[(2878, 64)],
+        &[(2879, 1)],
+        &[(2876, 1), (2877, 1), (2878, 128)],
     ];
     for damage in &damages {
         let mut bytes = case_bytes();
@@ -1820,6 +2089,63 @@ fn answers_that_show_an_area() {
         let given = answer(&outcome(&case));
         assert_eq!((given[0], given.len()), (28, 11100));
         assert_eq!(given[6900..], expected[..]);
+    }
+}
+
+#[test]
+fn answers_of_the_plain_engine() {
+    // 200 bytes answer 1. Those that aren't 0 are bits: 0, 1 and 63, then 64 and 199, in words 0, 1 and 3.
+    let mut lent = vec![0; 200];
+    for (byte, value) in [(0, 1), (1, 255), (63, 128), (64, 2), (199, 77)].iter() {
+        lent[*byte] = *value;
+    }
+    let mut case = on_bytes(&base(Call::Receive, 5), &lent);
+    case.data = vec![170; 1024];
+    for shown in [0, 1, 63, 199, 200, 201, 65535].iter() {
+        case.plain.as_mut().unwrap().shown = Some(*shown);
+        let mut expected = vec![1];
+        expected.resize(48, 0);
+        expected.extend_from_slice(&record_bytes(&case.record));
+        expected.extend_from_slice(&[3, 0, 0, 0, 0, 0, 0, 128, 1, 0, 0, 0, 0, 0, 0, 0]);
+        expected.resize(1780 + 24, 0);
+        expected.push(128);
+        expected.resize(5876, 0);
+        expected.resize(6900, 170);
+        expected.extend(lent.iter().skip(*shown));
+        expected.resize(11100, 0);
+        assert_eq!(answer(&outcome(&case)), expected);
+    }
+    // As many as can be: all bits, and 4,200 of the bytes, from 28,568 on as far as they go.
+    let lent: Vec<u8> = (0..32768u32).map(|byte| (byte % 251 + 1) as u8).collect();
+    for shown in [0, 1, 12600, 28567, 28568, 28569, 32767].iter() {
+        case.plain = Some(Plain { bytes: lent.clone(), shown: Some(*shown) });
+        let given = answer(&outcome(&case));
+        assert_eq!((given[0], given.len()), (1, 11100));
+        assert_eq!(given[1780..5876], [255; 4096][..]);
+        let mut expected: Vec<u8> = lent.iter().cloned().skip(*shown).take(4200).collect();
+        expected.resize(4200, 0);
+        assert_eq!(given[6900..], expected[..]);
+    }
+    // A done write: what was 80h stays, and the next one is 1.
+    let mut lent = vec![0; 16384];
+    lent[1] = 0x80;
+    let given = answer(&outcome(&on_bytes(&base(Call::Write { address: 69632, bytes: 8192 }, 5), &lent)));
+    assert_eq!((given[0], given[2], given[1780]), (0, 1, 0b110));
+    assert_eq!(given[6900..6904], [0, 0x80, 1, 0]);
+}
+
+#[test]
+fn answers_that_show_an_area_and_no_bytes() {
+    // A part and a make show what they would on words, also where they are lent no area.
+    for area in [0, 1, 64, 4096, 4200].iter() {
+        let made = queue_call(Call::MakeQueue, &vec![85; *area]);
+        let set = Case { area: vec![85; *area], ..part(1, 0, &[1, 2, 3, 4]) };
+        for case in &[made, set] {
+            let case = Case { words: vec![u64::MAX; 256], ..case.clone() };
+            let mut plain = on_bytes(&case, &all_pending());
+            plain.plain.as_mut().unwrap().shown = None;
+            assert_eq!(answer(&outcome(&plain)), answer(&outcome(&case)));
+        }
     }
 }
 

@@ -11,11 +11,13 @@ use Rattle.listings.proofs.run.Statement.{statement}
 use Rattle.listings.proofs.run.Tie as tie
 
 abbrev Inv-loop : tie.InvT-loop
-Inv-loop shelf marks₀ area₀ areas₀ line₀ out₀ input₀ device₀ waiting₀ used₀ at₀ end₀ over₀ turns₀ marks area areas line out input device waiting used at end over turns =
-    (length marks ≡ length marks₀) × (length areas ≡ length areas₀) × (length line ≡ length line₀) × (length input ≡ length input₀) × (used ≤ length line) × (end ≤ length input)
+Inv-loop shelf marks₀ bytes₀ area₀ areas₀ line₀ out₀ input₀ device₀ waiting₀ used₀ at₀ end₀ over₀ turns₀ marks bytes area areas line out input device waiting used at end over turns =
+    (length marks ≡ length marks₀) × (length bytes ≡ length bytes₀) × (length areas ≡ length areas₀) × (length line ≡ length line₀) × (length input ≡ length input₀) × (used ≤ length line)
+    × (end ≤ length input)
 
 abbrev μ-loop : tie.MeasureT-loop
-μ-loop shelf marks₀ area₀ areas₀ line₀ out₀ input₀ device₀ waiting₀ used₀ at₀ end₀ over₀ turns₀ marks area areas line out input device waiting used at end over turns = turns
+μ-loop shelf marks₀ bytes₀ area₀ areas₀ line₀ out₀ input₀ device₀ waiting₀ used₀ at₀ end₀ over₀ turns₀ marks bytes area areas line out input device waiting used at end over turns =
+    turns
 
 none-requires : tie.Need-none-requires Inv-loop μ-loop
 none-requires c κs = search needs
@@ -41,6 +43,9 @@ same-length-3 c = search needs
 same-length-4 : tie.Need-same-length-4 Inv-loop μ-loop
 same-length-4 c = search needs
 
+same-length-5 : tie.Need-same-length-5 Inv-loop μ-loop
+same-length-5 c = search needs
+
 returns : tie.Need-returns Inv-loop μ-loop
 returns c = search needs
 
@@ -50,9 +55,6 @@ refill-requires c κs = search needs
 failed-requires : tie.Need-failed-requires Inv-loop μ-loop
 failed-requires c κs = search needs
 
-same-length-5 : tie.Need-same-length-5 Inv-loop μ-loop
-same-length-5 c = search needs
-
 same-length-6 : tie.Need-same-length-6 Inv-loop μ-loop
 same-length-6 c = search needs
 
@@ -61,6 +63,12 @@ same-length-7 c = search needs
 
 same-length-8 : tie.Need-same-length-8 Inv-loop μ-loop
 same-length-8 c = search needs
+
+same-length-9 : tie.Need-same-length-9 Inv-loop μ-loop
+same-length-9 c = search needs
+
+same-length-10 : tie.Need-same-length-10 Inv-loop μ-loop
+same-length-10 c = search needs
 
 returns-2 : tie.Need-returns-2 Inv-loop μ-loop
 returns-2 c = search needs
@@ -72,7 +80,7 @@ slice-aggregate-take-in : tie.Need-slice-aggregate-take-in Inv-loop μ-loop
 slice-aggregate-take-in c = sym (length-take-le _ _ (let r = c .before .before .before .before .before .before .refill in omega (arith, r .ensures, r .kept .0)))
 
 take-in-requires : tie.Need-take-in-requires Inv-loop μ-loop
-take-in-requires c κs = let l = c .before .before .before .before .before .before .before .before .before .before .before .loop in omega (arith, l .inv .4)
+take-in-requires c κs = let l = c .before .before .before .before .before .before .before .before .before .before .before .loop in omega (arith, l .inv .5)
 
 slice-reshare-prefix-kind-of : tie.Need-slice-reshare-prefix-kind-of Inv-loop μ-loop
 slice-reshare-prefix-kind-of c = search needs
@@ -90,7 +98,7 @@ slice-reshare-prefix-answer : tie.Need-slice-reshare-prefix-answer Inv-loop μ-l
 slice-reshare-prefix-answer c = search needs
 
 slice-aggregate-answer : tie.Need-slice-aggregate-answer Inv-loop μ-loop
-slice-aggregate-answer c = sym (length-take-le _ _ (let t = c .before .before .before .before .before .before .before .before .before .take-in in omega (arith, t .ensures, t .kept .0)))
+slice-aggregate-answer c = sym (length-take-le _ _ (let t = c .before .before .before .before .before .before .before .before .before .before .take-in in omega (arith, t .ensures, t .kept .0)))
 
 answer-requires : tie.Need-answer-requires Inv-loop μ-loop
 answer-requires c κs = search needs
@@ -99,7 +107,17 @@ loop-less : tie.Need-loop-less Inv-loop μ-loop
 loop-less c = search needs
 
 loop-again : tie.Need-loop-again Inv-loop μ-loop
-loop-again c = search needs
+loop-again c =
+    let inv = c .before .before .before .before .before .before .before .before .before .before .before .before .before .before .before .before .before .before .before .before .before .before .before .before .before .before .before .before .loop .inv in
+    let r = c .before .before .before .before .before .before .before .before .before .before .before .before .before .before .before .before .before .before .before .before .before .before .before .refill in (
+      omega (arith, c .before .before .before .before .answer .kept .1 .0, inv .0),
+      omega (arith, c .before .before .before .before .answer .kept .1 .1, inv .1),
+      inv .2,
+      omega (arith, c .before .before .before .before .before .before .before .before .before .before .before .before .before .before .before .before .take-in .kept .0, inv .3),
+      omega (arith, r .kept .0, inv .4),
+      search needs,
+      omega (arith, r .kept .0, r .ensures),
+    )
 
 enum-told-2 : tie.Need-enum-told-2 Inv-loop μ-loop
 enum-told-2 c = search needs
@@ -108,22 +126,23 @@ slice-reshare-prefix-play : tie.Need-slice-reshare-prefix-play Inv-loop μ-loop
 slice-reshare-prefix-play c = search needs
 
 slice-aggregate-play : tie.Need-slice-aggregate-play Inv-loop μ-loop
-slice-aggregate-play c = sym (length-take-le _ _ (let t = c .before .before .before .before .before .before .before .before .before .before .take-in in omega (arith, t .ensures, t .kept .0)))
+slice-aggregate-play c = sym (length-take-le _ _ (let t = c .before .before .before .before .before .before .before .before .before .before .before .take-in in omega (arith, t .ensures, t .kept .0)))
 
 play-requires : tie.Need-play-requires Inv-loop μ-loop
 play-requires c κs = search needs
 
 loop-less-2 : tie.Need-loop-less-2 Inv-loop μ-loop
-loop-less-2 c = omega (arith, c .before .before .before .before .before .before .before .before .before .before .before .before .before .before .before .before .before .before .before .before .before .before .before .before .loop-test .taken)
+loop-less-2 c = omega (arith, c .before .before .before .before .before .before .before .before .before .before .before .before .before .before .before .before .before .before .before .before .before .before .before .before .before .loop-test .taken)
 
 loop-again-2 : tie.Need-loop-again-2 Inv-loop μ-loop
 loop-again-2 c =
-    let inv = c .before .before .before .before .before .before .before .before .before .before .before .before .before .before .before .before .before .before .before .before .before .before .before .before .before .loop .inv in
-    let r = c .before .before .before .before .before .before .before .before .before .before .before .before .before .before .before .before .before .before .before .before .refill in (
+    let inv = c .before .before .before .before .before .before .before .before .before .before .before .before .before .before .before .before .before .before .before .before .before .before .before .before .before .before .loop .inv in
+    let r = c .before .before .before .before .before .before .before .before .before .before .before .before .before .before .before .before .before .before .before .before .before .refill in (
       inv .0,
       inv .1,
-      omega (arith, c .before .before .before .before .before .before .before .before .before .before .before .before .before .take-in .kept .0, inv .2),
-      omega (arith, r .kept .0, inv .3),
+      inv .2,
+      omega (arith, c .before .before .before .before .before .before .before .before .before .before .before .before .before .before .take-in .kept .0, inv .3),
+      omega (arith, r .kept .0, inv .4),
       search needs,
       omega (arith, r .kept .0, r .ensures),
     )
@@ -135,22 +154,23 @@ slice-reshare-prefix-play-2 : tie.Need-slice-reshare-prefix-play-2 Inv-loop μ-l
 slice-reshare-prefix-play-2 c = search needs
 
 slice-aggregate-play-2 : tie.Need-slice-aggregate-play-2 Inv-loop μ-loop
-slice-aggregate-play-2 c = sym (length-take-le _ _ (let t = c .before .before .before .before .before .before .before .before .before .before .take-in in omega (arith, t .ensures, t .kept .0)))
+slice-aggregate-play-2 c = sym (length-take-le _ _ (let t = c .before .before .before .before .before .before .before .before .before .before .before .take-in in omega (arith, t .ensures, t .kept .0)))
 
 play-requires-2 : tie.Need-play-requires-2 Inv-loop μ-loop
 play-requires-2 c κs = search needs
 
 loop-less-3 : tie.Need-loop-less-3 Inv-loop μ-loop
-loop-less-3 c = omega (arith, c .before .before .before .before .before .before .before .before .before .before .before .before .before .before .before .before .before .before .before .before .before .before .before .before .before .before .loop-test .taken)
+loop-less-3 c = omega (arith, c .before .before .before .before .before .before .before .before .before .before .before .before .before .before .before .before .before .before .before .before .before .before .before .before .before .before .before .loop-test .taken)
 
 loop-again-3 : tie.Need-loop-again-3 Inv-loop μ-loop
 loop-again-3 c =
-    let inv = c .before .before .before .before .before .before .before .before .before .before .before .before .before .before .before .before .before .before .before .before .before .before .before .before .before .before .before .loop .inv in
-    let r = c .before .before .before .before .before .before .before .before .before .before .before .before .before .before .before .before .before .before .before .before .before .before .refill in (
+    let inv = c .before .before .before .before .before .before .before .before .before .before .before .before .before .before .before .before .before .before .before .before .before .before .before .before .before .before .before .before .loop .inv in
+    let r = c .before .before .before .before .before .before .before .before .before .before .before .before .before .before .before .before .before .before .before .before .before .before .before .refill in (
       inv .0,
-      omega (arith, c .before .before .before .play2 .kept .1, inv .1),
-      omega (arith, c .before .before .before .before .before .before .before .before .before .before .before .before .before .before .before .take-in .kept .0, inv .2),
-      omega (arith, r .kept .0, inv .3),
+      inv .1,
+      omega (arith, c .before .before .before .play2 .kept .1, inv .2),
+      omega (arith, c .before .before .before .before .before .before .before .before .before .before .before .before .before .before .before .before .take-in .kept .0, inv .3),
+      omega (arith, r .kept .0, inv .4),
       search needs,
       omega (arith, r .kept .0, r .ensures),
     )
@@ -171,37 +191,39 @@ changes-requires : tie.Need-changes-requires Inv-loop μ-loop
 changes-requires c κs = search needs
 
 change-requires : tie.Need-change-requires Inv-loop μ-loop
-change-requires c κs = read-bounded _ _ (c .before .before .before .before .read-line .ensures)
+change-requires c κs = read-bounded _ _ (c .before .before .before .before .before .read-line .ensures)
 
 loop-less-4 : tie.Need-loop-less-4 Inv-loop μ-loop
-loop-less-4 c = omega (arith, c .before .before .before .before .before .before .before .before .before .before .before .before .before .before .before .before .before .before .before .before .before .before .before .before .before .before .before .before .loop-test .taken)
+loop-less-4 c = omega (arith, c .before .before .before .before .before .before .before .before .before .before .before .before .before .before .before .before .before .before .before .before .before .before .before .before .before .before .before .before .before .before .before .loop-test .taken)
 
 loop-again-4 : tie.Need-loop-again-4 Inv-loop μ-loop
 loop-again-4 c =
-    let inv = c .before .before .before .before .before .before .before .before .before .before .before .before .before .before .before .before .before .before .before .before .before .before .before .before .before .before .before .before .before .loop .inv in
-    let r = c .before .before .before .before .before .before .before .before .before .before .before .before .before .before .before .before .before .before .before .before .before .before .before .before .refill in (
-      omega (arith, c .before .before .before .change .kept .1, inv .0),
-      inv .1,
-      omega (arith, c .before .before .before .before .before .before .before .before .before .before .before .before .before .before .before .before .before .take-in .kept .0, inv .2),
-      omega (arith, r .kept .0, inv .3),
+    let inv = c .before .before .before .before .before .before .before .before .before .before .before .before .before .before .before .before .before .before .before .before .before .before .before .before .before .before .before .before .before .before .before .before .loop .inv in
+    let r = c .before .before .before .before .before .before .before .before .before .before .before .before .before .before .before .before .before .before .before .before .before .before .before .before .before .before .before .refill in (
+      omega (arith, c .before .before .before .before .before .change .kept .1 .0, inv .0),
+      omega (arith, c .before .before .before .before .before .change .kept .1 .1, inv .1),
+      inv .2,
+      omega (arith, c .before .before .before .before .before .before .before .before .before .before .before .before .before .before .before .before .before .before .before .before .take-in .kept .0, inv .3),
+      omega (arith, r .kept .0, inv .4),
       search needs,
       omega (arith, r .kept .0, r .ensures),
     )
 
 answer-requires-2 : tie.Need-answer-requires-2 Inv-loop μ-loop
-answer-requires-2 c κs = read-bounded _ _ (c .before .before .before .before .read-line .ensures)
+answer-requires-2 c κs = read-bounded _ _ (c .before .before .before .before .before .read-line .ensures)
 
 loop-less-5 : tie.Need-loop-less-5 Inv-loop μ-loop
-loop-less-5 c = omega (arith, c .before .before .before .before .before .before .before .before .before .before .before .before .before .before .before .before .before .before .before .before .before .before .before .before .before .before .before .loop-test .taken)
+loop-less-5 c = omega (arith, c .before .before .before .before .before .before .before .before .before .before .before .before .before .before .before .before .before .before .before .before .before .before .before .before .before .before .before .before .before .before .loop-test .taken)
 
 loop-again-5 : tie.Need-loop-again-5 Inv-loop μ-loop
 loop-again-5 c =
-    let inv = c .before .before .before .before .before .before .before .before .before .before .before .before .before .before .before .before .before .before .before .before .before .before .before .before .before .before .before .before .loop .inv in
-    let r = c .before .before .before .before .before .before .before .before .before .before .before .before .before .before .before .before .before .before .before .before .before .before .before .refill in (
-      omega (arith, c .before .before .answer2 .kept .1, inv .0),
-      inv .1,
-      omega (arith, c .before .before .before .before .before .before .before .before .before .before .before .before .before .before .before .before .take-in .kept .0, inv .2),
-      omega (arith, r .kept .0, inv .3),
+    let inv = c .before .before .before .before .before .before .before .before .before .before .before .before .before .before .before .before .before .before .before .before .before .before .before .before .before .before .before .before .before .before .before .loop .inv in
+    let r = c .before .before .before .before .before .before .before .before .before .before .before .before .before .before .before .before .before .before .before .before .before .before .before .before .before .before .refill in (
+      omega (arith, c .before .before .before .before .answer2 .kept .1 .0, inv .0),
+      omega (arith, c .before .before .before .before .answer2 .kept .1 .1, inv .1),
+      inv .2,
+      omega (arith, c .before .before .before .before .before .before .before .before .before .before .before .before .before .before .before .before .before .before .before .take-in .kept .0, inv .3),
+      omega (arith, r .kept .0, inv .4),
       search needs,
       omega (arith, r .kept .0, r .ensures),
     )
@@ -212,17 +234,20 @@ loop-less-6 c = search needs
 loop-again-6 : tie.Need-loop-again-6 Inv-loop μ-loop
 loop-again-6 c = search needs
 
-same-length-9 : tie.Need-same-length-9 Inv-loop μ-loop
-same-length-9 c = search needs
-
-same-length-10 : tie.Need-same-length-10 Inv-loop μ-loop
-same-length-10 c = search needs
-
 same-length-11 : tie.Need-same-length-11 Inv-loop μ-loop
 same-length-11 c = search needs
 
 same-length-12 : tie.Need-same-length-12 Inv-loop μ-loop
 same-length-12 c = search needs
+
+same-length-13 : tie.Need-same-length-13 Inv-loop μ-loop
+same-length-13 c = search needs
+
+same-length-14 : tie.Need-same-length-14 Inv-loop μ-loop
+same-length-14 c = search needs
+
+same-length-15 : tie.Need-same-length-15 Inv-loop μ-loop
+same-length-15 c = search needs
 
 returns-3 : tie.Need-returns-3 Inv-loop μ-loop
 returns-3 c = search needs
@@ -241,13 +266,15 @@ run-spec =
     same-length-2
     same-length-3
     same-length-4
+    same-length-5
     returns
     refill-requires
     failed-requires
-    same-length-5
     same-length-6
     same-length-7
     same-length-8
+    same-length-9
+    same-length-10
     returns-2
     slice-reshare-prefix-take-in
     slice-aggregate-take-in
@@ -286,8 +313,9 @@ run-spec =
     loop-again-5
     loop-less-6
     loop-again-6
-    same-length-9
-    same-length-10
     same-length-11
     same-length-12
+    same-length-13
+    same-length-14
+    same-length-15
     returns-3)

@@ -14,7 +14,7 @@ enum-known-call-2 : tie.Need-enum-known-call-2
 enum-known-call-2 c = search needs
 
 receive-into-requires : tie.Need-receive-into-requires
-receive-into-requires c κs = recv-small _ (c .before .before .before .before .before .before .pre) _ _ (c .before .before .before .call2 .given .1)
+receive-into-requires c κs = recv-small _ (c .before .before .before .before .before .before .before .before .pre) _ _ (c .before .before .before .before .call2 .given .1)
 
 put-bad-requires : tie.Need-put-bad-requires
 put-bad-requires c κs = search needs
@@ -22,11 +22,17 @@ put-bad-requires c κs = search needs
 same-length : tie.Need-same-length
 same-length c = search needs
 
+same-length-2 : tie.Need-same-length-2
+same-length-2 c = search needs
+
 returns : tie.Need-returns
 returns c = search needs
 
-same-length-2 : tie.Need-same-length-2
-same-length-2 c = search needs
+same-length-3 : tie.Need-same-length-3
+same-length-3 c = search needs
+
+same-length-4 : tie.Need-same-length-4
+same-length-4 c = search needs
 
 returns-2 : tie.Need-returns-2
 returns-2 c = search needs
@@ -44,7 +50,9 @@ answer-spec =
     receive-into-requires
     put-bad-requires
     same-length
-    returns
     same-length-2
+    returns
+    same-length-3
+    same-length-4
     returns-2
     returns-3)

@@ -17,6 +17,9 @@ receive-requires c κs = search needs
 same-length : tie.Need-same-length
 same-length c = search needs
 
+same-length-2 : tie.Need-same-length-2
+same-length-2 c = search needs
+
 returns : tie.Need-returns
 returns c = search needs
 
@@ -28,4 +31,5 @@ receive-into-spec =
     slice-aggregate-receive
     receive-requires
     same-length
+    same-length-2
     returns)

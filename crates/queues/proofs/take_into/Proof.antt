@@ -1,7 +1,6 @@
 -- `queues::take_into` is safe: the entries that were taken stand in the buffer.
 use native.Mathlib.Omega.{arith}
 use borrow.Author.Needs.{needs}
-use Rattle.queues.proofs.TakeLaws.{taken-fits}
 use Rattle.queues.proofs.take_into.Statement.{statement}
 use Rattle.queues.proofs.take_into.Tie as tie
 
@@ -9,7 +8,7 @@ take-requires : tie.Need-take-requires
 take-requires c κs = search needs
 
 put-taken-requires : tie.Need-put-taken-requires
-put-taken-requires c κs = let t = c .before .before .before .before .take in omega (arith, taken-fits _ _ _ _ _ _ _ (t .ensures .0), t .kept .1)
+put-taken-requires c κs = let t = c .before .before .before .before .take in omega (arith, t .ensures, t .kept .1)
 
 same-length : tie.Need-same-length
 same-length c = search needs
