@@ -1,4 +1,4 @@
--- W4, as statements: a batch of write notes is its tried notes as single calls, and demands 2 and 3 are read over those.
+-- W4, as statements, of any engine: a batch of write notes is its tried notes as single calls, and demands 2 and 3 are read over those.
 use Prim.Native.Nat.{ℕ, _+_, _≤_, _<_}
 use mathlib.Core.Path.{_≡_}
 use mathlib.Core.Logic.{_≢_, _↔_}

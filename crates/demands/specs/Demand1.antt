@@ -1,4 +1,4 @@
--- Demand 1, as statements about the calls of `tracker`, the start structure's reader and writer and the report's reader: of any record, any words, any bytes
+-- Demand 1, as statements about the calls, the start structure's reader and writer and the report's reader: of any record, any words, any bytes
 -- and any numbers. That each of them returns, whatever it is given, is the checker's own: none has a `requires`.
 use Prim.Native.Nat.{ℕ, _+_, _*_, _/_, _%_, _^_, _≤_, _<_}
 use lib.Dec.{leb, ltb, eqb}

@@ -1,4 +1,4 @@
--- Demand 3, as a statement about the calls of `tracker` and about the rules: "Two sessions from the same settings in which controller A gets the same calls,
+-- Demand 3, as a statement about the calls of an engine and about the rules: "Two sessions from the same settings in which controller A gets the same calls,
 -- while the others get anything: if in neither a start for A is refused for the shared descriptor limit, every answer to A, every byte of A's reports and A's
 -- pending units agree, and equal what demand 2's rules give for A's calls alone."
 use Prim.Native.Nat.{ℕ}
@@ -29,7 +29,7 @@ pub data Shared : Op → ℕ → Type 0 where
   limit : (x : List ℕ) → Shared (start x) 12
   sequence : (p : Part) → Shared (part p) 23
 
--- the words of two sessions may differ, as fresh makes them 0, and so may their areas; that there are as many words is meant, as fresh refuses another number of them
+-- the marks of two sessions may differ, as fresh makes them 0, and so may their areas; that they stand for as many words is meant, as fresh refuses another number of them
 pub record Demand3 (en : Engine) : Type 0 where
   -- what is asked of A's answers: that none is such a refusal, and nothing else
   pub premise : (h : List Did) → ((i : ℕ) (d : Did) → getElem? h i ≡ some d → Shared (d .op) (numberOf (d .answer)) → ⊥) → unhindered h ≡ true

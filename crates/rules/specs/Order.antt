@@ -225,6 +225,7 @@ abbrev pub sizeMade : Option ℕ → ℕ → Bool
 sizeMade none bytes = true
 sizeMade (some n) bytes = eqb bytes (entryBytes * n)
 
+-- what a call to a queue asks past 1 and 2, of an area of so many bytes
 abbrev pub queueTests : Seen → ℕ → QueueCall → List Test
 queueTests v bytes make =
     (placesOk bytes else 28)

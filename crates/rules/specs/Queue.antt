@@ -79,5 +79,6 @@ takenOf asked bytes entries = take asked (take (bytes / entryBytes) entries)
 abbrev pub closesWith : Bool → ℕ → ℕ → Bool
 closesWith stopped m fill = stopped && (ltb 0 m && eqb m fill)
 
+-- a take hands out the m oldest entries, and the others stay
 abbrev pub takenFrom : ℕ → Queued → Queued
 takenFrom m q = record { size = q .size; entries = drop m (q .entries); stopped = q .stopped }
