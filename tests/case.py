@@ -51,7 +51,7 @@ def read_cases(path):
 
 
 def of_shelf_too(cases):
-    """Those whose answers are the same in a shelf listing: a word that it has is `bad` in a session listing."""
+    """Those whose answers are the same in a shelf listing, but for groups: a word that it has is `bad` in a session listing."""
     return [case for case in cases if ": session only" not in case.name]
 
 
@@ -68,7 +68,7 @@ def read_example(listing):
     return Case(f"examples/{listing.name}", lines, answers)
 
 
-REPORT = re.compile(rb"0 susp [01] more [01] gran [0-9]+ runs ([0-9]+)")
+REPORT = re.compile(rb"0 susp [01] more [01] gran [0-9]+ runs ([0-9]+)(?: groups [0-9]+)?")  # a shelf listing has groups too (W10)
 YIELD = re.compile(rb"0 whole [1-9][0-9]*")
 TAKEN = re.compile(rb"0 taken ([0-9]+) closing [01]")
 

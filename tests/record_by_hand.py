@@ -1656,6 +1656,107 @@ MOVES = [
 ]
 
 
+# ---- Groups examined (document 02, W10): "groups of 64 units, numbered from the controller's unit 0"; "With room for k runs it is
+# the groups up to and including the one where run k + 1 begins, or, if there is none, all: the total of units divided by 64, rounded
+# up."
+
+def stays(groups, runs, **others):
+    """A report of so many runs for which there is room, while others stay."""
+    return numbers(more=1, runs=runs, groups=groups, **others)
+
+
+def no_more(groups, runs, **others):
+    return numbers(runs=runs, groups=groups, **others)
+
+
+def side_by_side(*lengths):
+    """Ranges of so many pages, each beginning where the one before it ends. All units pending, each of them is a run."""
+    return [(4096 * sum(lengths[:row]), length) for row, length in enumerate(lengths)]
+
+
+def all_pending(*lengths):
+    """Such ranges with all units pending, and with each room up to one too great: run k + 1 begins where k ranges end."""
+    total = -(-sum(lengths) // 64)
+    return [({"mark": ALL_ONES}, room, stays(sum(lengths[:room]) // 64 + 1, room) if room < len(lengths) else no_more(total, len(lengths)))
+            for room in range(1, len(lengths) + 2)]
+
+
+# The mark 1 sets bits 0, 65, 130, 195 and 260, and from 4,096 on again. So of 200 units at a base these are pending, and with room for
+# 1, 2 and so on runs so many groups are examined, the last of them with none that stays.
+TWO_HUNDRED = {
+    0: [2, 3, 4, 4],    # 0, 65, 130, 195
+    1: [3, 4, 4],       # 64, 129, 194
+    2: [3, 4, 4],       # 63, 128, 193
+    3: [2, 4, 4],       # 62, 127, 192
+    4: [2, 3, 4],       # 61, 126, 191
+    5: [2, 3, 4],       # 60, 125, 190
+    63: [2, 3, 4, 4],   # 2, 67, 132, 197
+    64: [2, 3, 4, 4],   # 1, 66, 131, 196
+    65: [2, 3, 4, 4],   # 0, 65, 130, 195
+    66: [3, 4, 4],      # 64, 129, 194
+    4098: [3, 4, 4],    # 63, 128, 193
+    8195: [2, 4, 4],    # 62, 127, 192
+    16184: [2, 3, 4, 4],  # 4, 69, 134, 199: the pool's last bits, from 12,288 + 3,896 on
+}
+
+GROUPS = [
+    *[(f"200 units at {base}", tracked(0, (0, 200), base=base), [
+        *[({"mark": 1}, room, stays(examined, room)) for room, examined in enumerate(groups[:-1], 1)],
+        ({"mark": 1}, len(groups), no_more(groups[-1], len(groups))),
+        ({"mark": 1}, 63, no_more(4, len(groups))),
+        ({}, 1, no_more(4, 0)),
+        ({"mark": ALL_ONES}, 1, no_more(4, 1)),
+    ]) for base, groups in TWO_HUNDRED.items()],
+    # Five units of another before it. Bits 5, 66 and 70 are its units 0, 61 and 65: by words of the pool the first two would be in
+    # two groups, and the last two in one.
+    ("100 units at 5, behind another's", shares((5, 0), (100, 5)), [
+        ({"id": 6, "mark": 0b100010}, 1, stays(1, 1)),
+        ({"id": 6, "mark": 0b100010}, 2, stays(2, 2)),
+        ({"id": 6, "mark": 0b100010}, 3, no_more(2, 3)),
+        ({"id": 6}, 1, no_more(2, 0)),
+        ({"id": 5, "mark": 0b100010}, 1, no_more(1, 1)),
+    ]),
+    # The total decides, pending or not: not how many words of the pool it lies in, which at 63 are one more.
+    *[(f"{units} units at {base}", alone((0, units), base=base), [
+        ({}, 1, no_more(groups, 0)), ({"mark": ALL_ONES}, 1, no_more(groups, 1)), ({"mark": ALL_ONES}, 63, no_more(groups, 1))])
+      for units, groups in ((1, 1), (2, 1), (63, 1), (64, 1), (65, 2), (127, 2), (128, 2), (129, 3), (4096, 64), (4097, 65), (16320, 255), (16321, 256))
+      for base in (0, 1, 63)],
+    ("16,384 units", alone((0, 16384)), [
+        ({}, 1, no_more(256, 0)), ({}, 63, no_more(256, 0)), ({"mark": ALL_ONES}, 1, no_more(256, 1)),
+        # Bits 0, 65 and so on; 4,095 and 4,096 are one run, the 64th.
+        *[({"mark": 1}, room, stays(65 * room // 64 + 1, room)) for room in (1, 2, 31, 61, 62, 63)],
+    ]),
+    *[(f"ranges of {lengths} units", alone(*side_by_side(*lengths)), all_pending(*lengths)) for lengths in (
+        (64, 64), (63, 65), (65, 63), (127, 1), (128, 1), (1, 199), (63, 1, 1, 63), (1, 62, 1, 1, 63), (16383, 1), (16320, 64), (16319, 65),
+        (64, 16256, 64), (64,) * 16, (1,) * 16, (63,) * 16, (65,) * 16, (1024,) * 16)],
+    *[(f"ranges of (63, 1, 1, 63) units at {base}", alone(*side_by_side(63, 1, 1, 63), base=base), all_pending(63, 1, 1, 63)) for base in (1, 63, 16256)],
+    # Pages 100 to 163 are units 0 to 63, pages 0 to 99 units 64 to 163, and pages 164 to 199 units 164 to 199.
+    ("64 pages, then 200 about them", alone((409600, 64), (0, 200)), [
+        ({"mark": ALL_ONES}, 1, stays(2, 1)),
+        ({"mark": ALL_ONES}, 2, stays(3, 2)),
+        ({"mark": ALL_ONES}, 3, no_more(4, 3)),
+        ({}, 1, no_more(4, 0)),
+    ]),
+    # Unit 0 is page 100; pages 0 to 99 are units 1 to 100, and pages 101 to 199 units 101 to 199.
+    ("page 100 before 200 pages", alone((409600, 1), (0, 200)), [
+        ({"mark": ALL_ONES}, 1, stays(1, 1)),
+        ({"mark": ALL_ONES}, 2, stays(2, 2)),
+        ({"mark": ALL_ONES}, 3, no_more(4, 3)),
+    ]),
+    # Units that are listed again are no further groups.
+    ("64 pages twice", alone((0, 64), (0, 64)), [({}, 1, no_more(1, 0)), ({"mark": ALL_ONES}, 1, no_more(1, 1))]),
+    ("64 pages twice, and page 64", alone((0, 64), (0, 64), (262144, 1)), [
+        ({}, 1, no_more(2, 0)), ({"mark": ALL_ONES}, 1, stays(2, 1)), ({"mark": ALL_ONES}, 2, no_more(2, 2))]),
+    ("sixteen times 64 pages", alone(*[(0, 64)] * 16), [({}, 1, no_more(1, 0)), ({"mark": ALL_ONES}, 1, no_more(1, 1))]),
+    # Suspended, and of another granularity.
+    ("200 units of 7 at 4,099", tracked(8, (0, 200), place=2, base=4099), [
+        ({"id": 7, "mark": 1}, room, stays(groups, room, suspended=1, granularity=8)) for room, groups in ((1, 2), (2, 4))] + [
+        ({"id": 7, "mark": 1}, 3, no_more(4, 3, suspended=1, granularity=8))]),
+    # Refused: 2, 5 and 8, and zeros.
+    ("200 units", tracked(0, (0, 200)), [({"id": 9, "mark": 1}, 1, [2]), ({"id": 6, "mark": 1}, 1, [5]), ({"mark": 1}, 0, [8])]),
+]
+
+
 # ---- Cases
 
 def cases():
@@ -1667,6 +1768,7 @@ def cases():
         yield from orders_of_a_part(build, said)
         yield from divided_headers(build, said)
         yield from orders_of_queue_calls(build, said)
+        yield from groups_examined(build, said)
     yield from small_queues()
     yield from several_sizes()
 
@@ -1799,6 +1901,15 @@ def several_sizes():
             yield named(Case(record, "take", **take(WORD - 1, 1000, size=32 * size)), f"{name}, take", *known)
 
 
+def groups_examined(build, said):
+    """Receives with room for so many runs (document 02, W10). Of each all first numbers are known."""
+    for name, change_it, calls in GROUPS:
+        record = changed(build, change_it)
+        for fields, room, known in calls:
+            case = Case(record, "receive", data=b"\xaa" * (16 + 16 * room), **{"id": 5, **fields})
+            yield case.named(f"groups, {name}, room for {room}{said}", *known)
+
+
 def on_bytes():
     """The plain engine's own (document 02, W9): "its own lent area of 16,384 bytes", and "0 is clear, all else pending". Every unit
     is pending, and those of 5 and 7 hold each value in turn. A write leaves them as they are, a report makes them 0, and a start
@@ -1807,12 +1918,14 @@ def on_bytes():
         yield Case(base(), call, mark=MIXED, **fields).named(f"{call} with {units} bytes", 1).on_bytes(units % 256, units=units)
     for call in ("start", "stop", "write", "receive", "suspend", "resume"):
         yield Case(base(), call, mark=MIXED, **{**BASE_CALLS[call], "id": 4}).named(f"{call} of an unknown controller on bytes", 2).on_bytes(3)
-    calls = {"write": numbers(), "batch": numbers(notes_done=2), "receive": numbers(runs=2), "start": (0,), "stop": (0,), "fresh": (0,)}
+    calls = {"write": numbers(), "batch": numbers(notes_done=2), "receive": numbers(runs=2, groups=1), "start": (0,), "stop": (0,), "fresh": (0,)}
     after = {"receive": dict(marks={0: ALL_ONES - 63}, runs=((65536, 4), (0, 2))), "start": dict(marks={0: 0x3BF}, bases=(0, 6, 7)),
              "stop": dict(marks={0: ALL_ONES - 63})}
     for value, (call, known) in itertools.product(range(255), calls.items()):
         case = Case(base(), call, mark=ALL_ONES, **BASE_CALLS[call]).named(f"{call}, all pending, unit 0 holds {value + 1}", *known, **after.get(call, {}))
         yield case.on_bytes(value, shown=8190 if value % 2 and call != "start" else 0)
+    for value, case in enumerate(groups_examined(base, " on bytes")):
+        yield case.on_bytes(value % 255)
 
 
 def named(case, name, known, *after):

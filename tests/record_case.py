@@ -4,6 +4,7 @@ import copy
 import functools
 import struct
 
+import examined
 import pool
 from parts import WORD
 from queues import ENTRY, Kept, after_post, after_take, kept_refusal
@@ -259,11 +260,11 @@ def take(asked, buffer, size=128, **lent):
 # ---- An answer
 
 NUMBERS = ["refusal", "row", "count", "suspended", "more", "granularity", "runs", "notes done", "cut", "whole",
-           "stopped", "taken", "closing"]
-PACKED_NUMBERS = struct.Struct("<BBQBBBQQBQBQB")
+           "stopped", "taken", "closing", "groups"]
+PACKED_NUMBERS = struct.Struct("<BBQBBBQQBQBQBQ")
 ROW_RULES = (19, 20, 21)  # a start that is refused with one of these answers its row; every other row is 0
 OWN_NUMBERS = {  # behind the row, of a done call; all others are 0
-    "write": {"count"}, "batch": {"count", "notes done", "cut"}, "receive": {"suspended", "more", "granularity", "runs"},
+    "write": {"count"}, "batch": {"count", "notes done", "cut"}, "receive": {"suspended", "more", "granularity", "runs", "groups"},
 }
 
 
@@ -285,7 +286,7 @@ def record_fields():
 
 def answer_fields():
     """Name and width of each field of an answer, in their order."""
-    yield from zip(NUMBERS, [1, 1, 8, 1, 1, 1, 8, 8, 1, 8, 1, 8, 1])
+    yield from zip(NUMBERS, [1, 1, 8, 1, 1, 1, 8, 8, 1, 8, 1, 8, 1, 8])
     at = 0
     for name, width in record_fields():
         yield f"record, byte {at}, {name}", width
@@ -335,8 +336,8 @@ def asked_by_bits(case, answer):
     known: the number, the row, zeros, and what was given (of a fresh the closed device). So it is of a batch by hand whose
     numbers are all known: what was given, save the mark words named; of a done part, save its own bytes of the area and the
     sequence; and of a done queue call, save its queue, an entry's place of the area and the front of its buffer. Of another
-    done call the first numbers are known, the record and all marks, but for the bits that a write, a batch or a report may
-    change, at times some mark words, runs and bases, and the rest is taken to be as answered."""
+    done call the first numbers are known, a report's groups, the record and all marks, but for the bits that a write, a batch or a
+    report may change, at times some mark words, runs and bases, and the rest is taken to be as answered."""
     known = case.known or as_answered(case, *answer[:2])
     if known[0] or case.call == "batch" and len(known) == len(NUMBERS):
         return given(case, known)
@@ -346,7 +347,7 @@ def asked_by_bits(case, answer):
         return queue_answer(case, known)
     asked = bytearray(answer)
     record, words, count = left(case, struct.unpack_from(f"<{pool.WORDS}Q", answer, MARKS_AT))
-    answered = {**numbers_of(answer), "count": count}
+    answered = {**numbers_of(answer), "count": count, "groups": groups_examined(case) if case.call == "receive" else 0}
     own = OWN_NUMBERS.get(case.call, ())
     counted = [answered[name] if name in own else 0 for name in NUMBERS]
     PACKED_NUMBERS.pack_into(asked, 0, *known, *counted[len(known):])
@@ -393,6 +394,16 @@ def left(case, answered):
     if case.call == "receive":
         marks &= answered | ~pool.mask(one)
     return record, pool.as_words(marks), count
+
+
+def groups_examined(case):
+    """How many groups a done receive examines (document 02, W10): over the marks before it, from the controller's unit 0 on."""
+    one = called(case.record, case.id)
+    if not 0 < pool.units(one) <= pool.POOL:
+        return 0  # only where it should have been refused
+    granularity, count = one.tracking
+    pending = (pool.as_number(case.lent_words()) & pool.mask(one)) >> one.base
+    return examined.groups(examined.stretches(4096 << granularity, one.ranges[:count]), pending, examined.room(len(case.data)))
 
 
 def bytes_left(case, asked):

@@ -32,8 +32,9 @@ class Maker:
         return self.random.random() < share
 
     def case(self):
-        # A start has the most ways to be refused, and a part nearly as many; posts and takes differ in what they find.
-        call = self.random.choice(CALLS + ["start"] * 3 + ["part", "post", "take"])
+        # A start has the most ways to be refused, and a part nearly as many; receives, posts and takes differ in what they find.
+        call = self.random.choice(CALLS + ["start"] * 3 + ["receive"] * 2 + ["part", "post", "take"])
+        self.great = 0.6 if call == "receive" else 0.2
         self.record = self.sound_record()
         if self.chance(0.5):
             # A fresh looks at the settings alone.
@@ -133,10 +134,12 @@ class Maker:
 
     def ranges(self, granularity):
         """Ranges that keep the rules 18 to 21, 10 and 11, in any order; half of the lists overlap, some end at 2^64. Most are
-        small, so that many fit the pool; some take half of what is left of it, or all."""
+        small, so that many fit the pool; some take half of what is left of it, or all, or a few groups. Where a report is asked for
+        most do, so that it examines a few groups or many (document 02, W10)."""
         pick, unit = self.random, 4096 << granularity
         left = self.units_left()
-        great = pick.choice([left, left, left // 2, left // 3]) if self.chance(0.2) else 0
+        few = min(left, 64 * pick.randint(1, 30) + pick.choice([-1, 0, 1, pick.randrange(64)]))
+        great = pick.choice([left, left, left // 2, left // 3, few, few, few]) if self.chance(self.great) else 0
         lengths = self.lengths(pick.choice([1, 2, 2, 3, 3, 4, 8, 15, 16]))
         rows = self.pushed_together(lengths, great) if self.chance(0.5) else self.apart(self.grown(lengths, great))
         if different_units(1, rows) > left:
@@ -334,7 +337,8 @@ class Maker:
     def mark(self):
         pick = self.random
         sparse = pick.getrandbits(64) & pick.getrandbits(64) & pick.getrandbits(64)
-        return pick.choice([0, 0, ALL_ONES, 0x5555555555555555, 1, 2**63, 6, sparse, pick.getrandbits(64)])
+        one = 1 << pick.randrange(64)
+        return pick.choice([0, 0, ALL_ONES, ALL_ONES - one, 0x5555555555555555, 1, 2**63, one, one, 6, sparse, pick.getrandbits(64)])
 
     def words(self):
         return self.random.choice(WRONG_WORDS) if self.chance(0.04) else pool.WORDS
@@ -409,8 +413,9 @@ class Maker:
         return {"address": at % MEMORY, "bytes": written % MEMORY}
 
     def receive_fields(self):
+        """With room for one run or a few; in places far apart there is room for some more."""
         pick = self.random
-        size = pick.choice([31, 32, 32, 47, 48, 64, 100, 272, 1024, pick.randrange(1025)])
+        size = pick.choice([31, 32, 32, 47, 48, 64, 100, 272, 1024, pick.randrange(1025), *[pick.randrange(32, 1025)] * 6])
         return {"data": pick.randbytes(size)}
 
     def suspend_fields(self):

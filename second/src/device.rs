@@ -21,6 +21,9 @@ pub struct Unit {
     pub address: u128,
 }
 
+/// "groups of 64 units" (W10)
+const GROUP_UNITS: usize = 64;
+
 /// A run: its first unit and how many units it has.
 #[derive(Clone, Copy, Debug, PartialEq, Eq)]
 struct Run {
@@ -205,8 +208,9 @@ impl Device {
 
     /// Receive: 1, 2, 5, 8. "The first so many are reported and made clear; later ones stay. More To Report is set
     /// exactly if a run stays." "Bytes after the last descriptor are unchanged. The granularity is the one with which
-    /// that controller was started."
-    pub fn receive(&mut self, id: u64, buffer: &mut [u8]) -> Result<(), Refusal> {
+    /// that controller was started." W10: "Put in the result how many groups of 64 units ... were examined", which is "taken
+    /// over the marks before the call".
+    pub fn receive(&mut self, id: u64, buffer: &mut [u8]) -> Result<usize, Refusal> {
         let controller = self.controller(id)?;
         let granularity = match controller.tracking {
             Tracking::Off => return Err(NOT_TRACKED),
@@ -217,8 +221,10 @@ impl Device {
         }
         let suspended = controller.suspended;
         let unit = unit_bytes(granularity);
+        let units: Vec<Unit> = units(controller).collect();
         let pending = self.pending.entry(id).or_default();
         let mut reported = runs(pending, unit);
+        let groups = groups_examined(&units, reported.get(room(buffer.len())));
         let more = reported.len() > room(buffer.len());
         reported.truncate(room(buffer.len()));
         let mut descriptors = Vec::new();
@@ -232,7 +238,7 @@ impl Device {
         for (place, byte) in buffer.iter_mut().zip(&bytes) {
             *place = *byte;
         }
-        Ok(())
+        Ok(groups)
     }
 
     /// Suspend: 1, 2, 15. "Suspend type 1 suspends, also where already suspended (house). Type 0 is a notice and
@@ -419,6 +425,18 @@ fn runs(pending: &BTreeSet<Unit>, unit: u128) -> Vec<Run> {
         runs.push(Run { first: *first, length });
     }
     runs
+}
+
+/// W10: "the groups up to and including the one where run k + 1 begins, or, if there is none, all".
+///
+/// So the controller's units are cut into groups, 64 each and the last what is left, and of these the one is sought that has
+/// the first unit of the run behind the last one reported.
+fn groups_examined(units: &[Unit], next_run: Option<&Run>) -> usize {
+    let groups = units.chunks(GROUP_UNITS);
+    match next_run {
+        Some(run) => groups.take_while(|group| !group.contains(&run.first)).count() + 1,
+        None => groups.count(),
+    }
 }
 
 #[cfg(test)]
@@ -743,7 +761,7 @@ mod tests {
         assert_eq!(device, before);
         // One descriptor in 47 bytes; those after it are unchanged.
         let mut buffer = [170; 47];
-        assert_eq!(device.receive(5, &mut buffer), Ok(()));
+        assert_eq!(device.receive(5, &mut buffer), Ok(1));
         let mut expected = [170; 47];
         expected[..32].copy_from_slice(&[
             0, 1, 5, 0, 1, 0, 0, 0, 0, 0, 0, 0, 0, 0, 0, 0, // more, identifier 5, one, granularity 0
@@ -753,7 +771,7 @@ mod tests {
         // The other one, while suspended.
         assert_eq!(device.suspend(5, 1), Ok(()));
         let mut buffer = [170; 47];
-        assert_eq!(device.receive(5, &mut buffer), Ok(()));
+        assert_eq!(device.receive(5, &mut buffer), Ok(1));
         let mut expected = [170; 47];
         expected[..32].copy_from_slice(&[
             0, 2, 5, 0, 1, 0, 0, 0, 0, 0, 0, 0, 0, 0, 0, 0, // suspended
@@ -762,7 +780,7 @@ mod tests {
         assert_eq!(buffer, expected);
         // Nothing left: a header alone.
         let mut buffer = [170; 32];
-        assert_eq!(device.receive(5, &mut buffer), Ok(()));
+        assert_eq!(device.receive(5, &mut buffer), Ok(1));
         let mut expected = [170; 32];
         expected[..16].copy_from_slice(&[0, 2, 5, 0, 0, 0, 0, 0, 0, 0, 0, 0, 0, 0, 0, 0]);
         assert_eq!(buffer, expected);
@@ -952,7 +970,7 @@ mod tests {
         assert_eq!(device.start(6, &one_range()), Ok(()));
         assert_eq!(device.write(&note(6, 65536, 1)), Ok(1));
         assert_eq!(device.batch(&[note(6, 69632, 1), note(5, 0, 1)]).unwrap().refusal, Some(4));
-        assert_eq!(device.receive(6, &mut [0; 64]), Ok(()));
+        assert_eq!(device.receive(6, &mut [0; 64]), Ok(1));
         assert_eq!(device.stop(6), Ok(()));
         for kind in 0..2 {
             assert_eq!(device.suspend(5, kind), Ok(()));

@@ -6,7 +6,7 @@ use crate::device::Device;
 use crate::lines::{play_lines, Cut};
 use crate::listing::{parse, Line, MOST_BYTES};
 use crate::report::read_report;
-use crate::rules::Reason;
+use crate::rules::{Reason, Refusal};
 use crate::structure::structure_bytes;
 
 /// What lies in the buffer of a `recv` or `take` line before the call; no answer may depend on it.
@@ -65,36 +65,49 @@ impl Session {
             Line::Stop { id } => self.device.stop(*id)?,
             Line::Write(note) => return Ok(format!("0 {}\n", self.device.write(note)?)),
             Line::Recv { id, buffer } => {
-                // At most 4096 bytes: a line with more is bad.
-                let mut bytes = vec![STALE; *buffer as usize];
-                self.device.receive(*id, &mut bytes)?;
-                return Ok(report_lines(&bytes));
+                let report = self.recv(*id, *buffer)?;
+                return Ok(format!("{}\n{}", report.first_line, report.others));
             }
             Line::Susp { id, kind } => self.device.suspend(*id, *kind)?,
             Line::Resume { id } => self.device.resume(*id)?,
         }
         Ok("0\n".to_string())
     }
+
+    /// A `recv` line. Its groups (W10) are none of the four numbers of a session listing; in a shelf listing they are printed.
+    pub fn recv(&mut self, id: u64, buffer: u64) -> Result<ReportLines, Refusal> {
+        // At most 4096 bytes: a line with more is bad.
+        let mut bytes = vec![STALE; buffer as usize];
+        let groups = self.device.receive(id, &mut bytes)?;
+        Ok(report_lines(&bytes, groups))
+    }
 }
 
-/// A done report's lines, read from its bytes.
-fn report_lines(buffer: &[u8]) -> String {
+/// A done report's lines, read from its bytes, the first one without its line feed; and how many groups were examined.
+pub struct ReportLines {
+    pub first_line: String,
+    pub groups: usize,
+    pub others: String,
+}
+
+fn report_lines(buffer: &[u8], groups: usize) -> ReportLines {
     let report = match read_report(buffer) {
         Some(report) => report,
         // Cannot be; and were it so, a comparison with another program would show it.
-        None => return "unreadable report\n".to_string(),
+        None => return ReportLines { first_line: "unreadable report".to_string(), groups, others: String::new() },
     };
-    let mut lines = format!(
-        "0 susp {} more {} gran {} runs {}\n",
+    let first_line = format!(
+        "0 susp {} more {} gran {} runs {}",
         bit(report.suspended),
         bit(report.more),
         report.granularity,
         report.descriptors.len()
     );
+    let mut others = String::new();
     for descriptor in &report.descriptors {
-        lines.push_str(&format!("{} {}\n", descriptor.address, descriptor.length));
+        others.push_str(&format!("{} {}\n", descriptor.address, descriptor.length));
     }
-    lines
+    ReportLines { first_line, groups, others }
 }
 
 fn bit(value: bool) -> u8 {

@@ -41,10 +41,26 @@ pub fn check<S: Clone + Debug + Default + PartialEq>(
     }
 }
 
-/// Lines of document 01. A shelf listing has "every line of document 01 with the answers of the session program".
+/// Lines of document 01. A shelf listing has "every line of document 01 with the answers of the session program", and at the
+/// end of a report's first line its groups (W10), which are left out here.
 fn session(lines: &[(&str, &str)]) {
     check(&Session::answer, lines);
-    check(&Shelf::answer, lines);
+    check(&|shelf: &mut Shelf, cut| without_groups(&shelf.answer(cut)), lines);
+}
+
+/// An answer of a shelf listing as a session listing has it.
+fn without_groups(answer: &str) -> String {
+    let (first_line, others) = answer.split_once('\n').unwrap();
+    match first_line.rsplit_once(" groups ") {
+        Some((before, groups)) if before.starts_with("0 susp ") => {
+            assert!((1..257).contains(&groups.parse::<usize>().unwrap()), "{}", answer);
+            format!("{}\n{}", before, others)
+        }
+        _ => {
+            assert!(!answer.starts_with("0 susp "), "{}", answer);
+            answer.to_string()
+        }
+    }
 }
 
 /// A `start` line with `count` ranges of one page each, every second page from `first` on.
@@ -1824,7 +1840,7 @@ fn random_calls() {
         let before = session.clone();
         let cut = Cut::Line(line.clone().into_bytes());
         let answer = session.answer(&cut);
-        assert_eq!(shelf.answer(&cut), answer, "{}", line);
+        assert_eq!(without_groups(&shelf.answer(&cut)), answer, "{}", line);
         assert!(answer.ends_with('\n'), "{}", line);
         assert_ne!(answer, "1\n", "{}", line);
         if answer == "0\n" || answer.starts_with("0 ") {

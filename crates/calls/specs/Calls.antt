@@ -276,6 +276,7 @@ received n r ws x =
             more = r .more;
             granularity = r .granularity;
             runs = length (r .descriptors);
+            groups = r .groups;
           };
       report = r;
       marks = ws;

@@ -45,13 +45,14 @@ pub struct Batched {
     pub refusal: u8,
 }
 
-// The answer to a receive: its number, and what the report's header says.
+// The answer to a receive: its number, what the report's header says, and how many groups of 64 units were examined (W10).
 pub struct Received {
     pub number: u8,
     pub suspended: bool,
     pub more: bool,
     pub granularity: u8,
     pub runs: usize,
+    pub groups: usize,
 }
 
 // The answer to a part of a state: its number, how many bytes the state has where this was its last part, else 0, and the record as it is afterwards.

@@ -112,7 +112,7 @@ write-zero en d ws w (some i) = note-zero en ws (controllerAt d (some i) .base) 
 abbrev SaidBy : Receipt → Type 0
 SaidBy r =
     r .answer
-    ≡ record { number = r .answer .number; suspended = r .report .suspended; more = r .report .more; granularity = r .report .granularity; runs = length (r .report .descriptors) }
+    ≡ record { number = r .answer .number; suspended = r .report .suspended; more = r .report .more; granularity = r .report .granularity; runs = length (r .report .descriptors); groups = r .report .groups }
 
 pub receive-says : (en : Engine) (d : Device) (ws : List ℕ) (id : ℕ) (x : List ℕ) → SaidBy (receiveBy en d ws id x)
 unfolding receiveBy

@@ -114,7 +114,7 @@ mark-calls en =
           (write-zero en d ws w (placeOf (d .settings) id)) (λ n i. refl) (λ n i. (refl, refl));
       receive = λ d ws id x.
           answers Receipt (λ r. r .answer .number)
-          (λ r. (r .answer ≡ record { number = r .answer .number; suspended = false; more = false; granularity = 0; runs = 0 }) × (r .marks ≡ ws) × (r .buffer ≡ x))
+          (λ r. (r .answer ≡ record { number = r .answer .number; suspended = false; more = false; granularity = 0; runs = 0; groups = 0 }) × (r .marks ≡ ws) × (r .buffer ≡ x))
           (receiveOrder (seenIn d (en .words ws) (placeOf (d .settings) id)) x) (receiveDone en d ws id x (placeOf (d .settings) id)) (λ n i. received n noReport ws x)
           (receive-zero en d ws id x (placeOf (d .settings) id)) (λ n i. refl) (λ n i. (refl, refl, refl));
       says = receive-says en;

@@ -65,12 +65,12 @@ pub record MarkCalls (en : Engine) : Type 0 where
   pub receive : (d : Device) (ws : List ℕ) (id : ℕ) (x : List ℕ)
       → let r = receiveBy en d ws id x in
       Answers (r .answer .number) (receiveOrder (seenIn d (en .words ws) (placeOf (d .settings) id)) x)
-      ((r .answer ≡ record { number = r .answer .number; suspended = false; more = false; granularity = 0; runs = 0 }) × (r .marks ≡ ws) × (r .buffer ≡ x))
-  -- done or refused, it answers what its report's header says
+      ((r .answer ≡ record { number = r .answer .number; suspended = false; more = false; granularity = 0; runs = 0; groups = 0 }) × (r .marks ≡ ws) × (r .buffer ≡ x))
+  -- done or refused, it answers what its report's header says, and the groups that were examined (W10)
   pub says : (d : Device) (ws : List ℕ) (id : ℕ) (x : List ℕ)
       → let r = receiveBy en d ws id x in
       r .answer
-      ≡ record { number = r .answer .number; suspended = r .report .suspended; more = r .report .more; granularity = r .report .granularity; runs = length (r .report .descriptors) }
+      ≡ record { number = r .answer .number; suspended = r .report .suspended; more = r .report .more; granularity = r .report .granularity; runs = length (r .report .descriptors); groups = r .report .groups }
 
 pub record Demand1 : Type 0 where
   pub mark-calls : MarkCalls inWords

@@ -141,7 +141,7 @@ pub fn run(
                         device = played.device;
                         waiting = played.waiting;
                     } else {
-                        waiting = playing::answer(device, marks, bytes, call, out, waiting);
+                        waiting = playing::answer(device, marks, bytes, call, shelf, out, waiting);
                     }
                 }
             }

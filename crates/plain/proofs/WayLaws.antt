@@ -59,6 +59,6 @@ module _ (d : Device) (area : List ℕ) (id i : ℕ) (e : whereIs d (wordsFor (l
   way size s read r h = rw (one-unit g size s, r) (way-of (rw r at h))
 
 -- no more runs are listed than there are units
-pub lists-few : (us : List Unit) (area : List ℕ) (base : ℕ) (x : List ℕ) (room count : ℕ) (more : Bool) (area′ x′ : List ℕ) → Lists us area base x room count more area′ x′
-    → count ≤ length us
-lists-few us area base x room count more area′ x′ s = reported-few room us (marksOf area base (length us)) count (s .count-is)
+pub lists-few : (us : List Unit) (area : List ℕ) (base : ℕ) (x : List ℕ) (room count : ℕ) (more : Bool) (groups : ℕ) (area′ x′ : List ℕ)
+    → Lists us area base x room count more groups area′ x′ → count ≤ length us
+lists-few us area base x room count more groups area′ x′ s = reported-few room us (marksOf area base (length us)) count (s .count-is)

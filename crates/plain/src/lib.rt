@@ -238,7 +238,8 @@ pub fn batch_of(d: Device, area: &mut [u8], list: [WriteRecord; 1025], n: usize)
 
 // ---- receive
 
-// Reports the controller's first pending runs into the buffer, as many as it holds, and makes their bytes 0. Refused, in this order: 1, 2, 5 not tracked, 8 a buffer below 32 bytes.
+// Reports the controller's first pending runs into the buffer, as many as it holds, and makes their bytes 0. The answer also says how many groups of 64 units were examined (W10).
+// Refused, in this order: 1, 2, 5 not tracked, 8 a buffer below 32 bytes.
 pub fn receive(d: Device, area: &mut [u8], id: u16, buffer: &mut [u8]) -> Received
     ensures { λ r. ⌜ (r ≡ receiveBy inBytes d (now (area .entry)) id (now (buffer .entry)) .answer)
         × (now (area .exit) ≡ receiveBy inBytes d (now (area .entry)) id (now (buffer .entry)) .marks)
@@ -276,6 +277,7 @@ pub fn receive(d: Device, area: &mut [u8], id: u16, buffer: &mut [u8]) -> Receiv
         more: listed.more,
         granularity: g,
         runs: listed.runs,
+        groups: listed.groups,
     }
 }
 

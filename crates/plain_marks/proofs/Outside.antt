@@ -71,7 +71,7 @@ module _ (w : Write) (us : List Unit) (area : List ℕ) (base count : ℕ) (area
 
 -- ---- a report
 
-module _ (us : List Unit) (area : List ℕ) (base : ℕ) (x : List ℕ) (room count : ℕ) (more : Bool) (area′ x′ : List ℕ) (s : Lists us area base x room count more area′ x′) (h : base ≤ length area) where
+module _ (us : List Unit) (area : List ℕ) (base : ℕ) (x : List ℕ) (room count : ℕ) (more : Bool) (groups : ℕ) (area′ x′ : List ℕ) (s : Lists us area base x room count more groups area′ x′) (h : base ≤ length area) where
   abbrev listed : ℕ
   listed = length (join (reportedRuns room us (marksOf area base (length us))))
 

@@ -9,7 +9,7 @@ use lib.ListN.{length, take, drop}
 use Rattle.little.specs.Little.{put, records}
 use Rattle.rules.specs.Lists.{any, join, nonEmpty}
 use Rattle.rules.specs.Units.{Unit, covers, Write, touches, mark, newly}
-use Rattle.rules.specs.Report.{descriptor, descriptorBytes, reportedRuns, laterRuns, marksLeft}
+use Rattle.rules.specs.Report.{descriptor, descriptorBytes, reportedRuns, laterRuns, groupsOn, marksLeft}
 use Rattle.rules.specs.declared.Range.{Range}
 use Rattle.pieces.specs.Pieces.{rowOf}
 
@@ -58,11 +58,12 @@ clearBytes (suc m) [] = []
 clearBytes (suc m) (zero ∷ bs) = 0 ∷ clearBytes (suc m) bs
 clearBytes (suc m) (suc b ∷ bs) = 0 ∷ clearBytes m bs
 
--- what a report with room for so many runs lists and leaves, of the marks of units that stand in an area from `base` on and of a buffer x. The bytes made
--- clear are the units' own: they are as many as the listed units, which are the first pending ones (`listed-after` in proofs/Outside.antt)
-pub record Lists (us : List Unit) (area : List ℕ) (base : ℕ) (x : List ℕ) (room count : ℕ) (more : Bool) (area′ x′ : List ℕ) : Type 0 where
+-- what a report with room for so many runs lists, examines and leaves, of the marks of units that stand in an area from `base` on and of a buffer x. The
+-- bytes made clear are the units' own: they are as many as the listed units, which are the first pending ones (`listed-after` in proofs/Outside.antt)
+pub record Lists (us : List Unit) (area : List ℕ) (base : ℕ) (x : List ℕ) (room count : ℕ) (more : Bool) (groups : ℕ) (area′ x′ : List ℕ) : Type 0 where
   pub count-is : count ≡ length (reportedRuns room us (marksOf area base (length us)))
   pub more-is : more ≡ nonEmpty (laterRuns room us (marksOf area base (length us)))
+  pub groups-is : groups ≡ groupsOn room us (marksOf area base (length us))
   pub marks-are : marksOf area′ base (length us) ≡ marksLeft room us (marksOf area base (length us))
   pub area-is : area′ ≡ take base area ++ clearBytes (length (join (reportedRuns room us (marksOf area base (length us))))) (drop base area)
   pub buffer-is : x′ ≡ put x 16 (records descriptorBytes (map descriptor (reportedRuns room us (marksOf area base (length us)))))

@@ -82,10 +82,11 @@ pub fn mark_units(
     count
 }
 
-// How many runs were listed, and whether one stays.
+// How many runs were listed, whether one stays, and how many groups of 64 units were examined (W10).
 pub struct Listed {
     pub runs: usize,
     pub more: bool,
+    pub groups: usize,
 }
 
 // Puts the descriptor of a run that has ended after those of `runs` others, and answers how many there are then. Where no run was growing, of 0 units,
@@ -103,7 +104,8 @@ fn end_run(buffer: &mut [u8], runs: usize, start: u64, units: u32) -> usize
 }
 
 // Lists the first runs, as many as there is room for, one descriptor after another from byte 16 of the buffer on, and makes their units' bytes 0. A run
-// grows while the row's next unit is the controller's and pending.
+// grows while the row's next unit is the controller's and pending. The groups examined are those up to the first unit of a run that there is no room for,
+// or all.
 // Nothing is refused: what `mark_units` leaves to the caller, and that the buffer has the room, is the caller's to keep.
 pub fn list_units(
     area: &mut [u8],
@@ -115,7 +117,7 @@ pub fn list_units(
     room: usize,
 ) -> Listed
     requires { ⌜ (0 < size) × (n ≤ 16) × (base + length (unitsFrom size 0 [] (take n ranges)) ≤ length (now area)) × Ends size ranges n × (16 + 16 * room ≤ length (now buffer)) ⌝ }
-    ensures { λ r. ⌜ Lists (unitsFrom size 0 [] (take n ranges)) (now (area .entry)) base (now (buffer .entry)) room (r .runs) (r .more) (now (area .exit)) (now (buffer .exit)) ⌝ }
+    ensures { λ r. ⌜ Lists (unitsFrom size 0 [] (take n ranges)) (now (area .entry)) base (now (buffer .entry)) room (r .runs) (r .more) (r .groups) (now (area .exit)) (now (buffer .exit)) ⌝ }
 {
     let mut runs: usize = 0;
     let mut place = base;
@@ -136,7 +138,11 @@ pub fn list_units(
                 } else {
                     if units == 0 {
                         if runs == room {
-                            return Listed { runs, more: true };
+                            return Listed {
+                                runs,
+                                more: true,
+                                groups: (place - base) / 64 + 1,
+                            };
                         }
                         start = address;
                     }
@@ -148,5 +154,9 @@ pub fn list_units(
         }
         runs = end_run(buffer, runs, start, units);
     }
-    Listed { runs, more: false }
+    Listed {
+        runs,
+        more: false,
+        groups: (place - base + 63) / 64,
+    }
 }

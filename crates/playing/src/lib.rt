@@ -205,16 +205,31 @@ fn put_descriptors(report: &[u8], runs: usize, out: &mut Buffer, waiting: Waitin
     waiting
 }
 
-// Puts the answer of a done receive: what the report's header says, and a line for each descriptor.
-fn put_report(received: Received, report: &[u8], out: &mut Buffer, waiting: Waiting) -> Waiting
+// Puts how many groups a receive examined (W10), where they are shown.
+fn put_groups(groups: usize, shown: bool, out: &mut Buffer, waiting: Waiting) -> Waiting {
+    if !shown {
+        return waiting;
+    }
+    put_named(out, waiting, b" groups ", groups as u64)
+}
+
+// Puts the answer of a done receive: what the report's header says, the groups where they are shown, and a line for each descriptor.
+fn put_report(
+    received: Received,
+    report: &[u8],
+    shown: bool,
+    out: &mut Buffer,
+    waiting: Waiting,
+) -> Waiting
     requires { ⌜ 16 + 16 * received .runs ≤ length (now report) ⌝ }
 {
     let a = put_named(out, waiting, b"0 susp ", bit(received.suspended));
     let b = put_named(out, a, b" more ", bit(received.more));
     let c = put_named(out, b, b" gran ", received.granularity as u64);
     let e = put_named(out, c, b" runs ", received.runs as u64);
-    let f = output::put_byte(out, e, b'\n');
-    put_descriptors(report, received.runs, out, f)
+    let f = put_groups(received.groups, shown, out, e);
+    let h = output::put_byte(out, f, b'\n');
+    put_descriptors(report, received.runs, out, h)
 }
 
 // Plays a `recv` with a buffer of these bytes.
@@ -224,6 +239,7 @@ fn receive(
     bytes: &mut [u8],
     id: u16,
     report: &mut [u8],
+    shown: bool,
     out: &mut Buffer,
     waiting: Waiting,
 ) -> Waiting {
@@ -231,7 +247,7 @@ fn receive(
     if received.number != 0 {
         return put_answer(out, waiting, received.number);
     }
-    put_report(received, report, out, waiting)
+    put_report(received, report, shown, out, waiting)
 }
 
 // Plays a `recv` with a buffer of `size` bytes.
@@ -241,13 +257,23 @@ fn receive_into(
     bytes: &mut [u8],
     id: u16,
     size: usize,
+    shown: bool,
     out: &mut Buffer,
     waiting: Waiting,
 ) -> Waiting
     requires { ⌜ size ≤ 4096 ⌝ }
 {
     let mut report = [0u8; 4096];
-    receive(d, marks, bytes, id, &mut report[..size], out, waiting)
+    receive(
+        d,
+        marks,
+        bytes,
+        id,
+        &mut report[..size],
+        shown,
+        out,
+        waiting,
+    )
 }
 
 // ---- lines
@@ -332,6 +358,7 @@ pub fn answer(
     marks: &mut [u64],
     bytes: &mut [u8],
     call: Call,
+    groups: bool,
     out: &mut Buffer,
     waiting: Waiting,
 ) -> Waiting
@@ -343,7 +370,7 @@ pub fn answer(
             address,
             bytes: length,
         } => write(d, marks, bytes, id, address, length, out, waiting),
-        Call::Recv { id, size } => receive_into(d, marks, bytes, id, size, out, waiting),
+        Call::Recv { id, size } => receive_into(d, marks, bytes, id, size, groups, out, waiting),
         _ => put_bad(out, waiting),
     }
 }

@@ -6,9 +6,9 @@
 // these (1024; those past them are zeros), how many records a batch has (2), a part's indicator (1), low and high (4 each) and count (4), how many bytes of
 // area are lent (2), what is in those past the first 64 (1), these 64, how many entries a take asks for (4), from which byte on an area is shown (2), whether the
 // engine is the plain one (1, at 2876), how many bytes are lent to that in place of mark words (2) and what pending ones hold (1), zeros.
-// An answer has 11100: the number (1), a start's row (1), the count of a write or a batch (8), a receive's suspended, more and granularity (1 each) and runs (8),
+// An answer has 11108: the number (1), a start's row (1), the count of a write or a batch (8), a receive's suspended, more and granularity (1 each) and runs (8),
 // how many notes a batch did (8) and what cut it (1), how many bytes a part yields (8), whether a post has stopped its queue (1), how many entries a take took
-// (8) and whether the closing one (1), then the record (1732), 512 mark words (of the plain engine a bit for each byte, set where it is pending), 1024 lent bytes
+// (8) and whether the closing one (1), how many groups a receive examined (8), then the record (1732), 512 mark words (of the plain engine a bit for each byte, set where it is pending), 1024 lent bytes
 // and 4200 bytes of area as they are after the call, with zeros past the lent ones.
 
 use calls::Changed;
@@ -386,7 +386,7 @@ fn put_words(out: &mut Buffer, waiting: Waiting, words: &[u64]) -> Waiting {
     waiting
 }
 
-// Puts what a receive answers, less its number.
+// Puts what a receive answers, less its number and its groups.
 fn put_received(out: &mut Buffer, waiting: Waiting, r: Received) -> Waiting {
     let a = put_flag(out, waiting, r.suspended);
     let b = put_flag(out, a, r.more);
@@ -408,7 +408,8 @@ fn put_answer(out: &mut Buffer, waiting: Waiting, a: Answer) -> Waiting {
     let j = put_flag(out, i, a.stopped);
     let k = put_number(out, j, 8, a.taken as u64);
     let l = put_flag(out, k, a.closing);
-    put_device(out, l, device)
+    let m = put_number(out, l, 8, received.groups as u64);
+    put_device(out, m, device)
 }
 
 // How many there are: as a case says, and no more than there is room for.
@@ -429,6 +430,7 @@ fn not_received(number: u8) -> Received {
         more: false,
         granularity: 0,
         runs: 0,
+        groups: 0,
     }
 }
 

@@ -14,6 +14,7 @@ pub mod Isolation
 pub mod StartLaws
 pub mod NameLaws
 pub mod HeldLaws
+pub mod GroupLaws
 pub mod ReportLaws
 pub mod ListedLaws
 pub mod Theorems

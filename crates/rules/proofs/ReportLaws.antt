@@ -8,7 +8,7 @@ use Prim.Native.Nat.{ℕ, zero, suc, _+_, _≤_, _<_}
 use native.Mathlib.Omega.{arith}
 use lib.Dec.{eqb}
 use borrow.Author.Tests.{eqb-true, eq-eqb}
-use lib.ListN.{length, take, drop, getElem?}
+use lib.ListN.{length, take, drop, getElem?, length-map}
 use Rattle.rules.specs.Lists.{all, join, nonEmpty}
 use Rattle.rules.specs.Settings.{unitSize}
 use Rattle.rules.specs.Units.{Unit, Write, touches, mark, newly, pending}
@@ -16,6 +16,7 @@ use Rattle.rules.specs.Report.{follows, withFirst, runs, reportedRuns, m
 use Rattle.rules.specs.Demands.{isRow, areCut, becomes, setIn, Runs, Reports, Writes}
 use Rattle.rules.proofs.ListLaws.{All, All-map, All-left, All-at, map-at, join-take-drop, and-left, and-right, and-intro, not-intro}
 use Rattle.rules.proofs.UnitLaws.{Free, Apart, Sized, All-pending, Apart-pending, newly-is, unitSize-pos}
+use Rattle.rules.proofs.GroupLaws.{groups-first, groups-all, groups-most}
 use Rattle.rules.proofs.RunLaws.{listed, runs-join, runs-unlisted, first-runs, marksLeft-map, more-exactly}
 
 -- ---- runs are cut where the next unit does not follow, and nowhere else
@@ -141,6 +142,9 @@ reports-map b f g k us sized separate =
         (λ e. nonEmpty-not (pending us (marksLeft k us (map f us))) .0 (sym (more-exactly b g k us (map f us)) ∙ e)),
         (λ e. more-exactly b g k us (map f us) ∙ nonEmpty-not (pending us (marksLeft k us (map f us))) .1 e),
       );
+      examined = λ n more e c. groups-first k us (map f us) n (length-map us f) more e c;
+      examined-all = λ none. groups-all k us (map f us) none;
+      examined-most = λ few. groups-most k us (map f us) (length-map us f) few;
     }
 
 -- ---- the count of a write

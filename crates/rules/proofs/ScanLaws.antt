@@ -235,7 +235,7 @@ pending-trues (u ∷ us) [] h = refl
 pending-trues (u ∷ us) (true ∷ p) h = ap suc (pending-trues us p (omega arith))
 pending-trues (u ∷ us) (false ∷ p) h = pending-trues us p (omega arith)
 
-pending-split : (n : ℕ) (us : List Unit) (p : List Bool) → pending us p ≡ pending (take n us) (take n p) ++ pending (drop n us) (drop n p)
+pub pending-split : (n : ℕ) (us : List Unit) (p : List Bool) → pending us p ≡ pending (take n us) (take n p) ++ pending (drop n us) (drop n p)
 pending-split zero us p = refl
 pending-split (suc n) [] p = refl
 pending-split (suc n) (u ∷ us) [] = refl ∙ sym (pending-none (drop n us))

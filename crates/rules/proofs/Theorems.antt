@@ -22,7 +22,7 @@ use Rattle.rules.specs.History.{Did, only, isAccepted, pendingBy}
 use Rattle.rules.specs.Demands.{sessionEnd, sessionHistory, Refusals, Soundness, Pending, Demand2, Agree, unhindered, lentBytes, Demand3, Granularities}
 use Rattle.rules.specs.ControllerState.{stateOk}
 use Rattle.rules.specs.Queue.{closingEntry}
-use Rattle.rules.specs.Worked.{cases, Worked, WorkedStates}
+use Rattle.rules.specs.Worked.{cases, Worked, WorkedStates, WorkedGroups}
 use Rattle.rules.specs.Layouts.{Layouts}
 use Rattle.rules.specs.declared.Settings.{Settings}
 use Rattle.rules.proofs.ListLaws.{map-at, some-inj}
@@ -161,6 +161,9 @@ worked = refl
 pub worked-states : WorkedStates
 unfolding stateOk numberAt
 worked-states = refl
+
+pub worked-groups : WorkedGroups
+worked-groups = refl
 
 -- ---- the bytes of a start structure and of a report
 

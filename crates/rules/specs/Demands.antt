@@ -1,6 +1,6 @@
 -- What is asked of the rules, as statements, each proved in proofs/Theorems.antt. A session is any list of calls from a fresh device, each call given what
 -- the last one left; a refused fresh makes the closed device, and the statements hold of it too.
-use Prim.Native.Nat.{ℕ, suc, _+_, _*_, _%_, _^_, _≤_, _<_}
+use Prim.Native.Nat.{ℕ, suc, _+_, _*_, _/_, _%_, _^_, _≤_, _<_}
 use mathlib.Core.Path.{_≡_}
 use mathlib.Core.Logic.{_≢_, _↔_, _⊎_}
 use mathlib.Core.Bool.{Bool, true, false, _&&_, not}
@@ -187,6 +187,11 @@ pub record Reports (b : Bool) (g k : ℕ) (us : List Unit) (p : List Bool) : Typ
       → any (λ (d : Descriptor). lists g d u) (reportOn b g k us p .descriptors) ≡ false → getElem? (marksLeft k us p) n ≡ getElem? p n
   -- More is clear exactly when nothing stays pending
   pub more : (reportOn b g k us p .more ≡ false) ↔ (pending us (marksLeft k us p) ≡ [])
+  -- W10: if a run stays, the groups up to that of its first unit n, which is the first to stay pending. If none stays, all groups
+  pub examined : (n : ℕ) → reportOn b g k us p .more ≡ true → getElem? (marksLeft k us p) n ≡ some true → pending (take n us) (take n (marksLeft k us p)) ≡ []
+      → reportOn b g k us p .groups ≡ n / 64 + 1
+  pub examined-all : reportOn b g k us p .more ≡ false → reportOn b g k us p .groups ≡ (length us + 63) / 64
+  pub examined-most : length us ≤ 16384 → reportOn b g k us p .groups ≤ 256
 
 -- "That fit": a buffer of so many bytes has room for as many descriptors as fit behind 16 bytes, and one more would not fit
 pub record Room (bytes : ℕ) : Type 0 where

@@ -306,7 +306,7 @@ newlyOf (posted b) = 0
 newlyOf (taken es b) = 0
 
 abbrev pub noReport : Report
-noReport = record { suspended = false; more = false; granularity = 0; descriptors = [] }
+noReport = record { suspended = false; more = false; granularity = 0; descriptors = []; groups = 0 }
 
 abbrev pub reportOf : Answer → Report
 reportOf (reported r) = r

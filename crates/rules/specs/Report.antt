@@ -41,11 +41,13 @@ abbrev pub descriptor : List Unit → Descriptor
 descriptor [] = record { address = 0; length = 0 }
 descriptor (u ∷ us) = record { address = u .address; length = suc (length us) }
 
+-- what a report says; and of the call that makes it, how many groups of units it examined (W10), which is in no byte of the report
 pub record Report : Type 0 where
   pub suspended : Bool
   pub more : Bool
   pub granularity : ℕ
   pub descriptors : List Descriptor
+  pub groups : ℕ
 
 -- a buffer of so many bytes holds so many runs
 abbrev pub room : ℕ → ℕ
@@ -58,16 +60,6 @@ reportedRuns k us p = take k (runs (pending us p))
 abbrev pub laterRuns : ℕ → List Unit → List Bool → List (List Unit)
 laterRuns k us p = drop k (runs (pending us p))
 
--- a report with room for k runs, of a controller that is suspended or not and was started with granularity g; More To Report is set if a run stays
-abbrev pub reportOn : Bool → ℕ → ℕ → List Unit → List Bool → Report
-reportOn b g k us p =
-    record {
-      suspended = b;
-      more = nonEmpty (laterRuns k us p);
-      granularity = g;
-      descriptors = map descriptor (reportedRuns k us p);
-    }
-
 -- the marks with the first m pending units made clear
 abbrev pub clearFirst : ℕ → List Bool → List Bool
 clearFirst zero p = p
@@ -78,6 +70,39 @@ clearFirst (suc m) (false ∷ p) = false ∷ clearFirst (suc m) p
 -- the marks that a report with room for k runs leaves: the units of the reported runs, which are the first pending ones, are made clear
 abbrev pub marksLeft : ℕ → List Unit → List Bool → List Bool
 marksLeft k us p = clearFirst (length (join (reportedRuns k us p))) p
+
+-- ---- W10: the groups examined
+
+-- the number of the pending unit before which m are pending: how many units stand before it
+abbrev pub pendingAt : ℕ → List Bool → ℕ
+pendingAt m [] = 0
+pendingAt m (false ∷ p) = suc (pendingAt m p)
+pendingAt zero (true ∷ p) = 0
+pendingAt (suc m) (true ∷ p) = suc (pendingAt m p)
+
+-- a group has so many units, numbered from the controller's unit 0
+abbrev pub groupUnits : ℕ
+groupUnits = 64
+
+-- "With room for k runs it is the groups up to and including the one where run k + 1 begins, or, if there is none, all: the total of units divided by 64, rounded up"
+abbrev pub groupsOn : ℕ → List Unit → List Bool → ℕ
+groupsOn k us p =
+    cond (nonEmpty (laterRuns k us p))
+    (pendingAt (length (join (reportedRuns k us p))) p / groupUnits + 1)
+    ((length us + (groupUnits - 1)) / groupUnits)
+
+-- ---- the report
+
+-- a report with room for k runs, of a controller that is suspended or not and was started with granularity g; More To Report is set if a run stays
+abbrev pub reportOn : Bool → ℕ → ℕ → List Unit → List Bool → Report
+reportOn b g k us p =
+    record {
+      suspended = b;
+      more = nonEmpty (laterRuns k us p);
+      granularity = g;
+      descriptors = map descriptor (reportedRuns k us p);
+      groups = groupsOn k us p;
+    }
 
 -- ---- its bytes
 

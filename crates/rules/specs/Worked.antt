@@ -5,9 +5,10 @@ use Prim.Native.Nat.{ℕ, zero, suc, _+_, _-_, _^_}
 use mathlib.Core.Path.{_≡_}
 use mathlib.Core.Bool.{Bool, true, false}
 use mathlib.Core.List.{List, [], _∷_, _++_, map}
-use lib.ListN.{take, drop, replicate, set}
+use lib.ListN.{length, take, drop, replicate, set}
 use Rattle.rules.specs.StartData.{startBytes}
-use Rattle.rules.specs.Report.{Descriptor}
+use Rattle.rules.specs.Units.{units}
+use Rattle.rules.specs.Report.{Descriptor, groupsOn}
 use Rattle.rules.specs.ControllerState.{stateOk}
 use Rattle.rules.specs.Order.{start, stop, write, receive, suspend, resume, part, queue, make, post}
 use Rattle.rules.specs.Order as order
@@ -74,9 +75,12 @@ with n at v = set (zeros n) at v
 abbrev state60 : List ℕ
 state60 = set (with 60 16 1) 32 2
 
--- a report of some runs with More To Report set or clear
+-- a report of some runs with More To Report set or clear, for which so many groups were examined (W10)
+abbrev reportIn : ℕ → Bool → List Descriptor → Answer
+reportIn groups more ds = reported (record { suspended = false; more = more; granularity = 0; descriptors = ds; groups = groups })
+
 abbrev report : Bool → List Descriptor → Answer
-report more ds = reported (record { suspended = false; more = more; granularity = 0; descriptors = ds })
+report more ds = reportIn 1 more ds
 
 abbrev run : ℕ → ℕ → Descriptor
 run a n = record { address = a; length = n }
@@ -266,3 +270,54 @@ states =
 
 abbrev pub WorkedStates : Type 0
 WorkedStates = map (λ (c : StateCase). stateOk (c .bytes)) states ≡ map (λ (c : StateCase). c .ok) states
+
+-- ---- W10: the groups that a report examines, of a controller with these ranges of granularity 0, of which the units with these numbers are pending, with room for so many
+-- runs
+
+pub record GroupCase : Type 0 where
+  pub ranges : List Range
+  pub numbers : List ℕ
+  pub room : ℕ
+  pub groups : ℕ
+
+abbrev grouped : List Range → List ℕ → ℕ → GroupCase
+grouped rs ns n = record { ranges = rs; numbers = ns; room = 1; groups = n }
+
+-- so many marks, of which those with these numbers are set
+abbrev marked : ℕ → List ℕ → List Bool
+marked n [] = replicate n false
+marked n (i ∷ is) = set (marked n is) i true
+
+-- a range of 64 units, and one of 200 from address 0 on that has them too
+abbrev overlapping : List Range
+overlapping = range 409600 64 ∷ range 0 200 ∷ []
+
+abbrev pub groupCases : List GroupCase
+groupCases =
+    -- report after report, with room for one run
+    grouped (range 65536 200 ∷ []) (0 ∷ 70 ∷ 130 ∷ []) 2
+    ∷ grouped (range 65536 200 ∷ []) (70 ∷ 130 ∷ []) 3
+    ∷ grouped (range 65536 200 ∷ []) (130 ∷ []) 4
+    ∷ grouped (range 65536 200 ∷ []) [] 4
+    -- wherever its share begins in the pool
+    ∷ grouped (range 65536 100 ∷ []) (0 ∷ 59 ∷ []) 1
+    -- one run over the border of two groups, and two runs at it
+    ∷ grouped (range 65536 128 ∷ []) (63 ∷ 64 ∷ []) 2
+    ∷ grouped (range 65536 64 ∷ range 327680 64 ∷ []) (63 ∷ 64 ∷ []) 2
+    ∷ grouped (range 65536 128 ∷ []) (0 ∷ 2 ∷ []) 1
+    -- units are numbered in the order of the list, and one of two ranges once: the second range's units 0 and 2, then 0 and 170, then 100 and 0
+    ∷ grouped overlapping (64 ∷ 66 ∷ []) 2
+    ∷ grouped overlapping (64 ∷ 170 ∷ []) 3
+    ∷ grouped overlapping (0 ∷ 64 ∷ []) 2
+    ∷ grouped overlapping [] 4
+    -- rounded up
+    ∷ grouped (range 65536 1 ∷ []) [] 1
+    ∷ grouped (range 65536 64 ∷ []) [] 1
+    ∷ grouped (range 65536 65 ∷ []) [] 2
+    ∷ []
+
+abbrev groupsIn : GroupCase → ℕ
+groupsIn c = let us = units 0 (c .ranges) in groupsOn (c .room) us (marked (length us) (c .numbers))
+
+abbrev pub WorkedGroups : Type 0
+WorkedGroups = map groupsIn groupCases ≡ map (λ (c : GroupCase). c .groups) groupCases

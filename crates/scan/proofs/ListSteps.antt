@@ -1,13 +1,14 @@
 -- Laws of the loop that lists runs: what was listed are the first runs, what was passed is clear, and what is left are the later runs.
 -- Assumes nothing.
 use mathlib.Core.Path.{_≡_, refl, sym, ap, ap₂, _∙_}
-use mathlib.Core.Bool.{Bool, true, false}
+use mathlib.Core.Bool.{Bool, true, false, true≢false}
 use mathlib.Core.List.{List, [], _∷_, _++_, map}
-use Prim.Native.Nat.{ℕ, zero, suc, _+_, _-_, _*_, _≤_, _<_}
+use mathlib.Core.Option.{some}
+use Prim.Native.Nat.{ℕ, zero, suc, _+_, _-_, _*_, _/_, _%_, _≤_, _<_}
 use native.Mathlib.Numerals.{add-one}
 use native.Mathlib.Omega.{arith}
 use native.Mathlib.Decide.{decLt}
-use lib.ListN.{length, getD, take, drop, length-append, length-take, length-drop, length-map, List·getD-append, drop-of-length-le}
+use lib.ListN.{length, getD, getElem?, take, drop, length-append, length-take, length-drop, length-map, List·getD-append, drop-of-length-le}
 use lib.Seq.{ext-getD, getD-append-add, getD-drop, drop-at, take-all, drop-drop}
 use Rattle.bits.specs.Span.{fill}
 use Rattle.bits.specs.Share.{getShare, putShare}
@@ -20,14 +21,15 @@ use Rattle.report_data.proofs.Blocks.{descriptorBytes-length}
 use Rattle.rules.specs.Lists.{join, nonEmpty}
 use Rattle.rules.specs.Settings.{unitSize}
 use Rattle.rules.specs.Units.{Unit, unitsOfRow, units, pending}
-use Rattle.rules.specs.Report.{runs, descriptor, descriptorBytes, marksLeft}
+use Rattle.rules.specs.Report.{runs, descriptor, descriptorBytes, laterRuns, marksLeft}
 use Rattle.rules.specs.declared.Range.{Range}
 use Rattle.rules.proofs.ListLaws.{join-take-drop}
 use Rattle.rules.proofs.RunLaws.{runs-join}
-use Rattle.rules.proofs.ScanLaws.{clearBefore, clearFirst-clearBefore, descriptor-row}
-use Rattle.scan.specs.Scan.{Stands, RunFound, Lists}
+use Rattle.rules.proofs.GroupLaws.{groups-to, groups-all}
+use Rattle.rules.proofs.ScanLaws.{pending-skip, pending-split, clearBefore, clearFirst-clearBefore, descriptor-row}
+use Rattle.scan.specs.Scan.{Stands, Lists}
 use Rattle.scan.specs.declared.Run.{Run}
-use Rattle.scan.proofs.ScanSteps.{stands-start}
+use Rattle.scan.proofs.ScanSteps.{RunFound, stands-start}
 
 -- ---- the marks with all before a place clear
 
@@ -79,6 +81,12 @@ clearBefore-fill n from to p h k l f =
         fill-at-in false (clearBefore n p) from (to - from) i false (omega arith) (omega arith) (omega (arith, clearBefore-length n p (omega arith))) ∙ sym (clearBefore-below to p l i c)
     at i q (no a) (no b) (no c) =
         fill-at-above false (clearBefore n p) from (to - from) i false (omega arith) ∙ clearBefore-above n p (omega arith) i (omega arith) ∙ sym (clearBefore-above to p l i (omega arith))
+
+-- a set mark
+set-at : (p : List Bool) (i : ℕ) → getD p i false ≡ true → getElem? p i ≡ some true
+set-at [] i e = absurd (true≢false (sym e))
+set-at (b ∷ p) zero e = ap some e
+set-at (b ∷ p) (suc i) e = set-at p i e
 
 -- ---- the first element of what is left of a list
 
@@ -158,21 +166,30 @@ module _ (g : ℕ) (rs : List Range) (l : List Bool) (base : ℕ) (x : List ℕ)
     all-units : (k : ℕ) → length (join (take k every)) + length (join (drop k every)) ≡ length (pending us p)
     all-units k = sym (length-append (join (take k every)) (join (drop k every))) ∙ ap length (join-take-drop k every ∙ runs-join (pending us p))
 
-    -- nothing more is pending
-    pub listing-done : pending (drop pos us) (drop pos (getShare l′ base (length us))) ≡ [] → Lists g rs l base x room j false l′ x′
-    listing-done e =
+    -- nothing more is pending: all n units were examined
+    pub listing-done : (n : ℕ) → (pending (drop pos us) (drop pos (getShare l′ base (length us))) ≡ []) × (n ≡ length us)
+        → Lists g rs l base x room j false (n / 64 + (n % 64 + 63) / 64) l′ x′
+    listing-done n e =
         record {
           count-is = sym (ap length whole ∙ exact);
-          more-is = sym (ap nonEmpty (drop-of-length-le every {i = room} (omega (arith, short))));
+          more-is = sym none-stays;
+          groups-is = up ∙ sym (groups-all room us p none-stays);
           bits-are = sym (left-is (ap₂ (λ a b. length (join a) + length b) whole none ∙ all-first));
           bytes-are = s .bytes ∙ ap (λ r. put x 16 (records descriptorBytes (map descriptor r))) (first ∙ sym whole);
         }
       where
         none : pending (drop pos us) (drop pos p) ≡ []
-        none = sym (ap (pending (drop pos us)) (ap (drop pos) now-marks ∙ clearBefore-drop pos p inside)) ∙ e
+        none = sym (ap (pending (drop pos us)) (ap (drop pos) now-marks ∙ clearBefore-drop pos p inside)) ∙ e .0
 
         short : length every ≤ j
         short = drop-none j every (s .later ∙ ap runs none)
+
+        none-stays : nonEmpty (laterRuns room us p) ≡ false
+        none-stays = ap nonEmpty (drop-of-length-le every {i = room} (omega (arith, short, s .few)))
+
+        -- rounded up
+        up : n / 64 + (n % 64 + 63) / 64 ≡ (length us + 63) / 64
+        up = omega (arith, e .1)
 
         first : take j every ≡ every
         first = take-all j every short
@@ -209,16 +226,41 @@ module _ (g : ℕ) (rs : List Range) (l : List Bool) (base : ℕ) (x : List ℕ)
           s .later ∙ sym (ap (λ q. runs (pending (drop pos us) q)) (rest-marks pos (omega arith))) ∙ f .first
           ∙ ap (λ q. run ∷ runs (pending (drop to us) q)) (rest-marks to (omega (arith, order .0, order .1)))
 
-      -- there is no room for it
-      pub listing-full : j ≡ room → Lists g rs l base x room j true l′ x′
+      clear : (i : ℕ) → pos ≤ i → i < from → getD (clearBefore pos p) i false ≡ false
+      clear i g k = ap (λ b. getD b i false) (sym now-marks) ∙ f .clear i g k
+
+      set : getD p from false ≡ true
+      set = sym (clearBefore-above pos p inside from (order .0)) ∙ ap (λ b. getD b from false) (sym now-marks) ∙ f .set
+
+      -- what is pending from `pos` on is what is pending from it on
+      skipped : pending (drop pos us) (drop pos p) ≡ pending (drop from us) (drop from p)
+      skipped =
+          let e : pos + (from - pos) ≡ from = omega (arith, order .0) in
+          pending-skip us p pos (from - pos) (λ i h k. sym (clearBefore-above pos p inside i h) ∙ clear i h (omega arith)) ∙ ap (λ n. pending (drop n us) (drop n p)) e
+
+      -- there is no room for it: its first unit is in the last group examined
+      pub listing-full : j ≡ room → Lists g rs l base x room j true (from / 64 + 1) l′ x′
       listing-full e =
           record {
             count-is = sym (ap (λ k. length (take k every)) (sym e) ∙ omega (arith, length-take j every, s .there));
-            more-is = sym (ap nonEmpty (ap (λ k. drop k every) (sym e) ∙ found));
-            bits-are = sym (left-is (ap (λ k. length (join (take k every)) + length (pending (drop pos us) (drop pos p))) (sym e)
-                ∙ ap (λ n. length (join (take j every)) + n) (sym (ap length (ap join (s .later) ∙ runs-join (pending (drop pos us) (drop pos p))))) ∙ all-units j));
+            more-is = sym stays;
+            groups-is = sym (groups-to room us p from p-length stays (set-at p from set) before);
+            bits-are = sym (left-is left);
             bytes-are = s .bytes ∙ ap (λ k. put x 16 (records descriptorBytes (map descriptor (take k every)))) e;
           }
+        where
+          stays : nonEmpty (laterRuns room us p) ≡ true
+          stays = ap nonEmpty (ap (λ k. drop k every) (sym e) ∙ found)
+
+          left : length (join (take room every)) + length (pending (drop pos us) (drop pos p)) ≡ length (pending us p)
+          left =
+              ap (λ k. length (join (take k every)) + length (pending (drop pos us) (drop pos p))) (sym e)
+              ∙ ap (λ n. length (join (take j every)) + n) (sym (ap length (ap join (s .later) ∙ runs-join (pending (drop pos us) (drop pos p))))) ∙ all-units j
+
+          -- before it as many are pending as are reported
+          before : length (pending (take from us) (take from p)) ≡ length (join (take room every))
+          before =
+              omega (arith, left, ap length skipped, ap length (pending-split from us p), length-append (pending (take from us) (take from p)) (pending (drop from us) (drop from p)))
 
       listed-length : length (map descriptor (take j every)) ≡ j
       listed-length = length-map (take j every) descriptor ∙ omega (arith, length-take j every, s .there)
@@ -258,12 +300,6 @@ module _ (g : ℕ) (rs : List Range) (l : List Bool) (base : ℕ) (x : List ℕ)
 
           span : base + to - (base + from) ≡ to - from
           span = omega (arith, order .1)
-
-          q : List Bool
-          q = clearBefore pos p
-
-          clear : (i : ℕ) → pos ≤ i → i < from → getD (clearBefore pos p) i false ≡ false
-          clear i g k = ap (λ b. getD b i false) (sym now-marks) ∙ f .clear i g k
 
           cleared : fill false l′ (base + from) (to - from) ≡ putShare l base (clearBefore to p)
           cleared =

@@ -3,7 +3,7 @@
 use mathlib.Core.Path.{_≡_, sym, ap, ap₂, _∙_}
 use mathlib.Core.Bool.{Bool, true, false, true≢false}
 use mathlib.Core.List.{List, [], _∷_, _++_}
-use Prim.Native.Nat.{ℕ, suc, _+_, _-_, _*_, _≤_, _<_}
+use Prim.Native.Nat.{ℕ, suc, _+_, _-_, _*_, _^_, _≤_, _<_}
 use native.Mathlib.Omega.{arith}
 use native.Mathlib.Nat.{add-mul}
 use native.Mathlib.Decide.{decLt}
@@ -11,8 +11,9 @@ use lib.ListN.{length, getD, drop, length-drop}
 use Rattle.bits.specs.Next.{next}
 use Rattle.bits.specs.Share.{getShare}
 use Rattle.bits.proofs.Next.{next-high, next-low, next-before, next-found}
-use Rattle.bits.proofs.Share.{next-share}
+use Rattle.bits.proofs.Share.{next-share, getShare-at}
 use Rattle.rules.specs.Settings.{unitSize}
+use Rattle.rules.specs.Ranges.{rowsOk}
 use Rattle.rules.specs.Units.{Unit, unitsOfRow, units, pending}
 use Rattle.rules.specs.Report.{runs}
 use Rattle.rules.specs.declared.Range.{Range}
@@ -20,8 +21,21 @@ use Rattle.rules.proofs.UnitLaws.{unitSize-pos}
 use Rattle.rules.proofs.ScanLaws.{Left, left-on, left-length, run-next, pending-skip}
 use Rattle.pieces.specs.Pieces.{unitsLeft, PieceFound}
 use Rattle.pieces.specs.declared.Piece.{Piece}
-use Rattle.pieces.proofs.PieceLaws.{left-all, piece-left, piece-beyond}
-use Rattle.scan.specs.Scan.{Stands, RunFound}
+use Rattle.pieces.proofs.PieceLaws.{left-all, piece-left, piece-beyond, piece-within}
+use Rattle.scan.specs.Scan.{Stands, Scanned, PendingFound, Begins, pieceEnd, runOf}
+use Rattle.scan.specs.declared.Found.{Found}
+use Rattle.scan.specs.declared.Run.{Run}
+
+-- the next run from unit `pos` on, of units with marks p
+pub record RunFound (g : ℕ) (rs : List Range) (p : List Bool) (pos : ℕ) (r : Run) : Type 0 where
+  pub past : pos ≤ r .from
+  pub some : r .from < r .to
+  pub long : r .range .length ≡ r .to - r .from
+  pub clear : (i : ℕ) → pos ≤ i → i < r .from → getD p i false ≡ false
+  pub set : getD p (r .from) false ≡ true
+  pub first : runs (pending (drop pos (units g rs)) (drop pos p))
+      ≡ unitsOfRow (r .row) (unitSize g) (r .range .start) (r .range .length) ∷ runs (pending (drop (r .to) (units g rs)) (drop (r .to) p))
+  pub stands : Stands g rs (r .row) (r .next .0) (r .to)
 
 module _ (g : ℕ) (rs : List Range) where
   abbrev us : List Unit
@@ -34,27 +48,24 @@ module _ (g : ℕ) (rs : List Range) where
   -- ---- a scan from unit `pos` on: it stands further on, and all marks passed were clear
 
   module _ (p : List Bool) (pos : ℕ) where
-    pub record Scanned (row unit at : ℕ) : Type 0 where
-      pub stands : Stands g rs row unit at
-      pub past : pos ≤ at
-      pub clear : (i : ℕ) → pos ≤ i → i < at → getD p i false ≡ false
-
-    pub scanned-start : (row unit : ℕ) → Stands g rs row unit pos → Scanned row unit pos
+    pub scanned-start : (row unit : ℕ) → Stands g rs row unit pos → Scanned g rs p pos row unit pos
     scanned-start row unit s = record { stands = s; past = omega arith; clear = λ i h k. absurd (omega arith) }
 
     -- what is pending from `pos` on is what is pending from there on
-    scanned-pending : (row unit at : ℕ) → Scanned row unit at → pending (drop pos us) (drop pos p) ≡ pending (drop at us) (drop at p)
+    scanned-pending : (row unit at : ℕ) → Scanned g rs p pos row unit at → pending (drop pos us) (drop pos p) ≡ pending (drop at us) (drop at p)
     scanned-pending row unit at c =
         let past = c .past in
         let e : pos + (at - pos) ≡ at = omega arith in
         pending-skip us p pos (at - pos) (λ i h k. c .clear i h (omega arith)) ∙ ap (λ n. pending (drop n us) (drop n p)) e
 
-    -- nothing is pending
-    pub scanned-nothing : (row unit at : ℕ) → unitsLeft (unitSize g) rs row unit ≡ [] → Scanned row unit at → pending (drop pos us) (drop pos p) ≡ []
-    scanned-nothing row unit at h c = scanned-pending row unit at c ∙ rw (c .stands .left ∙ h)
+    -- nothing is pending, and the scan stands past all units
+    pub scanned-nothing : (row unit at : ℕ) → unitsLeft (unitSize g) rs row unit ≡ [] → Scanned g rs p pos row unit at
+        → (pending (drop pos us) (drop pos p) ≡ []) × (at ≡ length us)
+    scanned-nothing row unit at h c =
+        (scanned-pending row unit at c ∙ rw (c .stands .left ∙ h), omega (arith, c .stands .inside, length-drop at us, ap length (c .stands .left ∙ h)))
 
     -- the next piece stands from unit `at` on
-    module _ (row unit at : ℕ) (c : Scanned row unit at) (q : Piece) (f : PieceFound (unitSize g) rs row unit q) where
+    module _ (row unit at : ℕ) (c : Scanned g rs p pos row unit at) (q : Piece) (f : PieceFound (unitSize g) rs row unit q) where
       abbrev n : ℕ
       n = q .range .length
 
@@ -84,7 +95,7 @@ module _ (g : ℕ) (rs : List Range) where
             left = mid t h k ∙ sym (f .own (at + n - t) (omega arith) ∙ ap (λ d. unitsOfRow (q .row) (unitSize g) (q .range .start + d * unitSize g) (at + n - t) ++ tail) m);
           }
 
-      scanned-on : (t : ℕ) → at ≤ t → t ≤ at + n → ((i : ℕ) → at ≤ i → i < t → getD p i false ≡ false) → Scanned (q .row) (q .next .0 - (at + n - t)) t
+      scanned-on : (t : ℕ) → at ≤ t → t ≤ at + n → ((i : ℕ) → at ≤ i → i < t → getD p i false ≡ false) → Scanned g rs p pos (q .row) (q .next .0 - (at + n - t)) t
       scanned-on t h k g = record { stands = stands-mid t h k; past = omega (arith, c .past); clear = λ i a b. go i a b (decLt i at) }
         where
           go : (i : ℕ) → pos ≤ i → i < t → Dec (i < at) → getD p i false ≡ false
@@ -93,7 +104,7 @@ module _ (g : ℕ) (rs : List Range) where
 
       module _ (from : ℕ) (e : from ≡ next true p at (at + n)) where
         -- nothing is pending in it
-        pub scanned-piece : at + n ≤ from → Scanned (q .row) (q .next .0) (at + n)
+        pub scanned-piece : at + n ≤ from → Scanned g rs p pos (q .row) (q .next .0) (at + n)
         scanned-piece l =
             let z : q .next .0 - (at + n - (at + n)) ≡ q .next .0 = omega arith in
             rw z at (scanned-on (at + n) (omega arith) (omega arith) (λ i a b. next-before true p at (at + n) i a (omega arith)))
@@ -118,7 +129,7 @@ module _ (g : ℕ) (rs : List Range) where
                   let s : next false p from (at + n) ≡ from = omega (arith, next-low false p from (at + n) (omega arith)) in
                   absurd (true≢false (sym set ∙ (rw s at (next-found false p from (at + n) (omega arith)))))
 
-          passed : Scanned (q .row) (q .next .0 - (at + n - from)) from
+          passed : Scanned g rs p pos (q .row) (q .next .0 - (at + n - from)) from
           passed = scanned-on from low (omega arith) (λ i a b. next-before true p at (at + n) i a (omega arith))
 
           end-is : q .range .start + (from - at) * unitSize g + (at + n - from) * unitSize g ≡ q .range .start + n * unitSize g
@@ -141,13 +152,48 @@ module _ (g : ℕ) (rs : List Range) where
                 some = some;
                 long = omega (arith, low);
                 clear = passed .clear;
+                set = set;
                 first =
                     ap runs (scanned-pending (q .row) (q .next .0 - (at + n - from)) from passed) ∙ first
                     ∙ ap₂ (λ k d. unitsOfRow (q .row) (unitSize g) (q .range .start + (from - at) * unitSize g) k ∷ runs (pending (drop d us) (drop d p))) (sym m) t;
                 stands = stands-mid to (omega (arith, low, some)) high;
               }
 
+  -- ---- a pending unit that was found, and the run that begins there
+
+  module _ (p : List Bool) (pos : ℕ) (f : Found) (h : PendingFound g rs p pos f) where
+    pub run-found : (to : ℕ) → to ≡ next false p (f .from) (pieceEnd f) → RunFound g rs p pos (runOf g f to)
+    run-found to e = scanned-run p pos (h .row) (h .unit) (f .at) (h .scanned) (f .piece) (h .piece) (f .from) (h .first) to (h .inside) e
+
+    pub found-end : pieceEnd f ≤ length us
+    found-end = piece-end p pos (h .row) (h .unit) (f .at) (h .scanned) (f .piece) (h .piece)
+
+    found-set : getD p (f .from) false ≡ true
+    found-set = rw (h .first) (next-found true p (f .at) (pieceEnd f) (omega (arith, h .first, h .inside)))
+
+    pub found-begins : (l : List Bool) (base : ℕ) → rowsOk g rs ≡ true → base + length us < 2 ^ 64 → p ≡ getShare l base (length us) → Begins l base g f
+    found-begins l base ok small e =
+        record {
+          within = piece-within g rs (h .row) (h .unit) (f .piece) ok (h .piece);
+          long = h .piece .long;
+          low = omega (arith, h .first, next-low true p (f .at) (pieceEnd f) (omega arith));
+          high = h .inside;
+          small = omega (arith, found-end);
+          set = sym (getShare-at l base (length us) (f .from) false (omega (arith, found-end, h .inside))) ∙ ap (λ q. getD q (f .from) false) (sym e) ∙ found-set;
+        }
+
 -- ---- bits in which the marks stand from a bit on
+
+-- a run has a unit, and ends with its piece at the latest
+pub begins-ends : (l : List Bool) (base g : ℕ) (f : Found) → Begins l base g f → (t : ℕ) → t ≡ next false l (base + f .from) (base + pieceEnd f)
+    → (base + f .from < t) × (t ≤ base + pieceEnd f)
+begins-ends l base g f b t e = (go (decLt (base + f .from) t), omega (arith, next-high false l (base + f .from) (base + pieceEnd f)))
+  where
+    go : Dec (base + f .from < t) → base + f .from < t
+    go (yes k) = k
+    go (no k) =
+        let s : next false l (base + f .from) (base + pieceEnd f) ≡ base + f .from = omega (arith, next-low false l (base + f .from) (base + pieceEnd f) (omega (arith, b .high))) in
+        absurd (true≢false (sym (b .set) ∙ (rw s at (next-found false l (base + f .from) (base + pieceEnd f) (omega (arith, b .high))))))
 
 pub next-from : (want : Bool) (l : List Bool) (base total at end r : ℕ) → base + total ≤ length l → end ≤ total → r ≡ next want l (base + at) (base + end)
     → (base ≤ r) × (r - base ≡ next want (getShare l base total) at end)

@@ -14,7 +14,7 @@ use Rattle.report_data.proofs.Blocks.{report-done}
 use Rattle.rules.specs.Lists.{nonEmpty}
 use Rattle.rules.specs.Settings.{placeOf}
 use Rattle.rules.specs.Units.{Unit, units, pending}
-use Rattle.rules.specs.Report.{runs, Report, descriptor, descriptorBytes, room, reportOn, reportHeader, reportedRuns, laterRuns, marksLeft}
+use Rattle.rules.specs.Report.{runs, Report, descriptor, descriptorBytes, room, reportOn, reportHeader, reportedRuns, laterRuns, groupsOn, marksLeft}
 use Rattle.rules.specs.Order.{receiveOrder}
 use Rattle.rules.specs.Machine.{noReport}
 use Rattle.rules.specs.declared.Device.{Device}
@@ -34,16 +34,16 @@ abbrev pub Receives : Receipt → Received → List ℕ → List ℕ → Type 0
 Receives c r ws x = (r ≡ c .answer) × (ws ≡ c .marks) × (x ≡ c .buffer)
 
 pub receives-nothing : (c : Receipt) (n : ℕ) (ws x : List ℕ) (r : Received) → c ≡ received n noReport ws x
-    → r ≡ record { number = n; suspended = false; more = false; granularity = 0; runs = 0 } → Receives c r ws x
+    → r ≡ record { number = n; suspended = false; more = false; granularity = 0; runs = 0; groups = 0 } → Receives c r ws x
 receives-nothing c n ws x r e f = (f ∙ sym (ap (λ (y : Receipt). y .answer) e), sym (ap (λ (y : Receipt). y .marks) e), sym (ap (λ (y : Receipt). y .buffer) e))
 
 -- no more runs are listed than there are units
 pub reported-few : (room : ℕ) (us : List Unit) (p : List Bool) (count : ℕ) → count ≡ length (reportedRuns room us p) → count ≤ length us
 reported-few room us p count e = omega (arith, length-take room (runs (pending us p)), runs-length-le (pending us p), pending-length-le us p)
 
-pub lists-few : (g : ℕ) (rs : List Range) (l : List Bool) (base : ℕ) (x : List ℕ) (room count : ℕ) (more : Bool) (l′ : List Bool) (x′ : List ℕ)
-    → Lists g rs l base x room count more l′ x′ → count ≤ length (units g rs)
-lists-few g rs l base x room count more l′ x′ s = reported-few room (units g rs) (getShare l base (length (units g rs))) count (s .count-is)
+pub lists-few : (g : ℕ) (rs : List Range) (l : List Bool) (base : ℕ) (x : List ℕ) (room count : ℕ) (more : Bool) (groups : ℕ) (l′ : List Bool) (x′ : List ℕ)
+    → Lists g rs l base x room count more groups l′ x′ → count ≤ length (units g rs)
+lists-few g rs l base x room count more groups l′ x′ s = reported-few room (units g rs) (getShare l base (length (units g rs))) count (s .count-is)
 
 -- ---- the cases
 
@@ -83,22 +83,23 @@ module _ (en : Engine) (d : Device) (ws : List ℕ) (id : ℕ) (x : List ℕ) wh
       receive-on h = rw (l .place, l .seen, t, le-leb 32 (length x) h)
 
       -- what is listed, with the header, is the report
-      pub receive-done : 32 ≤ length x → (ws′ x′ x″ : List ℕ) (runs : ℕ) (more : Bool)
-          → runs ≡ length (reportedRuns k us p) → more ≡ nonEmpty (laterRuns k us p) → ws′ ≡ en .reported ws (getD (d .controllers) i noController .base) k us
+      pub receive-done : 32 ≤ length x → (ws′ x′ x″ : List ℕ) (runs : ℕ) (more : Bool) (groups : ℕ)
+          → runs ≡ length (reportedRuns k us p) → more ≡ nonEmpty (laterRuns k us p) → groups ≡ groupsOn k us p → ws′ ≡ en .reported ws (getD (d .controllers) i noController .base) k us
           → x′ ≡ put x 16 (records descriptorBytes (map descriptor (reportedRuns k us p))) → x″ ≡ put x′ 0 (reportHeader id b more runs g)
-          → Receives (receiveBy en d ws id x) (record { number = 0; suspended = b; more = more; granularity = g; runs = runs }) ws′ x″
-      receive-done h ws′ x′ x″ runs more count-is more-is marks-are bytes-are q =
+          → Receives (receiveBy en d ws id x) (record { number = 0; suspended = b; more = more; granularity = g; runs = runs; groups = groups }) ws′ x″
+      receive-done h ws′ x′ x″ runs more groups count-is more-is groups-are marks-are bytes-are q =
           let r : Report = reportOn b g k us p in
           let c : runs ≡ length (r .descriptors) = count-is ∙ sym (length-map (reportedRuns k us p) descriptor) in (
-            ap₂ (λ a z. record { number = 0; suspended = b; more = a; granularity = g; runs = z }) more-is c ∙ sym (ap (λ (y : Receipt). y .answer) (receive-on h)),
+            ap₂ (λ a z. record { number = 0; suspended = b; more = a; granularity = g; runs = z; groups = groups }) more-is c
+                ∙ ap (λ n. record { number = 0; suspended = b; more = r .more; granularity = g; runs = length (r .descriptors); groups = n }) groups-are ∙ sym (ap (λ (y : Receipt). y .answer) (receive-on h)),
             marks-are ∙ sym (ap (λ (y : Receipt). y .marks) (receive-on h)),
             report-done id r x x′ x″ runs c bytes-are (q ∙ ap (λ a. put x′ 0 (reportHeader id b a runs g)) more-is) ∙ sym (ap (λ (y : Receipt). y .buffer) (receive-on h)),
           )
 
 -- ---- in words
 
-pub lists-words : (g : ℕ) (rs : List Range) (ws : List ℕ) (base : ℕ) (x : List ℕ) (room count : ℕ) (more : Bool) (ws′ x′ : List ℕ)
-    → Lists g rs (flat ws) base x room count more (flat ws′) x′ → Words ws′ → length ws′ ≡ length ws → ws′ ≡ inWords .reported ws base room (units g rs)
+pub lists-words : (g : ℕ) (rs : List Range) (ws : List ℕ) (base : ℕ) (x : List ℕ) (room count : ℕ) (more : Bool) (groups : ℕ) (ws′ x′ : List ℕ)
+    → Lists g rs (flat ws) base x room count more groups (flat ws′) x′ → Words ws′ → length ws′ ≡ length ws → ws′ ≡ inWords .reported ws base room (units g rs)
 unfolding withMarks
-lists-words g rs ws base x room count more ws′ x′ s f m =
+lists-words g rs ws base x room count more groups ws′ x′ s f m =
     pack-only (length ws) ws′ (putShare (flat ws) base (marksLeft room (units g rs) (getShare (flat ws) base (length (units g rs))))) m f (s .bits-are)

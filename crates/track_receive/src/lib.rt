@@ -11,7 +11,7 @@ ghost use Rattle.calls.specs.Calls.{receiveReceipt};
 
 // A refused receive: its number and zeros.
 pub fn nothing(number: u8) -> Received
-    ensures { λ r. ⌜ r ≡ record { number = number; suspended = false; more = false; granularity = 0; runs = 0 } ⌝ }
+    ensures { λ r. ⌜ r ≡ record { number = number; suspended = false; more = false; granularity = 0; runs = 0; groups = 0 } ⌝ }
 {
     Received {
         number,
@@ -19,11 +19,13 @@ pub fn nothing(number: u8) -> Received
         more: false,
         granularity: 0,
         runs: 0,
+        groups: 0,
     }
 }
 
 // Reports the controller's first pending runs into the buffer, as many as it holds, and makes them clear; later ones stay. More To Report is set exactly
-// if a run stays. Bytes after the last descriptor are unchanged. Refused, in this order: 1, 2, 5 not tracked, 8 a buffer below 32 bytes.
+// if a run stays. Bytes after the last descriptor are unchanged. The answer also says how many groups of 64 units were examined (W10). Refused, in this
+// order: 1, 2, 5 not tracked, 8 a buffer below 32 bytes.
 pub fn receive(d: Device, marks: &mut [u64], id: u16, buffer: &mut [u8]) -> Received
     ensures { λ r. ⌜ (r ≡ receiveReceipt d (now (marks .entry)) id (now (buffer .entry)) .answer)
         × (now (marks .exit) ≡ receiveReceipt d (now (marks .entry)) id (now (buffer .entry)) .marks)
@@ -60,5 +62,6 @@ pub fn receive(d: Device, marks: &mut [u64], id: u16, buffer: &mut [u8]) -> Rece
         more: listed.more,
         granularity: g,
         runs: listed.runs,
+        groups: listed.groups,
     }
 }

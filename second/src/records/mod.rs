@@ -39,6 +39,8 @@ struct Outcome {
     stopped: bool,
     taken: u64,
     closing: bool,
+    /// How many groups of units a report examined (W10).
+    groups: u64,
     record: Record,
     words: Vec<u64>,
     plain: Option<Plain>,
@@ -88,6 +90,7 @@ fn untouched(case: &Case) -> Outcome {
         stopped: false,
         taken: 0,
         closing: false,
+        groups: 0,
         record: case.record.clone(),
         words: case.words.clone(),
         plain: case.plain.clone(),
@@ -125,7 +128,7 @@ fn done(case: &Case) -> Result<Outcome, Reason> {
             after.count = device.write(&Note { id: case.id, address: *address, bytes: *bytes })?;
         }
         Call::Receive => {
-            device.receive(case.id, &mut after.data)?;
+            after.groups = device.receive(case.id, &mut after.data)? as u64;
             after.report = report_numbers(&after.data);
         }
         Call::Suspend { kind } => device.suspend(case.id, *kind)?,
@@ -189,6 +192,7 @@ fn answer(outcome: &Outcome) -> Vec<u8> {
     put(&mut bytes, u128::from(outcome.stopped), 1);
     put(&mut bytes, u128::from(outcome.taken), 8);
     put(&mut bytes, u128::from(outcome.closing), 1);
+    put(&mut bytes, u128::from(outcome.groups), 8);
     bytes.extend_from_slice(&record_bytes(&outcome.record));
     let marks_end = bytes.len() + 8 * MOST_WORDS;
     for word in outcome.plain.as_ref().map_or_else(|| outcome.words.clone(), Plain::words) {

@@ -910,6 +910,7 @@ fn writes_and_reports_keep_to_their_bits() {
     case.data = vec![170; 47];
     let mut expected = untouched(&case);
     expected.report = [0, 1, 0, 1];
+    expected.groups = 1;
     expected.words[0] = 0xffff_ffff_ffff_ffd0;
     expected.data[..32].copy_from_slice(&[
         0, 1, 5, 0, 1, 0, 0, 0, 0, 0, 0, 0, 0, 0, 0, 0, // more, identifier 5, one, granularity 0
@@ -1169,6 +1170,8 @@ fn writes_and_reports_at_a_base() {
     case.data = vec![170; 32];
     let mut expected = untouched(&case);
     expected.report = [0, 0, 0, 1];
+    // 100 units, and no second run.
+    expected.groups = 2;
     expected.words = before;
     expected.data.copy_from_slice(&[
         0, 0, 5, 0, 1, 0, 0, 0, 0, 0, 0, 0, 0, 0, 0, 0, // identifier 5, one, granularity 0
@@ -1326,6 +1329,7 @@ fn reports_of_ranges_that_overlap() {
     case.data = vec![170; 63];
     let mut expected = untouched(&case);
     expected.report = [0, 1, 0, 2];
+    expected.groups = 1;
     expected.words[0] = 0xffff_ffff_ffff_fff8;
     expected.data[..48].copy_from_slice(&[
         0, 1, 5, 0, 2, 0, 0, 0, 0, 0, 0, 0, 0, 0, 0, 0, // more, identifier 5, two, granularity 0
@@ -1339,6 +1343,7 @@ fn reports_of_ranges_that_overlap() {
     case.data = vec![170; 64];
     let mut expected = untouched(&case);
     expected.report = [0, 0, 0, 3];
+    expected.groups = 1;
     expected.words[0] = 0xffff_ffff_ffff_ffc0;
     expected.data[..64].copy_from_slice(&[
         0, 0, 5, 0, 3, 0, 0, 0, 0, 0, 0, 0, 0, 0, 0, 0, // identifier 5, three, granularity 0
@@ -1514,6 +1519,30 @@ fn bytes_after_the_other_calls() {
     // Suspend, resume, a part and the calls of a queue leave all.
     for place in &[4, 5, 7, 8, 9, 10] {
         assert_leaves(&on_bytes(&calls()[*place], &all_pending()), &all_pending());
+    }
+}
+
+/// W10: "numbered from the controller's unit 0", wherever its share lies, on both engines.
+#[test]
+fn groups_at_any_base() {
+    // Units 0 and 59 of 100, with room for one run; then with room for two, where no run is left.
+    for base_bit in [0, 4, 5, 63, 64, 8000, 16284].iter() {
+        let mut case = base(Call::Receive, 5);
+        share(&mut case.record, 0, *base_bit, 100);
+        case.words = words_of(&[*base_bit as usize, *base_bit as usize + 59]);
+        for (buffer, groups) in [(32, 1), (47, 1), (48, 2), (1024, 2), (31, 0)].iter() {
+            case.data = vec![170; *buffer];
+            let bytes: Vec<u8> = bits_of(&case.words).iter().map(|bit| 77 * u8::from(*bit)).collect();
+            assert_eq!(outcome(&case).groups, *groups, "{} {}", base_bit, buffer);
+            assert_eq!(outcome(&on_bytes(&case, &bytes)).groups, *groups, "{} {}", base_bit, buffer);
+        }
+    }
+}
+
+#[test]
+fn calls_without_groups() {
+    for case in calls().iter().filter(|case| case.call != Call::Receive) {
+        assert_eq!((outcome(case).refusal, outcome(case).groups), (0, 0));
     }
 }
 
@@ -1937,13 +1966,13 @@ fn answers_at_their_offsets() {
     let report = [3, 4, 5, high(6, 7)];
     let numbers = Outcome { refusal: 200, row: 201, count: high(1, 2), report, ..untouched(&case) };
     let numbers = Outcome { notes_done: high(8, 9), cut: 10, whole: high(11, 12), ..numbers };
-    let mut after = Outcome { stopped: true, taken: high(13, 14), closing: true, ..numbers };
+    let mut after = Outcome { stopped: true, taken: high(13, 14), closing: true, groups: high(15, 16), ..numbers };
     after.words = vec![high(25, 26); 256];
     after.words.push(high(41, 42));
     after.area = vec![97, 98, 43, 44];
     after.shown = 2;
-    let mut expected = vec![0; 11100];
-    let fields: [(usize, &[u8]); 11] = [
+    let mut expected = vec![0; 11108];
+    let fields: [(usize, &[u8]); 12] = [
         (0, &[200, 201]),                     // refusal and row
         (2, &[1, 0, 0, 0, 0, 0, 0, 2]),       // count
         (10, &[3, 4, 5]),                     // suspended, more, granularity
@@ -1952,16 +1981,17 @@ fn answers_at_their_offsets() {
         (30, &[11, 0, 0, 0, 0, 0, 0, 12]),    // whole
         (38, &[1]),                           // stopped
         (39, &[13, 0, 0, 0, 0, 0, 0, 14, 1]), // taken and closing
-        (3828, &[41, 0, 0, 0, 0, 0, 0, 42]),  // the last of 257 words
-        (5876, &[34, 35, 36]),                // 3 lent bytes
-        (6900, &[43, 44]),                    // the area, of which 2 bytes are shown
+        (48, &[15, 0, 0, 0, 0, 0, 0, 16]),    // groups
+        (3836, &[41, 0, 0, 0, 0, 0, 0, 42]),  // the last of 257 words
+        (5884, &[34, 35, 36]),                // 3 lent bytes
+        (6908, &[43, 44]),                    // the area, of which 2 bytes are shown
     ];
     for (at, field) in &fields {
         expected[*at..*at + field.len()].copy_from_slice(field);
     }
-    expected[48..1780].copy_from_slice(&case_bytes()[..1732]);
+    expected[56..1788].copy_from_slice(&case_bytes()[..1732]);
     for word in 0..256 {
-        expected[1780 + 8 * word..1788 + 8 * word].copy_from_slice(&[25, 0, 0, 0, 0, 0, 0, 26]);
+        expected[1788 + 8 * word..1796 + 8 * word].copy_from_slice(&[25, 0, 0, 0, 0, 0, 0, 26]);
     }
     assert_eq!(answer(&after), expected);
 }
@@ -1973,18 +2003,18 @@ fn answer_to_a_case_that_lends_the_most() {
     case.words = vec![u64::MAX; 512];
     case.data = vec![170; 1024];
     let mut expected = vec![1];
-    expected.resize(48, 0);
+    expected.resize(56, 0);
     expected.extend_from_slice(&record_bytes(&case.record));
-    expected.resize(5876, 255);
-    expected.resize(6900, 170);
-    expected.resize(11100, 0);
+    expected.resize(5884, 255);
+    expected.resize(6908, 170);
+    expected.resize(11108, 0);
     assert_eq!(answer(&outcome(&case)), expected);
     // So with a part: of its 4,100 bytes the first 1,024 are there, and the area is.
     let mut case = part(1, 0, &[170; 4100]);
     case.words = vec![u64::MAX; 512];
     case.area = vec![85; 4200];
-    expected.truncate(6900);
-    expected.resize(11100, 85);
+    expected.truncate(6908);
+    expected.resize(11108, 85);
     assert_eq!(answer(&outcome(&case)), expected);
 }
 
@@ -1993,15 +2023,15 @@ fn answer_to_a_start_that_names_a_row() {
     // 32 bytes are lent: a header and two ranges, of which the second is unaligned. All words are 0.
     let case = start_with(&[(65536, 4), (4097, 1)]);
     let mut expected = vec![20, 1];
-    expected.resize(48, 0);
+    expected.resize(56, 0);
     expected.extend_from_slice(&record_bytes(&case.record));
-    expected.resize(5876, 0);
+    expected.resize(5884, 0);
     expected.extend_from_slice(&[
         0, 0, 0, 0, 2, 0, 0, 0, // version, reserved, granularity, count
         0, 0, 1, 0, 0, 0, 0, 0, 4, 0, 0, 0, // 65536, 4
         1, 16, 0, 0, 0, 0, 0, 0, 1, 0, 0, 0, // 4097, 1
     ]);
-    expected.resize(11100, 0);
+    expected.resize(11108, 0);
     assert_eq!(answer(&outcome(&case)), expected);
 }
 
@@ -2012,10 +2042,10 @@ fn answer_to_a_batch_that_is_cut() {
     let mut expected = vec![0, 0, 2];
     expected.resize(21, 0);
     expected.extend_from_slice(&[3, 0, 0, 0, 0, 0, 0, 0, 2]);
-    expected.resize(48, 0);
+    expected.resize(56, 0);
     expected.extend_from_slice(&record_bytes(&case.record));
     expected.push(0b0110);
-    expected.resize(11100, 0);
+    expected.resize(11108, 0);
     assert_eq!(answer(&outcome(&case)), expected);
 }
 
@@ -2027,13 +2057,13 @@ fn answer_to_a_part_that_yields_a_state() {
     case.area[..20].copy_from_slice(&[0; 20]);
     let mut expected = vec![0; 30];
     expected.push(48);
-    expected.resize(48, 0);
+    expected.resize(56, 0);
     let mut record = case.record.clone();
     record.sequence = Sequence::Nothing;
     expected.extend_from_slice(&record_bytes(&record));
-    expected.resize(6900 + 48, 0);
-    expected.resize(6900 + 4096, 0xEE);
-    expected.resize(11100, 0);
+    expected.resize(6908 + 48, 0);
+    expected.resize(6908 + 4096, 0xEE);
+    expected.resize(11108, 0);
     assert_eq!(answer(&outcome(&case)), expected);
 }
 
@@ -2044,18 +2074,18 @@ fn answer_to_a_post_that_stops() {
     case.shown = 80;
     let mut expected = vec![0; 38];
     expected.push(1);
-    expected.resize(48, 0);
+    expected.resize(56, 0);
     let mut record = case.record.clone();
     record.controllers[1].queue = Some(stopped(queue(3, 2, LAST_TOTAL, 0)));
     expected.extend_from_slice(&record_bytes(&record));
-    expected.resize(5876, 0);
-    expected.resize(5876 + 32, 99);
-    expected.resize(6900, 0);
-    expected.resize(6900 + 16, 255);
-    expected.resize(11100, 0);
+    expected.resize(5884, 0);
+    expected.resize(5884 + 32, 99);
+    expected.resize(6908, 0);
+    expected.resize(6908 + 16, 255);
+    expected.resize(11108, 0);
     assert_eq!(answer(&outcome(&case)), expected);
-    // The queue's 14 bytes, at 48 + 31 + 212 + 6.
-    assert_eq!(expected[297..311], [1, 3, 0, 2, 0, 0, 0, 255, 255, 255, 255, 0, 0, 1]);
+    // The queue's 14 bytes, at 56 + 31 + 212 + 6.
+    assert_eq!(expected[305..319], [1, 3, 0, 2, 0, 0, 0, 255, 255, 255, 255, 0, 0, 1]);
 }
 
 #[test]
@@ -2065,15 +2095,16 @@ fn answer_to_a_take_that_closes() {
     case.shown = 1;
     let mut expected = vec![0; 39];
     expected.extend_from_slice(&[2, 0, 0, 0, 0, 0, 0, 0, 1]);
+    expected.resize(56, 0);
     let mut record = case.record.clone();
     record.controllers[1].queue = Some(stopped(queue(3, 3, 3, 0)));
     expected.extend_from_slice(&record_bytes(&record));
-    expected.resize(5876, 0);
+    expected.resize(5884, 0);
     expected.extend_from_slice(&area_of(&[4, 5]));
     expected.extend_from_slice(&[170; 6]);
-    expected.resize(6900, 0);
+    expected.resize(6908, 0);
     expected.extend_from_slice(&area_of(&[3, 4, 5])[1..]);
-    expected.resize(11100, 0);
+    expected.resize(11108, 0);
     assert_eq!(answer(&outcome(&case)), expected);
 }
 
@@ -2087,8 +2118,8 @@ fn answers_that_show_an_area() {
         let mut expected: Vec<u8> = area.iter().cloned().skip(*shown).take(4200).collect();
         expected.resize(4200, 0);
         let given = answer(&outcome(&case));
-        assert_eq!((given[0], given.len()), (28, 11100));
-        assert_eq!(given[6900..], expected[..]);
+        assert_eq!((given[0], given.len()), (28, 11108));
+        assert_eq!(given[6908..], expected[..]);
     }
 }
 
@@ -2104,15 +2135,15 @@ fn answers_of_the_plain_engine() {
     for shown in [0, 1, 63, 199, 200, 201, 65535].iter() {
         case.plain.as_mut().unwrap().shown = Some(*shown);
         let mut expected = vec![1];
-        expected.resize(48, 0);
+        expected.resize(56, 0);
         expected.extend_from_slice(&record_bytes(&case.record));
         expected.extend_from_slice(&[3, 0, 0, 0, 0, 0, 0, 128, 1, 0, 0, 0, 0, 0, 0, 0]);
-        expected.resize(1780 + 24, 0);
+        expected.resize(1788 + 24, 0);
         expected.push(128);
-        expected.resize(5876, 0);
-        expected.resize(6900, 170);
+        expected.resize(5884, 0);
+        expected.resize(6908, 170);
         expected.extend(lent.iter().skip(*shown));
-        expected.resize(11100, 0);
+        expected.resize(11108, 0);
         assert_eq!(answer(&outcome(&case)), expected);
     }
     // As many as can be: all bits, and 4,200 of the bytes, from 28,568 on as far as they go.
@@ -2120,18 +2151,18 @@ fn answers_of_the_plain_engine() {
     for shown in [0, 1, 12600, 28567, 28568, 28569, 32767].iter() {
         case.plain = Some(Plain { bytes: lent.clone(), shown: Some(*shown) });
         let given = answer(&outcome(&case));
-        assert_eq!((given[0], given.len()), (1, 11100));
-        assert_eq!(given[1780..5876], [255; 4096][..]);
+        assert_eq!((given[0], given.len()), (1, 11108));
+        assert_eq!(given[1788..5884], [255; 4096][..]);
         let mut expected: Vec<u8> = lent.iter().cloned().skip(*shown).take(4200).collect();
         expected.resize(4200, 0);
-        assert_eq!(given[6900..], expected[..]);
+        assert_eq!(given[6908..], expected[..]);
     }
     // A done write: what was 80h stays, and the next one is 1.
     let mut lent = vec![0; 16384];
     lent[1] = 0x80;
     let given = answer(&outcome(&on_bytes(&base(Call::Write { address: 69632, bytes: 8192 }, 5), &lent)));
-    assert_eq!((given[0], given[2], given[1780]), (0, 1, 0b110));
-    assert_eq!(given[6900..6904], [0, 0x80, 1, 0]);
+    assert_eq!((given[0], given[2], given[1788]), (0, 1, 0b110));
+    assert_eq!(given[6908..6912], [0, 0x80, 1, 0]);
 }
 
 #[test]
@@ -2158,11 +2189,11 @@ fn controller_that_is_off_answers_zeros() {
     for byte in &mut expected[31..243] {
         *byte = 0;
     }
-    assert_eq!(answer(&outcome(&case))[48..1780].to_vec(), expected);
+    assert_eq!(answer(&outcome(&case))[56..1788].to_vec(), expected);
     // Of a queue it leaves the 14 bytes.
     case.record.controllers[0].queue = Some(Queue { stopped: true, ..queue(3, 258, 257, 2) });
     expected[37..51].copy_from_slice(&[1, 3, 0, 2, 1, 0, 0, 1, 1, 0, 0, 2, 0, 1]);
-    assert_eq!(answer(&outcome(&case))[48..1780].to_vec(), expected);
+    assert_eq!(answer(&outcome(&case))[56..1788].to_vec(), expected);
 }
 
 #[test]
@@ -2170,9 +2201,9 @@ fn an_answer_for_each_case() {
     // Two cases of zeros: a fresh whose settings have no identifiers. It answers 16 and is closed; no words, no bytes.
     let mut output = Vec::new();
     play(&mut &vec![0; 2 * CASE_BYTES][..], &mut output).unwrap();
-    let mut expected = vec![0; 2 * 11100];
+    let mut expected = vec![0; 2 * 11108];
     expected[0] = 16;
-    expected[11100] = 16;
+    expected[11108] = 16;
     assert_eq!(output, expected);
     let mut output = Vec::new();
     play(&mut &[][..], &mut output).unwrap();

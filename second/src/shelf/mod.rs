@@ -1,6 +1,8 @@
 //! A shelf listing: the lines of a session listing with their answers, and lines for the calls that change requests add
 //! (READINGS 0.7), because document 01 fixes the words of a session listing.
 
+#[cfg(test)]
+mod group_tests;
 mod hex;
 mod listing;
 #[cfg(test)]
@@ -13,6 +15,7 @@ mod tests;
 use std::io::{self, Read, Write};
 
 use crate::lines::{play_lines, Cut};
+use crate::listing::Line;
 use crate::queue::ENTRY_BYTES;
 use crate::rules::{Reason, MOST_CONTROLLERS, STATE_BYTES};
 use crate::session::{answer_line, Session, STALE};
@@ -51,6 +54,11 @@ impl Shelf {
 
     fn play(&mut self, line: &ShelfLine) -> Result<String, Reason> {
         match line {
+            // "its first line ends with ` groups G` (in shelf listings only)"
+            ShelfLine::Session(Line::Recv { id, buffer }) => {
+                let report = self.session.recv(*id, *buffer)?;
+                Ok(format!("{} groups {}\n{}", report.first_line, report.groups, report.others))
+            }
             ShelfLine::Session(line) => self.session.play(line),
             ShelfLine::Batch(notes) => {
                 let batch = self.session.device.batch(notes)?;

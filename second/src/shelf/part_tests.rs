@@ -239,7 +239,7 @@ fn other_calls_between_parts() {
         ("batch 6 69632 1 5 0 1", "0 done 1 new 1 refusal 4"),
         ("burst 3 6 73728 1", "0 done 3 new 1 refusal 0"),
         (&part(5, 0, 12, &state[12..16]), "0 whole 0"),
-        ("recv 6 64", "0 susp 0 more 0 gran 0 runs 1/65536 3"),
+        ("recv 6 64", "0 susp 0 more 0 gran 0 runs 1 groups 1/65536 3"),
         ("stop 6", "0"),
         ("stop 5", "4"),
         (&part(5, 0, 16, &state[16..20]), "0 whole 0"),

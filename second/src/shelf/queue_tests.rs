@@ -223,7 +223,7 @@ fn other_calls_between() {
         ("write 5 65536 1", "0 1"),
         ("batch 5 69632 1 9 0 1", "0 done 1 new 1 refusal 2"),
         ("take 5 128 1 32", &taken(&[1], 0)),
-        ("recv 5 64", "0 susp 0 more 0 gran 0 runs 1/65536 2"),
+        ("recv 5 64", "0 susp 0 more 0 gran 0 runs 1 groups 1/65536 2"),
         ("stop 5", "0"),
         ("susp 5 1", "0"),
         (&post(5, 128, 3), "0 stopped 0"),

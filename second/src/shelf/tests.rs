@@ -40,7 +40,7 @@ fn worked_cut_in_the_middle() {
         (START, "0"),
         ("batch 5 69632 1 5 73727 2 6 0 5 7 0 1 5 65536 1", "0 done 3 new 2 refusal 2"),
         // Unit 0 is clear: the note behind the refused one was not tried.
-        ("recv 5 64", "0 susp 0 more 0 gran 0 runs 1/69632 2"),
+        ("recv 5 64", "0 susp 0 more 0 gran 0 runs 1 groups 1/69632 2"),
         ("write 5 65536 1", "0 1"),
     ]);
 }
@@ -52,7 +52,7 @@ fn worked_first_note_refused_and_empty_list() {
         (START, "0"),
         ("batch 7 0 1", "0 done 0 new 0 refusal 2"),
         ("batch", "0 done 0 new 0 refusal 0"),
-        ("recv 5 64", "0 susp 0 more 0 gran 0 runs 0"),
+        ("recv 5 64", "0 susp 0 more 0 gran 0 runs 0 groups 1"),
     ]);
 }
 
@@ -65,7 +65,7 @@ fn worked_equal_notes() {
         (DEV, "0"),
         (START, "0"),
         ("burst 1024 5 65536 1", "0 done 1024 new 1 refusal 0"),
-        ("recv 5 64", "0 susp 0 more 0 gran 0 runs 1/65536 1"),
+        ("recv 5 64", "0 susp 0 more 0 gran 0 runs 1 groups 1/65536 1"),
     ]);
 }
 
@@ -85,7 +85,7 @@ fn worked_suspended() {
         (START, "0"),
         ("susp 5 1", "0"),
         ("batch 6 0 1 5 65536 1 6 0 1", "0 done 1 new 0 refusal 4"),
-        ("recv 5 64", "0 susp 1 more 0 gran 0 runs 0"),
+        ("recv 5 64", "0 susp 1 more 0 gran 0 runs 0 groups 1"),
     ]);
 }
 
@@ -122,8 +122,8 @@ fn each_refusal_at_each_place() {
             notes[place] = *bad;
             let answer = format!("0 done {} new {} refusal {}", place, place, refusal);
             let report = match place {
-                0 => "0 susp 0 more 0 gran 0 runs 0".to_string(),
-                _ => format!("0 susp 0 more 0 gran 0 runs 1/65536 {}", place),
+                0 => "0 susp 0 more 0 gran 0 runs 0 groups 1".to_string(),
+                _ => format!("0 susp 0 more 0 gran 0 runs 1 groups 1/65536 {}", place),
             };
             shelf(&[
                 (DEV, "0"),
@@ -164,12 +164,12 @@ fn reports_after_a_cut_batch() {
         ("start 5 0 65536 8", "0"),
         // Page 16, then 18 and 19, then a note that touches nothing; page 21 is cut off.
         ("batch 5 65536 1 5 73728 8192 6 0 1 7 0 1 5 86016 1", "0 done 3 new 3 refusal 2"),
-        ("recv 5 47", "0 susp 0 more 1 gran 0 runs 1/65536 1"),
-        ("recv 5 47", "0 susp 0 more 0 gran 0 runs 1/73728 2"),
-        ("recv 5 47", "0 susp 0 more 0 gran 0 runs 0"),
+        ("recv 5 47", "0 susp 0 more 1 gran 0 runs 1 groups 1/65536 1"),
+        ("recv 5 47", "0 susp 0 more 0 gran 0 runs 1 groups 1/73728 2"),
+        ("recv 5 47", "0 susp 0 more 0 gran 0 runs 0 groups 1"),
         // The rest of the list, without the refused note.
         ("batch 5 86016 1", "0 done 1 new 1 refusal 0"),
-        ("recv 5 47", "0 susp 0 more 0 gran 0 runs 1/86016 1"),
+        ("recv 5 47", "0 susp 0 more 0 gran 0 runs 1 groups 1/86016 1"),
     ]);
 }
 
@@ -186,7 +186,7 @@ fn a_unit_counts_once() {
         // Pages 16 and 17, 17 and 18, 18 and 19, and all: page 17 was pending before.
         ("batch 5 65536 8192 5 69632 8192 5 73728 8192 5 65536 16384", "0 done 4 new 3 refusal 0"),
         ("batch 5 65536 16384 5 0 18446744073709551615", "0 done 2 new 0 refusal 0"),
-        ("recv 5 64", "0 susp 0 more 0 gran 0 runs 1/65536 4"),
+        ("recv 5 64", "0 susp 0 more 0 gran 0 runs 1 groups 1/65536 4"),
         // Reported, so they are new again.
         ("batch 5 65536 16384 5 65536 16384", "0 done 2 new 4 refusal 0"),
     ]);
@@ -199,8 +199,8 @@ fn a_unit_of_two_ranges_counts_once() {
         // Pages 16 to 19 and 18 to 21. The notes: page 18; 17 to 19; 19 and 20.
         ("start 5 0 65536 4 73728 4", "0"),
         ("batch 5 73728 1 5 69632 12288 5 77824 8192", "0 done 3 new 4 refusal 0"),
-        ("recv 5 47", "0 susp 0 more 1 gran 0 runs 1/69632 3"),
-        ("recv 5 47", "0 susp 0 more 0 gran 0 runs 1/81920 1"),
+        ("recv 5 47", "0 susp 0 more 1 gran 0 runs 1 groups 1/69632 3"),
+        ("recv 5 47", "0 susp 0 more 0 gran 0 runs 1 groups 1/81920 1"),
     ]);
 }
 
@@ -212,15 +212,15 @@ fn notes_of_two_controllers() {
         ("start 6 8 1048576 4", "0"),
         // 1, then 2 units of 1 MiB, then 1; the last two touch one of these again, and none.
         ("batch 5 65536 1 6 2097151 2 5 69632 1 6 1048576 1 6 0 1", "0 done 5 new 4 refusal 0"),
-        ("recv 5 64", "0 susp 0 more 0 gran 0 runs 1/65536 2"),
-        ("recv 6 64", "0 susp 0 more 0 gran 8 runs 1/1048576 2"),
+        ("recv 5 64", "0 susp 0 more 0 gran 0 runs 1 groups 1/65536 2"),
+        ("recv 6 64", "0 susp 0 more 0 gran 8 runs 1 groups 1/1048576 2"),
         // The same page of each of them is two units.
         (DEV, "0"),
         (START, "0"),
         ("start 6 0 65536 4", "0"),
         ("batch 5 65536 1 6 65536 1 5 65536 1", "0 done 3 new 2 refusal 0"),
-        ("recv 6 64", "0 susp 0 more 0 gran 0 runs 1/65536 1"),
-        ("recv 5 64", "0 susp 0 more 0 gran 0 runs 1/65536 1"),
+        ("recv 6 64", "0 susp 0 more 0 gran 0 runs 1 groups 1/65536 1"),
+        ("recv 5 64", "0 susp 0 more 0 gran 0 runs 1 groups 1/65536 1"),
     ]);
 }
 
@@ -237,7 +237,7 @@ fn all_units_of_eight_controllers() {
     lines.push((batch_of(&notes), "0 done 8 new 16384 refusal 0".to_string()));
     lines.push((batch_of(&notes), "0 done 8 new 0 refusal 0".to_string()));
     for id in 10..18 {
-        lines.push((format!("recv {} 32", id), "0 susp 0 more 0 gran 0 runs 1/0 2048".to_string()));
+        lines.push((format!("recv {} 32", id), "0 susp 0 more 0 gran 0 runs 1 groups 32/0 2048".to_string()));
     }
     let lines: Vec<(&str, &str)> = lines.iter().map(|(line, answer)| (line.as_str(), answer.as_str())).collect();
     shelf(&lines);
@@ -253,7 +253,7 @@ fn controllers_that_are_not_tracked() {
         ("batch 5 0 1 6 0 0 5 0 1", "0 done 1 new 0 refusal 4"),
         // Nothing of this was kept.
         (START, "0"),
-        ("recv 5 64", "0 susp 0 more 0 gran 0 runs 0"),
+        ("recv 5 64", "0 susp 0 more 0 gran 0 runs 0 groups 1"),
     ]);
 }
 
@@ -271,10 +271,10 @@ fn suspended_and_resumed() {
         ("batch 5 18446744073709551615 2", "0 done 0 new 0 refusal 4"),
         ("batch 5 73728 0", "0 done 0 new 0 refusal 4"),
         ("batch", "0 done 0 new 0 refusal 0"),
-        ("recv 5 32", "0 susp 1 more 0 gran 0 runs 1/65536 2"),
+        ("recv 5 32", "0 susp 1 more 0 gran 0 runs 1 groups 1/65536 2"),
         ("resume 5", "0"),
         ("batch 5 73728 1 5 73728 1", "0 done 2 new 1 refusal 0"),
-        ("recv 5 32", "0 susp 0 more 0 gran 0 runs 1/73728 1"),
+        ("recv 5 32", "0 susp 0 more 0 gran 0 runs 1 groups 1/73728 1"),
     ]);
 }
 
@@ -296,12 +296,12 @@ fn ends_of_notes() {
         (DEV, "0"),
         ("start 5 0 18446744073709547520 1 0 1", "0"),
         ("batch 5 18446744073709551615 1 5 18446744073709551615 2 5 0 1", "0 done 1 new 1 refusal 14"),
-        ("recv 5 64", "0 susp 0 more 0 gran 0 runs 1/18446744073709547520 1"),
+        ("recv 5 64", "0 susp 0 more 0 gran 0 runs 1 groups 1/18446744073709547520 1"),
         // Units of 2^32 bytes, the first two of memory and the last.
         ("dev 1 0 20 0 16 5", "0"),
         ("start 5 20 18446744069414584320 1 0 2", "0"),
         ("batch 5 4294967295 2 5 18446744069414584319 1 5 18446744073709551615 1", "0 done 3 new 3 refusal 0"),
-        ("recv 5 64", "0 susp 0 more 0 gran 20 runs 2/18446744069414584320 1/0 2"),
+        ("recv 5 64", "0 susp 0 more 0 gran 20 runs 2 groups 1/18446744069414584320 1/0 2"),
     ]);
 }
 
@@ -312,12 +312,12 @@ fn ends_of_notes() {
 #[test]
 fn whole_example_of_document_01() {
     let input = "dev 1 0 8 0 16 5 6\nstart 5 0 65536 4\nwrite 5 69632 1\nwrite 5 73727 2\nrecv 5 64\nrecv 6 64\n";
-    let answers = "0\n0\n0 1\n0 1\n0 susp 0 more 0 gran 0 runs 1\n69632 2\n5\n";
+    let answers = "0\n0\n0 1\n0 1\n0 susp 0 more 0 gran 0 runs 1 groups 1\n69632 2\n5\n";
     assert_eq!(output(input.as_bytes()), answers);
     assert_eq!(output(input.trim_end().as_bytes()), answers);
     // Its two writes as a batch.
     let input = "dev 1 0 8 0 16 5 6\nstart 5 0 65536 4\nbatch 5 69632 1 5 73727 2\nrecv 5 64\nrecv 6 64";
-    let answers = "0\n0\n0 done 2 new 2 refusal 0\n0 susp 0 more 0 gran 0 runs 1\n69632 2\n5\n";
+    let answers = "0\n0\n0 done 2 new 2 refusal 0\n0 susp 0 more 0 gran 0 runs 1 groups 1\n69632 2\n5\n";
     assert_eq!(output(input.as_bytes()), answers);
 }
 
@@ -329,13 +329,13 @@ fn between_other_calls() {
         ("write 5 65536 1", "0 1"),
         ("batch 5 65536 1 5 69632 1", "0 done 2 new 1 refusal 0"),
         ("write 5 69632 1", "0 0"),
-        ("recv 5 47", "0 susp 0 more 0 gran 0 runs 1/65536 2"),
+        ("recv 5 47", "0 susp 0 more 0 gran 0 runs 1 groups 1/65536 2"),
         ("batch 5 65536 1 5 73728 1 8 0 1 5 77824 1", "0 done 2 new 2 refusal 2"),
-        ("recv 5 47", "0 susp 0 more 1 gran 0 runs 1/65536 1"),
+        ("recv 5 47", "0 susp 0 more 1 gran 0 runs 1 groups 1/65536 1"),
         // Page 16 was reported, page 18 is still pending.
         ("batch 5 65536 1 5 73728 1", "0 done 2 new 1 refusal 0"),
         ("recv 5 31", "8"),
-        ("recv 5 64", "0 susp 0 more 0 gran 0 runs 2/65536 1/73728 1"),
+        ("recv 5 64", "0 susp 0 more 0 gran 0 runs 2 groups 1/65536 1/73728 1"),
         // A refused start changes nothing; a stop forgets.
         ("batch 5 65536 16384", "0 done 1 new 4 refusal 0"),
         ("start 5 0 0 1", "3"),
@@ -344,7 +344,7 @@ fn between_other_calls() {
         ("stop 5", "0"),
         ("batch 5 65536 16384", "0 done 1 new 0 refusal 0"),
         (START, "0"),
-        ("recv 5 64", "0 susp 0 more 0 gran 0 runs 0"),
+        ("recv 5 64", "0 susp 0 more 0 gran 0 runs 0 groups 1"),
         ("batch 5 65536 16384", "0 done 1 new 4 refusal 0"),
         // A refused dev keeps all; a done one keeps nothing.
         ("dev 1 0 8 0 16", "16"),
@@ -416,13 +416,13 @@ fn lists_of_1024_to_1101() {
         (&batch_of(&all), "bad"),
         (&half, "bad"),
         // Of all these no note was done.
-        ("recv 5 32", "0 susp 0 more 0 gran 0 runs 0"),
+        ("recv 5 32", "0 susp 0 more 0 gran 0 runs 0 groups 64"),
         (&batch_of(&last_refused), "0 done 1023 new 1023 refusal 2"),
         (&batch_of(&all[..1024]), "0 done 1024 new 1 refusal 0"),
-        ("recv 5 32", "0 susp 0 more 0 gran 0 runs 1/0 1024"),
+        ("recv 5 32", "0 susp 0 more 0 gran 0 runs 1 groups 64/0 1024"),
         (&batch_of(&all[..1024]), "0 done 1024 new 1024 refusal 0"),
         (&batch_of(&all[1..1025]), "0 done 1024 new 1 refusal 0"),
-        ("recv 5 32", "0 susp 0 more 0 gran 0 runs 1/0 1025"),
+        ("recv 5 32", "0 susp 0 more 0 gran 0 runs 1 groups 64/0 1025"),
     ]);
 }
 
@@ -441,7 +441,7 @@ fn bursts() {
         ("burst 2000 5 65536 1", "22"),
         ("burst 2000 1 0 0", "22"),
         ("burst 2001 5 65536 1", "bad"),
-        ("recv 5 64", "0 susp 0 more 0 gran 0 runs 0"),
+        ("recv 5 64", "0 susp 0 more 0 gran 0 runs 0 groups 1"),
         ("burst 1 5 65536 8192", "0 done 1 new 2 refusal 0"),
         ("burst 2 5 69632 8192", "0 done 2 new 1 refusal 0"),
         ("burst 1023 5 65536 16384", "0 done 1023 new 1 refusal 0"),
@@ -452,7 +452,7 @@ fn bursts() {
         ("susp 5 1", "0"),
         ("burst 1024 5 65536 1", "0 done 0 new 0 refusal 4"),
         ("burst 1025 5 65536 1", "22"),
-        ("recv 5 64", "0 susp 1 more 0 gran 0 runs 1/65536 4"),
+        ("recv 5 64", "0 susp 1 more 0 gran 0 runs 1 groups 1/65536 4"),
     ]);
 }
 
@@ -560,7 +560,7 @@ fn damaged_lines() {
             (DEV, "0"),
             (START, "0"),
             (line, "bad"),
-            ("recv 5 64", "0 susp 0 more 0 gran 0 runs 0"),
+            ("recv 5 64", "0 susp 0 more 0 gran 0 runs 0 groups 1"),
             ("batch 5 65536 1", "0 done 1 new 1 refusal 0"),
         ]);
     }

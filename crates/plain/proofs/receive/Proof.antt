@@ -114,7 +114,7 @@ list-units-requires : tie.Need-list-units-requires
 list-units-requires c κs = let s = asks (c .before .before .before) in (s .some, s .few, s .within, s .ends, omega arith)
 
 cast-put-header : tie.Need-cast-put-header
-cast-put-header c = let s = asks (c .before .before .before .before .before .before .before .before .before .before) in omega (arith, lists-few _ _ _ _ _ _ _ _ _ (c .before .before .before .before .before .before .list-units .ensures), s .within, s .whole)
+cast-put-header c = let s = asks (c .before .before .before .before .before .before .before .before .before .before) in omega (arith, lists-few _ _ _ _ _ _ _ _ _ _ (c .before .before .before .before .before .before .list-units .ensures), s .within, s .whole)
 
 put-header-requires : tie.Need-put-header-requires
 put-header-requires c κs = search needs
@@ -129,7 +129,7 @@ returns-4 : tie.Need-returns-4
 returns-4 c =
     let k = c .before .before .before .before .before .before .before .before .before .before .before .before .before .before .before .before in
     let s = rw (one-unit _ _ (c .before .before .before .before .before .before .before .before .before .before .before .before .before .bytes-of .ensures), c .before .before .before .before .before .before .before .before .before .before .before .before .before .before .ranges-of .ensures .0) at (c .before .before .before .before .before .before .before .before .before .list-units .ensures) in
-    receive-done inBytes _ _ _ _ _ (found (k .before .before .before .before)) _ _ (k .before .t .given .1) (c .before .before .before .before .before .before .before .before .before .before .before .before .before .before .before .if1 .left) _ _ _ _ _ (s .count-is) (s .more-is) (s .area-is) (s .buffer-is)
+    receive-done inBytes _ _ _ _ _ (found (k .before .before .before .before)) _ _ (k .before .t .given .1) (c .before .before .before .before .before .before .before .before .before .before .before .before .before .before .before .if1 .left) _ _ _ _ _ _ (s .count-is) (s .more-is) (s .groups-is) (s .area-is) (s .buffer-is)
     (c .before .before .put-header .ensures)
 
 pub receive-spec : {M : Type 1} → statement M

@@ -1,6 +1,6 @@
 -- `plain_marks::list_units` is right because it goes over the units as they are listed: a pending one begins a run or lengthens the one that is growing, and
--- any other ends it. The invariant of both loops (`Listing`): the runs from now on make of the bytes and the count as they are now what is promised. The
--- measures are the rows left, and the row's units left. Assumes nothing.
+-- any other ends it. The invariant of both loops (`Listing`): the runs from now on make of the bytes and the count as they are now what is promised, and
+-- the marks of the units left tell the groups. The measures are the rows left, and the row's units left. Assumes nothing.
 use mathlib.Core.Path.{_≡_, refl, sym, ap, _∙_}
 use mathlib.Core.Bool.{Bool}
 use mathlib.Core.Logic.{inl, inr, ⊎-elim}
@@ -12,7 +12,7 @@ use borrow.Author.Needs.{needs}
 use Rattle.little.specs.Little.{put, records}
 use Rattle.rules.specs.Lists.{join, nonEmpty}
 use Rattle.rules.specs.Units.{unitsFrom}
-use Rattle.rules.specs.Report.{descriptor, descriptorBytes, reportedRuns, laterRuns}
+use Rattle.rules.specs.Report.{descriptor, descriptorBytes, reportedRuns, laterRuns, groupsOn}
 use Rattle.pieces.specs.Pieces.{rowOf}
 use Rattle.plain_marks.specs.Plain.{marksOf, clearBytes}
 use Rattle.plain_marks.proofs.MarkLaws.{unit-within}
@@ -24,8 +24,8 @@ abbrev Inv-loop2 : tie.InvT-loop2
 Inv-loop2 area₀ base size n buffer₀ room ranges runs₀ place₀ row r start₀ units₀ unit₀ unit-end area buffer runs place start units unit =
     (length area ≡ length area₀)
     × (length buffer ≡ length buffer₀)
-    × ((count : ℕ) (more : Bool) (area″ x″ : List ℕ) → Listing size room ranges n row 0 area₀ buffer₀ place₀ 0 0 runs₀ count more area″ x″
-    → Listing size room ranges n row unit area buffer place start units runs count more area″ x″)
+    × ((count : ℕ) (more : Bool) (groups : ℕ) (area″ x″ : List ℕ) → Listing size room base ranges n row 0 area₀ buffer₀ place₀ 0 0 runs₀ count more groups area″ x″
+    → Listing size room base ranges n row unit area buffer place start units runs count more groups area″ x″)
 
 abbrev μ-loop2 : tie.MeasureT-loop2
 μ-loop2 area₀ base size n buffer₀ room ranges runs₀ place₀ row r start₀ units₀ unit₀ unit-end area buffer runs place start units unit = unit-end - unit
@@ -37,7 +37,7 @@ Inv-loop area₀ base size n buffer₀ room ranges runs₀ place₀ row₀ area 
     (length area ≡ length area₀)
     × (length buffer ≡ length buffer₀)
     × (length ranges ≡ 16)
-    × Listing size room ranges n row 0 area buffer place 0 0 runs (length (reportedRuns room us p)) (nonEmpty (laterRuns room us p))
+    × Listing size room base ranges n row 0 area buffer place 0 0 runs (length (reportedRuns room us p)) (nonEmpty (laterRuns room us p)) (groupsOn room us p)
     (take base area₀ ++ clearBytes (length (join (reportedRuns room us p))) (drop base area₀)) (put buffer₀ 16 (records descriptorBytes (map descriptor (reportedRuns room us p))))
 
 abbrev μ-loop : tie.MeasureT-loop
@@ -59,7 +59,7 @@ ends c =
 roomy : (c : tie.At-loop2 Inv-loop2 μ-loop2 Inv-loop μ-loop) → 0 < c .loop2 .units → 16 + 16 * c .loop2 .runs + 16 ≤ length (c .loop2 .buffer)
 roomy c h =
     let l = c .before .before .before .before in
-    omega (arith, c .loop2 .inv .2 _ _ _ _ (l .loop .inv .3) .ahead .growing h, c .loop2 .inv .1, l .loop .inv .1, l .before .before .before .pre .4)
+    omega (arith, c .loop2 .inv .2 _ _ _ _ _ (l .loop .inv .3) .ahead .growing h, c .loop2 .inv .1, l .loop .inv .1, l .before .before .before .pre .4)
 
 -- the byte of the controller's next unit is there
 there : (c : tie.Else1 Inv-loop2 μ-loop2 Inv-loop μ-loop) → c .before .before .before .before .loop2 .place < length (c .before .before .before .before .loop2 .area)
@@ -67,7 +67,7 @@ there c =
     let l2 = c .before .before .before .before in
     let l = l2 .before .before .before .before in
     let s = l .before .before .before in
-    listing-there _ _ (s .pre .0) _ _ _ (omega arith) _ _ _ _ _ _ _ _ _ _ _ (l2 .loop2 .inv .2 _ _ _ _ (l .loop .inv .3)) (c .before .before .before .loop2-test .taken) (sym (c .before .covered .ensures) ∙ c .if1 .left)
+    listing-there _ _ _ (s .pre .0) _ _ _ (omega arith) _ _ _ _ _ _ _ _ _ _ _ _ (l2 .loop2 .inv .2 _ _ _ _ _ (l .loop .inv .3)) (c .before .before .before .loop2-test .taken) (sym (c .before .covered .ensures) ∙ c .if1 .left)
 
 loop-holds : tie.Need-loop-holds Inv-loop2 μ-loop2 Inv-loop μ-loop
 loop-holds c = (refl, refl, search needs, listing-start _ _ _ _ _ _ _ (c .before .before .pre .2))
@@ -82,7 +82,7 @@ cast-unit-end : tie.Need-cast-unit-end Inv-loop2 μ-loop2 Inv-loop μ-loop
 cast-unit-end c = search needs
 
 loop2-holds : tie.Need-loop2-holds Inv-loop2 μ-loop2 Inv-loop μ-loop
-loop2-holds c = (refl, refl, λ n b a x s. s)
+loop2-holds c = (refl, refl, λ n b g a x s. s)
 
 mul-address : tie.Need-mul-address Inv-loop2 μ-loop2 Inv-loop μ-loop
 mul-address c = omega (arith, ends c)
@@ -102,6 +102,14 @@ slice-read-if2 c = there (c .before)
 end-run-requires-2 : tie.Need-end-run-requires-2 Inv-loop2 μ-loop2 Inv-loop μ-loop
 end-run-requires-2 c κs = roomy (c .before .before .before .before .before .before .before)
 
+sub-t36 : tie.Need-sub-t36 Inv-loop2 μ-loop2 Inv-loop μ-loop
+sub-t36 c =
+    let l2 = c .before .before .before .before .before .before .before .before in
+    omega (arith, l2 .loop2 .inv .2 _ _ _ _ _ (l2 .before .before .before .before .loop .inv .3) .ahead .from)
+
+add-t38 : tie.Need-add-t38 Inv-loop2 μ-loop2 Inv-loop μ-loop
+add-t38 c = omega (arith, there (c .before .before .before .before))
+
 same-length : tie.Need-same-length Inv-loop2 μ-loop2 Inv-loop μ-loop
 same-length c = let l2 = c .before .before .before .before .before .before .before .before in omega (arith, l2 .loop2 .inv .0, l2 .before .before .before .before .loop .inv .0)
 
@@ -114,8 +122,8 @@ returns c =
     let l2 = e .before .before .before .before in
     let l = l2 .before .before .before .before in
     let s = l .before .before .before in
-    listing-promise _ _ _ _ _ _ _ _ _ (omega (arith, s .pre .2))
-    (listing-full _ _ (s .pre .0) _ _ _ (omega arith) _ _ _ _ _ _ _ _ _ _ _ (l2 .loop2 .inv .2 _ _ _ _ (l .loop .inv .3)) (e .before .before .before .loop2-test .taken) (sym (e .before .covered .ensures) ∙ e .if1 .left)
+    listing-promise _ _ _ _ _ _ _ _ _ _ (omega (arith, s .pre .2))
+    (listing-full _ _ _ (s .pre .0) _ _ _ (omega arith) _ _ _ _ _ _ _ _ _ _ _ _ (l2 .loop2 .inv .2 _ _ _ _ _ (l .loop .inv .3)) (e .before .before .before .loop2-test .taken) (sym (e .before .covered .ensures) ∙ e .if1 .left)
     (c .before .before .if2 .left) (c .before .if3 .taken) (c .if4 .taken))
 
 slice-write-area : tie.Need-slice-write-area Inv-loop2 μ-loop2 Inv-loop μ-loop
@@ -124,7 +132,7 @@ slice-write-area c = there (c .before .before .before)
 add-units : tie.Need-add-units Inv-loop2 μ-loop2 Inv-loop μ-loop
 add-units c =
     let l2 = c .before .before .before .before .before .before .before in
-    omega (arith, l2 .loop2 .inv .2 _ _ _ _ (l2 .before .before .before .before .loop .inv .3) .short)
+    omega (arith, l2 .loop2 .inv .2 _ _ _ _ _ (l2 .before .before .before .before .loop .inv .3) .short)
 
 add-place : tie.Need-add-place Inv-loop2 μ-loop2 Inv-loop μ-loop
 add-place c = omega (arith, there (c .before .before))
@@ -153,18 +161,18 @@ loop2-again c =
           (λ v. ap length (v .3) ∙ l2 .loop2 .inv .1)
           (w .2 .came))
           (c .if1 .came),
-      λ count more a x m.
-          let k = l2 .loop2 .inv .2 count more a x m in
+      λ count more groups a x m.
+          let k = l2 .loop2 .inv .2 count more groups a x m in
           ⊎-elim
           (λ w. rw (w .5, w .6, w .7, w .8, w .9, w .10)
-          (listing-covered _ _ (s .pre .0) _ _ _ (omega arith) _ _ _ _ _ _ _ _ _ _ _ k _ _ (w .2 .ensures .0) (w .2 .ensures .1) t (sym (c .before .covered .ensures) ∙ w .0 .taken)))
+          (listing-covered _ _ _ (s .pre .0) _ _ _ (omega arith) _ _ _ _ _ _ _ _ _ _ _ _ k _ _ (w .2 .ensures .0) (w .2 .ensures .1) t (sym (c .before .covered .ensures) ∙ w .0 .taken)))
           (λ w. let q = sym (c .before .covered .ensures) ∙ w .0 .left in
           rw (w .3, w .4, w .5, w .6, w .7, w .8)
           (⊎-elim
           (λ v. rw (v .5, v .6, v .7, v .8, v .9)
-          (listing-clear _ _ (s .pre .0) _ _ _ (omega arith) _ _ _ _ _ _ _ _ _ _ _ k t q (v .0 .taken) _ _ (v .2 .ensures .0) (v .2 .ensures .1)))
+          (listing-clear _ _ _ (s .pre .0) _ _ _ (omega arith) _ _ _ _ _ _ _ _ _ _ _ _ k t q (v .0 .taken) _ _ (v .2 .ensures .0) (v .2 .ensures .1)))
           (λ v. rw (v .2, v .3, v .4, v .5, v .6)
-          (listing-grow _ _ (s .pre .0) _ _ _ (omega arith) _ _ _ _ _ _ _ _ _ _ _ k t q (v .0 .left) _
+          (listing-grow _ _ _ (s .pre .0) _ _ _ (omega arith) _ _ _ _ _ _ _ _ _ _ _ _ k t q (v .0 .left) _
           (⊎-elim (λ y. inl (y .0 .taken, y .1 .left, y .2)) (λ y. inr (y .0 .left, y .1)) (v .1 .came))))
           (w .2 .came)))
           (c .if1 .came),
@@ -188,8 +196,14 @@ loop-again c =
       omega (arith, l2 .loop2 .inv .0, l .loop .inv .0),
       stored-length (l2 .loop2 .units) (l2 .loop2 .runs) (l2 .loop2 .start) (l2 .loop2 .buffer) _ (r .ensures .1) ∙ l2 .loop2 .inv .1 ∙ l .loop .inv .1,
       l .loop .inv .2,
-      listing-row _ _ (s .pre .0) _ _ _ (omega arith) _ _ _ _ _ _ _ _ _ _ _ (l2 .loop2 .inv .2 _ _ _ _ (l .loop .inv .3)) _ _ (r .ensures .0) (r .ensures .1) (c .before .before .before .before .loop2-test .left),
+      listing-row _ _ _ (s .pre .0) _ _ _ (omega arith) _ _ _ _ _ _ _ _ _ _ _ _ (l2 .loop2 .inv .2 _ _ _ _ _ (l .loop .inv .3)) _ _ (r .ensures .0) (r .ensures .1) (c .before .before .before .before .loop2-test .left),
     )
+
+sub-t42 : tie.Need-sub-t42 Inv-loop2 μ-loop2 Inv-loop μ-loop
+sub-t42 c = c .before .loop .inv .3 .ahead .from
+
+add-t43 : tie.Need-add-t43 Inv-loop2 μ-loop2 Inv-loop μ-loop
+add-t43 c = omega (arith, c .before .loop .inv .3 .fits, c .before .loop .inv .0)
 
 same-length-3 : tie.Need-same-length-3 Inv-loop2 μ-loop2 Inv-loop μ-loop
 same-length-3 c = search needs
@@ -202,8 +216,8 @@ returns-2 c =
     let l = c .before in
     let s = l .before .before .before in
     let a = s .args in
-    listing-promise _ _ _ _ _ _ _ _ _ (omega (arith, s .pre .2))
-    (listing-done _ _ _ _ _ _ _ _ _ _ _ _ _ _ (l .loop .inv .3) (omega (arith, length-take (a .n) (a .t5), c .loop-test .left)))
+    listing-promise _ _ _ _ _ _ _ _ _ _ (omega (arith, s .pre .2))
+    (listing-done _ _ _ _ _ _ _ _ _ _ _ _ _ _ _ _ (l .loop .inv .3) (omega (arith, length-take (a .n) (a .t5), c .loop-test .left)))
 
 pub list-units-spec : {M : Type 1} → statement M
 list-units-spec =
@@ -224,6 +238,8 @@ list-units-spec =
     end-run-requires
     slice-read-if2
     end-run-requires-2
+    sub-t36
+    add-t38
     same-length
     same-length-2
     returns
@@ -237,6 +253,8 @@ list-units-spec =
     add-row
     loop-less
     loop-again
+    sub-t42
+    add-t43
     same-length-3
     same-length-4
     returns-2)

@@ -121,7 +121,7 @@ list-runs-requires c κs =
 cast-put-header : tie.Need-cast-put-header
 cast-put-header c =
     let m = c .before .before .before .before .before .before .before .before .before .before .before .before in
-    omega (arith, lists-few _ _ _ _ _ _ _ _ _ _ (rw (c .before .before .before .before .before .before .before .before .before .before .ranges-of .ensures .0) at (c .before .before .before .before .before .before .list-runs .ensures)), fits (c .before .before .before .before .before .before .before .before .before .before))
+    omega (arith, lists-few _ _ _ _ _ _ _ _ _ _ _ (rw (c .before .before .before .before .before .before .before .before .before .before .ranges-of .ensures .0) at (c .before .before .before .before .before .before .list-runs .ensures)), fits (c .before .before .before .before .before .before .before .before .before .before))
 
 put-header-requires : tie.Need-put-header-requires
 put-header-requires c κs = search needs
@@ -138,8 +138,8 @@ returns-4 c =
     let h = r .before .before .before .before .before in
     let m = h .before in
     let s = rw (r .before .before .before .before .ranges-of .ensures .0) at (r .list-runs .ensures) in
-    receive-done inWords _ _ _ _ _ (found (m .before .before .before .before)) _ _ (m .before .t .given .1) (h .if1 .left) _ _ _ _ _ (s .count-is) (s .more-is)
-    (lists-words _ _ _ _ _ _ _ _ _ _ s (λ i. c .before .before .before .before .before .before .before .slice-known3 .given i .fits) (r .list-runs .kept .0))
+    receive-done inWords _ _ _ _ _ (found (m .before .before .before .before)) _ _ (m .before .t .given .1) (h .if1 .left) _ _ _ _ _ _ (s .count-is) (s .more-is) (s .groups-is)
+    (lists-words _ _ _ _ _ _ _ _ _ _ _ s (λ i. c .before .before .before .before .before .before .before .slice-known3 .given i .fits) (r .list-runs .kept .0))
     (s .bytes-are) (c .before .before .put-header .ensures)
 
 pub receive-spec : {M : Type 1} → statement M
