@@ -11,7 +11,7 @@ GROUP = 64
 
 
 def stretches(unit, ranges):
-    """What each range has for itself, without what earlier ones have: pairs of a first page of this size and the one after the last."""
+    """What each range has for itself, without what earlier ones have: units by their number in memory, from one up to another."""
     listed, own = [], []
     for start, length in ranges:
         left = [(start // unit, start // unit + length)]

@@ -78,7 +78,7 @@ def second_run_at_each_unit():
 def behind_another():
     """Behind so many units of another controller, which begin the pool, the numbers are the same."""
     for before in (1, 5, 31, 59, 60, 63, 64, 65, 100, 127, 128, 8000):
-        rows = [dev(5, 6), (f"start 6 0 0 200", "0"), (f"start 5 0 0 {before}", "0")]
+        rows = [dev(5, 6), ("start 6 0 0 200", "0"), (f"start 5 0 0 {before}", "0")]
         for unit in (2, 3, 4, 58, 59, 60, 62, 63, 64, 65, 122, 126, 127, 128, 129, 190, 191, 192, 199):
             rows += [notes(6, [0, unit]), recv(6, 32, unit // 64 + 1, [(0, 1)], more=1), recv(6, 32, 4, [(4096 * unit, 1)])]
         yield case(f"run 2 at units behind {before} of another controller", rows)

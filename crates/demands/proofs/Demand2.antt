@@ -35,6 +35,7 @@ use Rattle.rules.specs.declared.Sequence.{Sequence}
 use Rattle.rules.specs.declared.Sequence.the-variants.{Nothing, Open}
 use Rattle.rules.specs.declared.Controller.{Controller}
 use Rattle.rules.specs.declared.Device.{Device}
+use Rattle.rules.proofs.GroupLaws.{groups-most}
 use Rattle.rules.proofs.ListLaws.{All, All-append, not-intro, and-left, getElem?-at}
 use Rattle.rules.proofs.RefusalLaws.{Passed, passes-Passed, verdict-has, verdict-passed, verdict-done}
 use Rattle.rules.proofs.UnitLaws.{mark-length, mark-at}
@@ -494,6 +495,7 @@ module _ (s : Settings) (m : Given) (ks : List Call) (sizes : Sized s m) (made :
                   rules.demand-2 .reports s (length (m .marks)) ks a (suspendedBy false h) g rs p (ap isSuspended z) (ap (λ (y : Slot). y .marks) z ∙ ap (marksBy h) by) k;
               fits = rules.demand-2 .room (length x) (omega (arith, long));
               answer = refl;
+              most = groups-most k us p sized (omega (arith, within));
               front = put-take-front x (16 + 16 * length (r .descriptors)) (reportBytes a r) (reportBytes-length a r) fit;
               rest = report-rest a r x;
               read-back = λ small. reads-back a g (suspendedBy false h) rs p x small (facts .small) (facts .rows) (omega (arith, within)) long;

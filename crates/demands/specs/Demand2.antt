@@ -166,6 +166,7 @@ pub record Received (h : List Did) (a base g : ℕ) (us : List Unit) (x : List �
   -- the answer says what the report's header says, and how many groups were examined (W10: `Reports`, `examined` and its like)
   pub answer : r .answer
       ≡ record { number = 0; suspended = r .report .suspended; more = r .report .more; granularity = r .report .granularity; runs = length (r .report .descriptors); groups = r .report .groups }
+  pub most : r .answer .groups ≤ 256
   -- the report stands at the buffer's front; bytes after the last descriptor are unchanged
   pub front : take (reportSize (length (r .report .descriptors))) (r .buffer) ≡ reportBytes a (r .report)
   pub rest : drop (reportSize (length (r .report .descriptors))) (r .buffer) ≡ drop (reportSize (length (r .report .descriptors))) x

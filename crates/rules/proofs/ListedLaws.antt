@@ -22,7 +22,7 @@ use Rattle.rules.specs.Demands.{InRange, UnitsListed}
 use Rattle.rules.specs.declared.Range.{Range}
 use Rattle.rules.proofs.ListLaws.{All, All-map, All-both, All-append, All-keep, All-kept, All-at, Pairwise, Pairwise-append, Pairwise-keep, Pairwise-at, and-left, and-right, and-intro, or-intro-left, or-intro-right, or-neither, any-snoc, any-none-at, any-from, any-where, some-inj}
 use Rattle.rules.proofs.RowLaws.{rowOk-facts}
-use Rattle.rules.proofs.UnitLaws.{In, Free, Apart, Aligned, aligned-gap, unitSize-pos, unitsOfRow-row, unitsOfRow-within, unitsFrom-sized, unitsFrom-aligned, unitsFrom-apart}
+use Rattle.rules.proofs.UnitLaws.{In, Free, Apart, Apart-at, Aligned, aligned-gap, unitSize-pos, unitsOfRow-row, unitsOfRow-within, unitsFrom-sized, unitsFrom-aligned, unitsFrom-apart}
 
 -- ---- a unit stands in the row of the earliest range that covers it
 
@@ -106,18 +106,6 @@ all-begin s row before (r ∷ rs) x z h d free e = go (all-begin s (suc row) (be
         (row-begins (uncovered s before) row s (r .start) (r .length) x z (h .0) d (λ u q. ap not (ap (λ a. any (λ p. covers s p a) before) q ∙ free))
         (leb-true (r .start) x (and-left (leb (r .start) x) (ltb x (r .start + r .length * s)) c)) (ltb-true x (r .start + r .length * s) (and-right (leb (r .start) x) (ltb x (r .start + r .length * s)) c)))
     go g false c k = begins-right x own (unitsFrom s (suc row) (before ++ r ∷ []) rs) (g (any-snoc (λ q. covers s q x) before r ∙ or-neither (any (λ q. covers s q x) before) (covers s r x) free c) k)
-
--- ---- no two share a byte
-
-Apart-at : (us : List Unit) → Apart us → (m n : ℕ) (u v : Unit) → getElem? us m ≡ some u → getElem? us n ≡ some v → (x : ℕ) → In x u → In x v → m ≡ n
-Apart-at [] h m n u v e f x i j = absurd (none-some e)
-  where
-    none-some : {A : Type 0} {a : A} → none ≡ some a → ⊥
-    none-some q = let z : _≡_ {A = ℕ} 0 1 = cc in absurd (omega arith)
-Apart-at (w ∷ us) h zero zero u v e f x i j = refl
-Apart-at (w ∷ us) h zero (suc n) u v e f x i j = absurd (All-at (Free w) us n v (h .0) f x (subst (In x) (sym (some-inj e)) i) j)
-Apart-at (w ∷ us) h (suc m) zero u v e f x i j = absurd (All-at (Free w) us m u (h .0) e x (subst (In x) (sym (some-inj f)) j) i)
-Apart-at (w ∷ us) h (suc m) (suc n) u v e f x i j = ap suc (Apart-at us (h .1) m n u v e f x i j)
 
 -- ---- in order: by row, then by address
 

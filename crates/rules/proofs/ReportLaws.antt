@@ -16,7 +16,7 @@ use Rattle.rules.specs.Report.{follows, withFirst, runs, reportedRuns, m
 use Rattle.rules.specs.Demands.{isRow, areCut, becomes, setIn, Runs, Reports, Writes}
 use Rattle.rules.proofs.ListLaws.{All, All-map, All-left, All-at, map-at, join-take-drop, and-left, and-right, and-intro, not-intro}
 use Rattle.rules.proofs.UnitLaws.{Free, Apart, Sized, All-pending, Apart-pending, newly-is, unitSize-pos}
-use Rattle.rules.proofs.GroupLaws.{groups-first, groups-all, groups-most}
+use Rattle.rules.proofs.GroupLaws.{run-none, groups-run, groups-all, groups-most, no-further}
 use Rattle.rules.proofs.RunLaws.{listed, runs-join, runs-unlisted, first-runs, marksLeft-map, more-exactly}
 
 -- ---- runs are cut where the next unit does not follow, and nowhere else
@@ -126,6 +126,11 @@ nonEmpty-not : (us : List Unit) → (nonEmpty us ≡ false) ↔ (us ≡ [])
 nonEmpty-not [] = ((λ e. refl), (λ e. refl))
 nonEmpty-not (u ∷ us) = ((λ e. absurd (true≢false e)), (λ e. ap nonEmpty e))
 
+-- a unit has a byte
+sized-some : (g : ℕ) (us : List Unit) → Sized (unitSize g) us → All (λ (u : Unit). 0 < u .size) us
+sized-some g [] h = tt
+sized-some g (u ∷ us) h = (omega (arith, h .0, unitSize-pos g), sized-some g us (h .1))
+
 -- marks that are a function of the unit, as a session leaves them
 pub reports-map : (b : Bool) (f : Unit → Bool) (g k : ℕ) (us : List Unit) → Sized (unitSize g) us → Apart us → Reports b g k us (map f us)
 reports-map b f g k us sized separate =
@@ -142,9 +147,11 @@ reports-map b f g k us sized separate =
         (λ e. nonEmpty-not (pending us (marksLeft k us (map f us))) .0 (sym (more-exactly b g k us (map f us)) ∙ e)),
         (λ e. more-exactly b g k us (map f us) ∙ nonEmpty-not (pending us (marksLeft k us (map f us))) .1 e),
       );
-      examined = λ n more e c. groups-first k us (map f us) n (length-map us f) more e c;
-      examined-all = λ none. groups-all k us (map f us) none;
+      examined = λ n u vs e h. groups-run k us (map f us) separate (sized-some g us sized) n u vs e h;
+      examined-all = λ e. groups-all k us (map f us) (run-none k (runs (pending us (map f us))) .1 e);
+      stays = run-none k (runs (pending us (map f us)));
       examined-most = λ few. groups-most k us (map f us) (length-map us f) few;
+      no-further = λ q l e. no-further b g k us (map f us) q (length-map us f) l e;
     }
 
 -- ---- the count of a write

@@ -1,23 +1,24 @@
 -- The demands, proved of the rules: one declaration for each statement of specs/Demands.antt. Assumes nothing.
 use mathlib.Core.Path.{_≡_, refl, sym, ap, _∙_}
 use mathlib.Core.Logic.{_↔_}
-use mathlib.Core.Bool.{true, true≢false}
+use mathlib.Core.Bool.{Bool, true, false, cond, true≢false}
 use mathlib.Core.List.{List, [], _∷_}
 use mathlib.Core.Option.{Option, none, some}
 use Prim.Native.Nat.{ℕ, _+_, _-_, _%_, _^_, _≤_, _<_}
 use native.Mathlib.Omega.{arith}
 use native.Mathlib.Nat.{lt-of-lt-of-le, mul-mod-right}
-use lib.ListN.{getElem?}
+use lib.ListN.{length, getElem?}
+use Rattle.rules.specs.declared.Range.{Range}
 use lib.Pow.{pow-add, pow-mono, shl-lt}
 use Rattle.little.specs.Little.{numberAt, numberBytes, records, recordsAt}
 use Rattle.rules.specs.Settings.{settingsOk, placeOf, granularityOk, unitSize}
 use Rattle.rules.specs.Units.{Unit, Write, units, touches}
 use Rattle.rules.specs.Ranges.{rangeTests, powersOk}
 use Rattle.rules.specs.StartData.{rangesOf, startBytes}
-use Rattle.rules.specs.Report.{reportBytes}
-use Rattle.rules.specs.Order.{Op, order}
+use Rattle.rules.specs.Report.{flag, room, reportOn, reportBytes}
+use Rattle.rules.specs.Order.{Op, receive, receiveOrder, order}
 use Rattle.rules.specs.Device.{sound, heldOk}
-use Rattle.rules.specs.Machine.{Answer, refused, on, Slot, pendingIn, entriesIn, accepted, State, opened, fresh, closed, slotAt, withSlot, slotOf, seenAt, arrivingAt, stepAt, Call, step, after}
+use Rattle.rules.specs.Machine.{Answer, refused, reported, numberOf, on, Slot, pendingIn, entriesIn, accepted, State, opened, fresh, closed, slotAt, withSlot, slotOf, seenAt, arrivingAt, stepAt, Call, step, after}
 use Rattle.rules.specs.History.{Did, only, isAccepted, pendingBy}
 use Rattle.rules.specs.Demands.{sessionEnd, sessionHistory, Refusals, Soundness, Pending, Demand2, Agree, unhindered, lentBytes, Demand3, Granularities}
 use Rattle.rules.specs.ControllerState.{stateOk}
@@ -26,7 +27,7 @@ use Rattle.rules.specs.Worked.{cases, Worked, WorkedStates, WorkedGroups
 use Rattle.rules.specs.Layouts.{Layouts}
 use Rattle.rules.specs.declared.Settings.{Settings}
 use Rattle.rules.proofs.ListLaws.{map-at, some-inj}
-use Rattle.rules.proofs.RefusalLaws.{verdict-has}
+use Rattle.rules.proofs.RefusalLaws.{verdict-has, verdict-done}
 use Rattle.rules.proofs.ListedLaws.{units-listed}
 use Rattle.rules.proofs.UnitLaws.{unitsFrom-sized, touches-iff}
 use Rattle.rules.proofs.SlotHistory.{Told, pendingBy-iff, accepted-done}
@@ -96,6 +97,16 @@ shares-a-byte w u z = (
   (λ r. touches-iff w u z .1 (r .0, r .1, r .2, (r .3, r .4))),
 )
 
+reported-always : (st : State) (a : ℕ) (x : List ℕ) (g : ℕ) (rs : List Range) (p : List Bool) → slotOf st a .marks ≡ on g rs p
+    → numberOf ((step st (record { id = a; op = receive x })) .0) ≡ 0
+    → (step st (record { id = a; op = receive x })) .0 ≡ reported (reportOn (slotOf st a .suspended) g (room (length x)) (units g rs) p)
+unfolding step order
+reported-always st a x g rs p e z =
+    let c = slotOf st a in
+    let r = verdict-done (λ (y : Answer × Slot). numberOf (y .0)) (receiveOrder (seenAt st (placeOf (st .settings) a)) x) (accepted c (receive x)) (λ n j. (refused n j, c)) (λ n j. refl)
+    (omega arith, (omega arith, (omega arith, (omega arith, tt)))) z in
+    ap (λ (y : Answer × Slot). y .0) (r .0) ∙ rw e
+
 pub demand-2 : Demand2
 demand-2 =
     record {
@@ -105,6 +116,7 @@ demand-2 =
           let h : List Did = sessionHistory s words ks a in
           let w : Told h (on g rs p) = rw e at (known-session s words a ks .marks) in
           rw (w .0) (reports-map b (pendingBy h) g k (units g rs) (unitsFrom-sized (unitSize g) 0 [] rs) (w .1));
+      answers = reported-always;
       touches = λ w u. record { exactly = λ z. shares-a-byte w u z; none = λ e. rw e };
       runs = runs-are;
       room = λ bytes h. record { fits = omega arith; no-more = omega arith };
@@ -169,4 +181,20 @@ worked-groups = refl
 
 pub layouts : Layouts
 unfolding startBytes reportBytes numberBytes records
-layouts = record { structure = refl; report = refl; more = refl }
+layouts =
+    record {
+      structure = refl;
+      report = refl;
+      more = refl;
+      attributes = λ id r. bits (r .suspended) (r .more);
+      reserved = λ id r. refl;
+      behind = λ id r. refl;
+      spare = λ d. refl;
+      no-groups = λ id n r. refl;
+    }
+  where
+    bits : (b m : Bool) → (flag b 2 + flag m 1) % 256 ≡ cond b 2 0 + cond m 1 0
+    bits true true = refl
+    bits true false = refl
+    bits false true = refl
+    bits false false = refl

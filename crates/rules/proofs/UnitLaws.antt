@@ -1,22 +1,23 @@
 -- Laws of units and their marks: the units of ranges that pass 9 share no byte and are of one size; what a write marks; what is pending.
 -- Assumes nothing.
-use mathlib.Core.Path.{_≡_, refl, sym, ap, _∙_}
+use mathlib.Core.Path.{_≡_, refl, sym, ap, subst, _∙_}
 use mathlib.Core.Logic.{_↔_}
 use mathlib.Core.Bool.{Bool, true, false, _&&_, _||_, not, cond, true≢false}
 use mathlib.Core.List.{List, [], _∷_, _++_, map}
+use mathlib.Core.Option.{none, some}
 use Prim.Native.Nat.{ℕ, zero, suc, _+_, _*_, _/_, _%_, _≤_, _<_, max}
 use native.Mathlib.Omega.{arith}
 use native.Mathlib.Nat.{zero-add, add-assoc, zero-mul, suc-mul, add-mod-right, div-add-mod', mul-le-mul-right}
 use native.Mathlib.Decide.{decLe, decLt}
 use lib.Dec.{leb, ltb}
-use lib.ListN.{length, getD, length-append}
+use lib.ListN.{length, getD, getElem?, length-append}
 use lib.Pow.{pow-pos}
 use borrow.Author.Tests.{ltb-true, le-leb, lt-ltb, not-true}
 use Rattle.rules.specs.Lists.{any, keep, sum}
 use Rattle.rules.specs.Settings.{unitSize}
 use Rattle.rules.specs.Units.{Unit, unitsOfRow, covers, uncovered, unitsFrom, Write, touches, mark, newly, pending}
 use Rattle.rules.specs.declared.Range.{Range}
-use Rattle.rules.proofs.ListLaws.{All, All-map, All-both, All-append, All-keep, All-kept, Pairwise, Pairwise-append, Pairwise-keep, and-left, and-right, and-intro, any-left, any-last, keep-length}
+use Rattle.rules.proofs.ListLaws.{All, All-map, All-both, All-append, All-keep, All-kept, All-at, some-inj, Pairwise, Pairwise-append, Pairwise-keep, and-left, and-right, and-intro, any-left, any-last, keep-length}
 
 -- ---- bytes of units
 
@@ -263,6 +264,17 @@ All-pending P [] p h = tt
 All-pending P (u ∷ us) [] h = tt
 All-pending P (u ∷ us) (true ∷ p) h = (h .0, All-pending P us p (h .1))
 All-pending P (u ∷ us) (false ∷ p) h = All-pending P us p (h .1)
+
+-- units that share a byte are one
+pub Apart-at : (us : List Unit) → Apart us → (m n : ℕ) (u v : Unit) → getElem? us m ≡ some u → getElem? us n ≡ some v → (x : ℕ) → In x u → In x v → m ≡ n
+Apart-at [] h m n u v e f x i j = absurd (none-some e)
+  where
+    none-some : {A : Type 0} {a : A} → none ≡ some a → ⊥
+    none-some q = let z : _≡_ {A = ℕ} 0 1 = cc in absurd (omega arith)
+Apart-at (w ∷ us) h zero zero u v e f x i j = refl
+Apart-at (w ∷ us) h zero (suc n) u v e f x i j = absurd (All-at (Free w) us n v (h .0) f x (subst (In x) (sym (some-inj e)) i) j)
+Apart-at (w ∷ us) h (suc m) zero u v e f x i j = absurd (All-at (Free w) us m u (h .0) e x (subst (In x) (sym (some-inj f)) j) i)
+Apart-at (w ∷ us) h (suc m) (suc n) u v e f x i j = ap suc (Apart-at us (h .1) m n u v e f x i j)
 
 pub Apart-pending : (us : List Unit) (p : List Bool) → Apart us → Apart (pending us p)
 Apart-pending [] p h = tt

@@ -19,7 +19,7 @@ use Rattle.rules.specs.ReportReader.{reportSize, bit, reportRefusal, rep
 use Rattle.rules.specs.Order.{Op, start, stop, write, receive, suspend, resume, freshOrder, part, queue}
 use Rattle.rules.specs.Device.{heldOk, noShare, sharesOk}
 use Rattle.rules.specs.declared.Share.{Share}
-use Rattle.rules.specs.Machine.{refused, on, pendingIn, entriesIn, State, fresh, soundState, slotOf, Call, step, after, events, lent, stored, numberOf, newlyOf, noReport, reportOf, assembledOf, stoppedOf, entriesOf, closingOf}
+use Rattle.rules.specs.Machine.{refused, reported, on, pendingIn, entriesIn, State, fresh, soundState, slotOf, Call, step, after, events, lent, stored, numberOf, newlyOf, noReport, reportOf, assembledOf, stoppedOf, entriesOf, closingOf}
 use Rattle.rules.specs.History.{Did, only, historyOf, PendingBy, lists, slotBy}
 use Rattle.rules.specs.declared.Range.{Range}
 use Rattle.rules.specs.declared.Settings.{Settings}
@@ -187,11 +187,15 @@ pub record Reports (b : Bool) (g k : ℕ) (us : List Unit) (p : List Bool) : Typ
       → any (λ (d : Descriptor). lists g d u) (reportOn b g k us p .descriptors) ≡ false → getElem? (marksLeft k us p) n ≡ getElem? p n
   -- More is clear exactly when nothing stays pending
   pub more : (reportOn b g k us p .more ≡ false) ↔ (pending us (marksLeft k us p) ≡ [])
-  -- W10: if a run stays, the groups up to that of its first unit n, which is the first to stay pending. If none stays, all groups
-  pub examined : (n : ℕ) → reportOn b g k us p .more ≡ true → getElem? (marksLeft k us p) n ≡ some true → pending (take n us) (take n (marksLeft k us p)) ≡ []
-      → reportOn b g k us p .groups ≡ n / 64 + 1
-  pub examined-all : reportOn b g k us p .more ≡ false → reportOn b g k us p .groups ≡ (length us + 63) / 64
+  -- W10: "up to and including the one where run k + 1 begins", which is unit n, "or, if there is none, all"; there is one exactly if More is set
+  pub examined : (n : ℕ) (u : Unit) (vs : List Unit) → getElem? (runs (pending us p)) k ≡ some (u ∷ vs) → getElem? us n ≡ some u → reportOn b g k us p .groups ≡ n / 64 + 1
+  pub examined-all : getElem? (runs (pending us p)) k ≡ none → reportOn b g k us p .groups ≡ (length us + 63) / 64
+  pub stays : (reportOn b g k us p .more ≡ false) ↔ (getElem? (runs (pending us p)) k ≡ none)
   pub examined-most : length us ≤ 16384 → reportOn b g k us p .groups ≤ 256
+  -- and nothing behind these groups is asked: with other marks there the report is the same
+  pub no-further : (q : List Bool) → length q ≡ length p
+      → let n = 64 * reportOn b g k us p .groups in
+      take n q ≡ take n p → reportOn b g k us q ≡ reportOn b g k us p
 
 -- "That fit": a buffer of so many bytes has room for as many descriptors as fit behind 16 bytes, and one more would not fit
 pub record Room (bytes : ℕ) : Type 0 where
@@ -222,6 +226,10 @@ pub record Demand2 : Type 1 where
   pub pending : (s : Settings) (words : ℕ) (ks : List Call) (a : ℕ) → Pending s words ks a
   pub reports : (s : Settings) (words : ℕ) (ks : List Call) (a : ℕ) (b : Bool) (g : ℕ) (rs : List Range) (p : List Bool)
       → slotOf (sessionEnd s words ks) a .suspended ≡ b → slotOf (sessionEnd s words ks) a .marks ≡ on g rs p → (k : ℕ) → Reports b g k (units g rs) p
+  -- and of any device, made by a session or not: a receive that is not refused answers this report
+  pub answers : (st : State) (a : ℕ) (x : List ℕ) (g : ℕ) (rs : List Range) (p : List Bool) → slotOf st a .marks ≡ on g rs p
+      → numberOf ((step st (record { id = a; op = receive x })) .0) ≡ 0
+      → (step st (record { id = a; op = receive x })) .0 ≡ reported (reportOn (slotOf st a .suspended) g (room (length x)) (units g rs) p)
   pub runs : Runs
   pub room : (bytes : ℕ) → 16 ≤ bytes → Room bytes
   pub touches : (w : Write) (u : Unit) → Touches w u

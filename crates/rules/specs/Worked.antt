@@ -1,6 +1,6 @@
 -- Document 01, "Settled by worked numbers": the marked cases (*), in their order, as one table of sessions with the answers that the document gives; then
--- the numbers and rows of document 02, W3, and parts of states, W6; and states of controllers as W6 judges them.
--- That the rules give these answers is a claim for each table, `Worked` and `WorkedStates`, proved by computing (proofs/Theorems.antt).
+-- the numbers and rows of document 02, W3, parts of states, W6, and reports with their groups, W10; states of controllers as W6 judges them; and groups of W10.
+-- That the rules give these answers is a claim for each table, `Worked`, `WorkedStates` and `WorkedGroups`, proved by computing (proofs/Theorems.antt).
 use Prim.Native.Nat.{ℕ, zero, suc, _+_, _-_, _^_}
 use mathlib.Core.Path.{_≡_}
 use mathlib.Core.Bool.{Bool, true, false}
@@ -206,6 +206,10 @@ cases =
     ∷ case
     (makes 9 64 ∷ makes 5 96 ∷ posts 5 96 (entry 1) ∷ makes 6 96 ∷ takes 6 96 9 96 ∷ posts 6 96 (entry 2) ∷ usual ∷ suspends 5 ∷ posts 5 96 (entry 3) ∷ resumes 5 ∷ record { id = 5; op = stop } ∷ takes 5 96 9 96 ∷ [])
     (refused 2 0 ∷ done ∷ posted false ∷ done ∷ taken [] false ∷ posted false ∷ done ∷ done ∷ posted false ∷ done ∷ done ∷ taken (entry 1 ∷ entry 3 ∷ []) false ∷ [])
+    -- W10: 200 units, of which 0, 70 and 130 are pending, with room for one run
+    ∷ case
+    (starts 0 (range 65536 200 ∷ []) ∷ writes 65536 1 ∷ writes 352256 1 ∷ writes 598016 1 ∷ receives 47 ∷ receives 47 ∷ receives 47 ∷ receives 47 ∷ [])
+    (done ∷ wrote 1 ∷ wrote 1 ∷ wrote 1 ∷ reportIn 2 true (run 65536 1 ∷ []) ∷ reportIn 3 true (run 352256 1 ∷ []) ∷ reportIn 4 false (run 598016 1 ∷ []) ∷ reportIn 4 false [] ∷ [])
     ∷ []
 
 -- ---- the claim
@@ -299,7 +303,10 @@ groupCases =
     ∷ grouped (range 65536 200 ∷ []) (70 ∷ 130 ∷ []) 3
     ∷ grouped (range 65536 200 ∷ []) (130 ∷ []) 4
     ∷ grouped (range 65536 200 ∷ []) [] 4
-    -- wherever its share begins in the pool
+    -- with room for two runs, and for three
+    ∷ record { ranges = range 65536 200 ∷ []; numbers = 0 ∷ 70 ∷ 130 ∷ []; room = 2; groups = 3 }
+    ∷ record { ranges = range 65536 200 ∷ []; numbers = 0 ∷ 70 ∷ 130 ∷ []; room = 3; groups = 4 }
+    -- wherever its share begins: no bit of the pool is asked
     ∷ grouped (range 65536 100 ∷ []) (0 ∷ 59 ∷ []) 1
     -- one run over the border of two groups, and two runs at it
     ∷ grouped (range 65536 128 ∷ []) (63 ∷ 64 ∷ []) 2
