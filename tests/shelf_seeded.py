@@ -1,10 +1,11 @@
-"""Shelf listings from a seed: the sessions of seeded.py with batches and bursts (document 02, W4), with parts of states (W6)
-and with queues (W8) among their lines.
+"""Shelf listings from a seed: the sessions of seeded.py with batches and bursts (document 02, W4), with parts of states (W6),
+with queues (W8) and with settings files (W11) among their lines.
 
 A batch is aimed as single writes are, at the edges of ranges and units, by one controller or a few; often one of its notes
 will be refused, in a random place. Parts come in sequences, mostly sensible ones of small states, with other lines, spoiled
 parts and other controllers' between them. Queues are small, mostly, so that they go round and close; a few posts or a few
-takes come at a time. Listing K of seed N is always the same. A later request adds its lines to `kinds`.
+takes come at a time. Settings files hold the device's own settings or others; some are damaged, and what is saved is mostly
+read again. Listing K of seed N is always the same. A later request adds its lines to `kinds`.
 """
 
 import random
@@ -16,10 +17,11 @@ from parts import WORD, any_state, next_part, part_line, spoiled
 from queues import CLOSING, ENTRY, MOST_BUFFER, MOST_PLACES, MOST_SIZE, WRONG_ENTRIES, WRONG_SIZES
 from queues import Queue, any_entry, make_line, places_of, post_line, take_line
 from seeded import Maker, lines_of
+from settings_files import Settings, any_settings, damaged_file, file_of, reader_line, save_line, spoiled_settings
 
 FEW = [0, 1, 1, 2, 2, 3, 3, 4, 5, 8, 8, 13, 20, 40]
 ABOUT_THE_MOST = [MOST_TAKEN - 1, MOST_TAKEN, MOST_TAKEN, MOST_TAKEN + 1, MOST_TAKEN + 1, MOST_LISTED, MOST_LISTED + 1]
-WORDS = [b"batch", b"burst", b"part", b"queue", b"post", b"take", b"write", b"batches"]
+WORDS = [b"batch", b"burst", b"part", b"queue", b"post", b"take", b"old", b"new", b"save", b"write", b"batches"]
 MOSTS = (MOST_TAKEN, MOST_LISTED, MOST_BURST, ENTRY, 2 * ENTRY, MOST_PLACES * ENTRY, MOST_SIZE, MOST_BUFFER)
 NUMBERS = [b"%d" % (most + more) for most in MOSTS for more in (-1, 0, 1)]
 NUMBERS += [b"-", b"00000000", b"0000000A", CLOSING.hex().encode(), CLOSING.hex().upper().encode(), CLOSING.hex().encode()[2:]]
@@ -72,7 +74,8 @@ class ShelfMaker(Maker):
         parts = [(self.parts, 30 if self.owner in self.suspended else 10 if self.tracked else 16)]
         missing = len(self.identifiers) - len(self.queues)
         queues = [(self.make, max(1, self.logging // 3 if missing else 0)), (self.posts, self.logging), (self.takes, self.logging)]
-        return super().kinds() + batches + parts + (queues if self.queues else queues[:1] + [(self.posts, 1), (self.takes, 1)])
+        settings = [(self.settings_lines, 5)]
+        return super().kinds() + batches + parts + settings + (queues if self.queues else queues[:1] + [(self.posts, 1), (self.takes, 1)])
 
     # ---- batch
 
@@ -195,3 +198,25 @@ class ShelfMaker(Maker):
         name = self.identifier(liked if liked and dice.random() < 0.85 else set(self.queues))
         size = ENTRY * self.queues[name].places if name in self.queues else dice.choice([64, 96])
         return name, dice.choice([*WRONG_SIZES, 64, 96, 128, size + ENTRY, 32_768]) if dice.random() < 0.03 else size
+
+    # ---- old, new, save
+
+    def settings_lines(self):
+        """Settings that are saved, and their file, as it is or damaged, for both readers; or only some of these lines."""
+        dice, one = self.dice, self.settings()
+        if dice.random() < 0.25:
+            one = spoiled_settings(dice, one)
+        version = dice.choice([1, 2, 2])
+        file = file_of(version, one)
+        if dice.random() < 0.5:
+            file = damaged_file(dice, file)
+        lines = [save_line(version if dice.random() < 0.9 else dice.choice([0, 1, 2, 3, 257, 513]), one), reader_line("new", file), reader_line("old", file)]
+        return [line.encode() for line in dice.sample(lines, dice.choice([1, 2, 3]))]
+
+    def settings(self):
+        """The device's own, with one manager or two; or any."""
+        if self.dice.random() < 0.5:
+            return any_settings(self.dice)
+        alone = Settings(self.manager, self.least, self.greatest, self.rule, self.limit, self.manager, 0, 128, tuple(self.identifiers))
+        other = alone._replace(second=self.dice.choice([4, 9, 65533]), limit2=self.dice.choice([0, 4, 128]), shelf=self.dice.choice([0, 18, 128]))
+        return self.dice.choice([alone, alone, other])

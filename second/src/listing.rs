@@ -34,22 +34,7 @@ pub fn parse(line: &[u8]) -> Option<Line> {
     match (word, numbers.as_slice()) {
         // "`dev` manager, least, greatest, rule (0 or 1), limit, 0 to 8 identifiers"
         (b"dev", [manager, least, greatest, rule, limit, identifiers @ ..]) => {
-            if identifiers.len() > MOST_CONTROLLERS {
-                return None;
-            }
-            let mut places = [0; MOST_CONTROLLERS];
-            for (place, identifier) in places.iter_mut().zip(identifiers) {
-                *place = fitting(*identifier, BITS_16)?;
-            }
-            Some(Line::Dev(Settings {
-                manager: fitting(*manager, BITS_16)?,
-                least: fitting(*least, BITS_8)?,
-                greatest: fitting(*greatest, BITS_8)?,
-                rule: fitting(*rule, GREATEST_RULE)?,
-                limit: fitting(*limit, BITS_16)?,
-                number: identifiers.len() as u64,
-                identifiers: places,
-            }))
+            Some(Line::Dev(settings([*manager, *least, *greatest, *rule, *limit], identifiers)?))
         }
         // "`start` id, granularity, 0 to 16 pairs"
         (b"start", [id, granularity, pairs @ ..]) => {
@@ -81,6 +66,27 @@ pub fn parse(line: &[u8]) -> Option<Line> {
         (b"resume", [id]) => Some(Line::Resume { id: fitting(*id, BITS_16)? }),
         _ => None,
     }
+}
+
+/// "manager, least, greatest, rule (0 or 1), limit", and "0 to 8 identifiers".
+pub fn settings(fields: [u64; 5], identifiers: &[u64]) -> Option<Settings> {
+    let [manager, least, greatest, rule, limit] = fields;
+    if identifiers.len() > MOST_CONTROLLERS {
+        return None;
+    }
+    let mut places = [0; MOST_CONTROLLERS];
+    for (place, identifier) in places.iter_mut().zip(identifiers) {
+        *place = fitting(*identifier, BITS_16)?;
+    }
+    Some(Settings {
+        manager: fitting(manager, BITS_16)?,
+        least: fitting(least, BITS_8)?,
+        greatest: fitting(greatest, BITS_8)?,
+        rule: fitting(rule, GREATEST_RULE)?,
+        limit: fitting(limit, BITS_16)?,
+        number: identifiers.len() as u64,
+        identifiers: places,
+    })
 }
 
 /// "a word, then decimal numbers ..., one space between."

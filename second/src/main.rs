@@ -14,6 +14,7 @@ mod report;
 mod reports;
 mod rules;
 mod session;
+mod settings_file;
 mod shelf;
 mod state;
 mod structure;

@@ -1,10 +1,12 @@
 //! The rules of document 01 that speak of plain numbers: settings, granularities, ranges and whose a unit is (with
-//! change requests W2 and W3 of document 02), the pool of units (W7), touching, a queue's fill (W8), and when a device
-//! record is sound (with W6, W7 and W8). Nothing here knows of a session.
+//! change requests W2 and W3 of document 02), a shelf's settings (W11), the pool of units (W7), touching, a queue's fill
+//! (W8), and when a device record is sound (with W6, W7 and W8). Nothing here knows of a session.
 //!
 //! Arithmetic on addresses is done in 128 bits and stops at the greatest number there (saturates) instead of
 //! wrapping. No number that passes the rules comes near it; one that stops there is far past 2^64 and so is
 //! refused, which is the right answer.
+
+use std::collections::BTreeSet;
 
 /// Document 01, "Refusal numbers": "Every refused call returns its number".
 pub type Refusal = u8;
@@ -37,6 +39,9 @@ pub const STATE: Refusal = 27;
 pub const QUEUE_AREA: Refusal = 28;
 pub const NO_QUEUE: Refusal = 29;
 pub const LOGGING_STOPPED: Refusal = 30;
+pub const MARK: Refusal = 31;
+pub const FILE_VERSION: Refusal = 32;
+pub const FILE_LENGTH: Refusal = 35;
 
 /// "tracks, for up to 8 migratable controllers".
 pub const MOST_CONTROLLERS: usize = 8;
@@ -72,6 +77,22 @@ pub struct Settings {
     pub limit: u64,
     pub number: u64,
     pub identifiers: [u64; MOST_CONTROLLERS],
+}
+
+/// The settings of a shelf (W11, W12), which "name one or two managers": document 01's, which name the first, a second
+/// manager if there is one, and the limit over both.
+#[derive(Clone, Debug, Default, PartialEq, Eq)]
+pub struct ShelfSettings {
+    pub settings: Settings,
+    pub second: Option<Manager>,
+    pub shelf: u64,
+}
+
+/// A manager's identifier and its descriptor limit.
+#[derive(Clone, Copy, Debug, Default, PartialEq, Eq)]
+pub struct Manager {
+    pub id: u64,
+    pub limit: u64,
 }
 
 /// "Each range has a 64-bit start address and a length in units."
@@ -228,6 +249,22 @@ pub fn settings_broken(settings: &Settings) -> bool {
     }
     // "The descriptor limit (CMMRTD), 0 to 128."
     settings.limit > GREATEST_LIMIT
+}
+
+/// Refusal 16 of a shelf's settings: also W12's "The managers' identifiers differ and are not among the controllers", and a
+/// limit above 128. All names are asked at once whether one stands there twice.
+pub fn shelf_settings_broken(shelf: &ShelfSettings) -> bool {
+    if settings_broken(&shelf.settings) || shelf.shelf > GREATEST_LIMIT {
+        return true;
+    }
+    let second = match shelf.second {
+        Some(second) => second,
+        None => return false,
+    };
+    let mut names = shelf.settings.used_identifiers();
+    names.extend_from_slice(&[shelf.settings.manager, second.id]);
+    let different: BTreeSet<&u64> = names.iter().collect();
+    different.len() < names.len() || second.id > GREATEST_IDENTIFIER || second.limit > GREATEST_LIMIT
 }
 
 /// Refusal 7: "granularity below the least or above the greatest".
@@ -675,6 +712,49 @@ mod tests {
         assert!(!sound(&record));
         record.settings.limit = u64::MAX;
         assert!(!sound(&record));
+    }
+
+    #[test]
+    fn settings_of_a_shelf() {
+        let broken = |second: Option<(u64, u64)>, shelf: u64| {
+            let second = second.map(|(id, limit)| Manager { id, limit });
+            shelf_settings_broken(&ShelfSettings { settings: record().settings, second, shelf })
+        };
+        for shelf in [0, 1, 127, 128].iter() {
+            assert!(!broken(None, *shelf));
+            assert!(!broken(Some((2, 4)), *shelf));
+        }
+        assert!(broken(None, 129));
+        assert!(broken(Some((2, 4)), 65535));
+        // A second manager's limit, its name, and one that is the first or a controller.
+        for (second, expected) in [
+            ((2, 0), false),
+            ((2, 128), false),
+            ((2, 129), true),
+            ((0, 4), false),
+            ((65535, 4), false),
+            ((65536, 4), true),
+            ((1, 0), true),
+            ((1, 4), true),
+            ((5, 4), true),
+            ((6, 4), true),
+            ((7, 4), false),
+        ]
+        .iter()
+        {
+            assert_eq!(broken(Some(*second), 128), *expected, "{:?}", second);
+        }
+        // A controller in an unused place is none, and what document 01 asks is asked too.
+        let mut shelf =
+            ShelfSettings { settings: record().settings, second: Some(Manager { id: 7, limit: 4 }), shelf: 18 };
+        shelf.settings.identifiers[2] = 7;
+        assert!(!shelf_settings_broken(&shelf));
+        shelf.settings.number = 3;
+        assert!(shelf_settings_broken(&shelf));
+        shelf.second = None;
+        assert!(!shelf_settings_broken(&shelf));
+        shelf.settings.limit = 129;
+        assert!(shelf_settings_broken(&shelf));
     }
 
     #[test]

@@ -7,6 +7,7 @@ pub mod Parts
 pub mod Queues
 pub mod Demand2
 pub mod Structures
+pub mod SettingsFile
 pub mod Reserved
 pub mod RunByRun
 pub mod Demand3

@@ -1,4 +1,4 @@
--- Laws of a fresh device: unused identifiers become zeros one by one, and clear marks are words of zeros. Assumes nothing.
+-- Laws of a fresh device: clear marks are words of zeros. Assumes nothing.
 use mathlib.Core.Path.{_≡_, refl, sym, ap, _∙_}
 use mathlib.Core.Logic.{_≢_}
 use mathlib.Core.Bool.{Bool, true, false, cond}
@@ -22,30 +22,6 @@ use Rattle.rules.specs.declared.Settings.{Settings}
 use Rattle.rules.proofs.RefusalLaws.{verdict-refused}
 use Rattle.calls.specs.declared.Changed.{Changed}
 use Rattle.calls.specs.Calls.{Engine, freshBy, changed}
-
--- ---- settings with zeros from a place on
-
-abbrev pub cleanedFrom : Settings → ℕ → Settings
-cleanedFrom s i =
-    record {
-      manager = s .manager;
-      least = s .least;
-      greatest = s .greatest;
-      powers = s .powers;
-      limit = s .limit;
-      count = s .count;
-      identifiers = take i (s .identifiers) ++ replicate (length (s .identifiers) - i) 0;
-    }
-
-pub cleaned-next : (l : List ℕ) (i : ℕ) → i < length l → take (i + 1) (set l i 0) ++ replicate (length (set l i 0) - (i + 1)) 0 ≡ take i l ++ replicate (length l - i) 0
-cleaned-next l i h =
-    let e : length l - i ≡ suc (length l - suc i) = omega arith in
-    rw (add-one, length-set, take-suc-set l i 0 h, append-assoc, e)
-
-pub cleaned-end : (l : List ℕ) (i : ℕ) → length l ≤ i → take i l ++ replicate (length l - i) 0 ≡ l
-cleaned-end l i h =
-    let e : length l - i ≡ 0 = omega arith in
-    rw (take-all i l h, e, append-nil)
 
 -- ---- all marks clear
 

@@ -10,27 +10,12 @@ use rules::Sequence;
 use rules::Settings;
 use rules::Tracking;
 ghost use mathlib.Core.Path.{_≡_};
-ghost use Prim.Native.Nat.{_≤_};
 ghost use lib.ListN.{replicate};
 ghost use Rattle.rules.specs.declared.Sequence.the-variants.{Nothing};
 ghost use Rattle.rules.specs.Refusals.{refusal};
 ghost use Rattle.rules.specs.Order.{freshOrder};
-ghost use Rattle.rules.specs.Device.{freshController, cleaned, closedDevice, freshOf};
+ghost use Rattle.rules.specs.Device.{freshController, closedDevice, freshOf};
 ghost use Rattle.calls.specs.Calls.{freshChange};
-
-// Settings with zeros in the places that are not in use.
-fn clean(s: Settings) -> Settings
-    requires { ⌜ s .count ≤ 8 ⌝ }
-    ensures { λ r. ⌜ r ≡ cleaned s ⌝ }
-{
-    let mut t = s;
-    let mut i = s.count;
-    while i < 8 {
-        t.identifiers[i] = 0;
-        i += 1;
-    }
-    t
-}
 
 // A device of these settings on which nobody is tracked or suspended, no state is under way, and no queue is made.
 fn untracked(s: Settings) -> Device
@@ -58,16 +43,7 @@ fn untracked(s: Settings) -> Device
 fn closed() -> Device
     ensures { λ r. ⌜ r ≡ closedDevice ⌝ }
 {
-    let s = Settings {
-        manager: 0,
-        least: 0,
-        greatest: 0,
-        powers: false,
-        limit: 0,
-        count: 0,
-        identifiers: [0; 8],
-    };
-    untracked(s)
+    untracked(settings::no_settings())
 }
 
 // What a fresh answers on marks of so many words, however they are held: the refusal, and the device.
@@ -82,7 +58,7 @@ pub fn made(s: Settings, words: usize) -> Changed
         let device = closed();
         return Changed { number: 1, device };
     }
-    let device = untracked(clean(s));
+    let device = untracked(settings::clean(s));
     Changed { number: 0, device }
 }
 

@@ -1,16 +1,17 @@
 // A listing played from standard input to its end, each line answered on standard output: document 01's, or a shelf's, which has more lines (`bursts`, `parts`,
-// `queues`). A line is cut by `lines`, and played by `playing` or one of these. The loop owns the device, so that a line that leaves it as it is hands nothing back.
+// `queues`, `files`). A line is cut by `lines`, and played by `playing` or one of these. The loop owns the device, so that a line that leaves it as it is hands nothing back.
 
 use output::Buffer;
 use output::Waiting;
 use parts::Area;
+use rules::Device;
 ghost use Prim.Native.Nat.{_≤_};
 ghost use lib.ListN.{length};
 
-// Which crate plays a line.
+// How a line is played: as document 01's, or as one of a shelf's, which leaves the device as it is, or is a part of a state, or is of a queue.
 enum Kind {
     Session,
-    Burst,
+    Kept,
     Part,
     Queue,
 }
@@ -46,13 +47,16 @@ fn refill(input: &mut [u8], at: usize, end: usize, out: &Buffer, waiting: Waitin
     }
 }
 
-// Which crate plays a line: only a shelf's listing has lines beside document 01's.
+// How a line is played: only a shelf's listing has lines beside document 01's.
 fn kind_of(shelf: bool, line: &[u8]) -> Kind {
     if !shelf {
         return Kind::Session;
     }
     if bursts::asks(line) {
-        return Kind::Burst;
+        return Kind::Kept;
+    }
+    if files::asks(line) {
+        return Kind::Kept;
     }
     if parts::asks(line) {
         return Kind::Part;
@@ -61,6 +65,21 @@ fn kind_of(shelf: bool, line: &[u8]) -> Kind {
         return Kind::Queue;
     }
     Kind::Session
+}
+
+// Plays a shelf's line that leaves the device as it is.
+fn answer(
+    d: Device,
+    marks: &mut [u64],
+    bytes: &mut [u8],
+    line: &[u8],
+    out: &mut Buffer,
+    waiting: Waiting,
+) -> Waiting {
+    if files::asks(line) {
+        return files::play(line, out, waiting);
+    }
+    bursts::answer(d, marks, bytes, line, out, waiting)
 }
 
 // Plays the listing, to its end or until writing fails, on the engine that marks or bytes were lent for. A shelf's lends `area` to the parts of a state and `areas`
@@ -104,8 +123,8 @@ pub fn run(
             used = 0;
             let kind = kind_of(shelf, &line[..length]);
             match kind {
-                Kind::Burst => {
-                    waiting = bursts::answer(device, marks, bytes, &line[..length], out, waiting);
+                Kind::Kept => {
+                    waiting = answer(device, marks, bytes, &line[..length], out, waiting);
                 }
                 Kind::Part => {
                     let played = parts::play(

@@ -83,6 +83,19 @@ pub struct Settings {
     pub identifiers: [u16; 8],
 }
 
+// A second managing controller (document 02, W12): none, or its identifier and its descriptor limit.
+pub enum Second {
+    Nothing,
+    Is(u16, u16),
+}
+
+// The settings of a shelf: those of document 01 with the first manager, the second manager, and the limit over both.
+pub struct ShelfSettings {
+    pub first: Settings,
+    pub second: Second,
+    pub shelf: u16,
+}
+
 // A controller's state that arrives in parts: none is under way, or one of the controller with this identifier, whose parts so far end at this byte.
 pub enum Sequence {
     Nothing,

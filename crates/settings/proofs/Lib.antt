@@ -1,1 +1,2 @@
 pub mod SettingsLaws
+mod CleanLaws

@@ -1,4 +1,4 @@
-// Checks of the settings: rule 16, where an identifier stands, and which granularities they allow (document 01, "Settings and sizes").
+// Checks of the settings: rule 16, where an identifier stands, and which granularities they allow (document 01, "Settings and sizes"); and their unused places made zeros.
 
 use rules::Settings;
 ghost use mathlib.Core.Path.{_≡_};
@@ -6,6 +6,7 @@ ghost use Prim.Native.Nat.{_≤_, min};
 ghost use lib.ListN.{drop};
 ghost use Rattle.rules.specs.Lists.{different, member};
 ghost use Rattle.rules.specs.Settings.{identifiersOf, settingsOk, placeOf, granularityOk};
+ghost use Rattle.rules.specs.Device.{cleaned, closedSettings};
 ghost use Rattle.settings.specs.Found.{foundAt};
 
 // What a search for an identifier finds.
@@ -95,4 +96,33 @@ pub fn granularity_ok(s: Settings, g: u8) -> bool
         return false;
     }
     g <= s.greatest
+}
+
+// No settings: zeros in all fields.
+pub fn no_settings() -> Settings
+    ensures { λ r. ⌜ r ≡ closedSettings ⌝ }
+{
+    Settings {
+        manager: 0,
+        least: 0,
+        greatest: 0,
+        powers: false,
+        limit: 0,
+        count: 0,
+        identifiers: [0; 8],
+    }
+}
+
+// Settings with zeros in the places that are not in use.
+pub fn clean(s: Settings) -> Settings
+    requires { ⌜ s .count ≤ 8 ⌝ }
+    ensures { λ r. ⌜ r ≡ cleaned s ⌝ }
+{
+    let mut t = s;
+    let mut i = s.count;
+    while i < 8 {
+        t.identifiers[i] = 0;
+        i += 1;
+    }
+    t
 }

@@ -1,7 +1,10 @@
 //! The lines of a shelf listing (READINGS 0.7).
 
-use crate::listing::{self, fitting, note, word_and_numbers, Line, BITS_16, BITS_32, BITS_8, GREATEST_BUFFER};
-use crate::rules::Note;
+use crate::listing::{
+    self, fitting, note, settings, word_and_numbers, Line, BITS_16, BITS_32, BITS_8, GREATEST_BUFFER,
+};
+use crate::rules::{Note, ShelfSettings};
+use crate::settings_file::second_manager;
 use crate::state::Part;
 
 use super::hex::bytes_of;
@@ -18,6 +21,8 @@ const MOST_PART_BYTES: usize = 4100;
 pub const GREATEST_SIZE: u64 = 32800;
 /// "hex of at most 64 bytes": more than an entry has, so that 8 can be met.
 const MOST_ENTRY_BYTES: usize = 64;
+/// "hex of at most 64 bytes": more than a settings file has, so that 35 can be met at that end too.
+const MOST_FILE_BYTES: usize = 64;
 
 /// A well-formed line.
 #[derive(Clone, Debug, PartialEq, Eq)]
@@ -42,6 +47,13 @@ pub enum ShelfLine {
         asked: u64,
         buffer: u64,
     },
+    /// The bytes of a settings file, for the version 1 reader and for the new one.
+    Old(Vec<u8>),
+    New(Vec<u8>),
+    Save {
+        version: u64,
+        shelf: ShelfSettings,
+    },
 }
 
 /// The line in these bytes. Nothing for "any other line".
@@ -49,6 +61,8 @@ pub fn parse(line: &[u8]) -> Option<ShelfLine> {
     match line.split(|byte| *byte == b' ').next() {
         Some(b"part") => return part(line),
         Some(b"post") => return post(line),
+        Some(b"old") => return file(line).map(ShelfLine::Old),
+        Some(b"new") => return file(line).map(ShelfLine::New),
         _ => {}
     }
     let (word, numbers) = word_and_numbers(line)?;
@@ -80,6 +94,18 @@ pub fn parse(line: &[u8]) -> Option<ShelfLine> {
             asked: fitting(*asked, BITS_32)?,
             buffer: fitting(*buffer, GREATEST_BUFFER)?,
         }),
+        // "`save` version manager least greatest rule limit second limit2 shelf, 0 to 8 identifiers"
+        (b"save", [version, manager, least, greatest, rule, limit, second, limit2, shelf, identifiers @ ..]) => {
+            let (second, limit2) = (fitting(*second, BITS_16)?, fitting(*limit2, BITS_16)?);
+            Some(ShelfLine::Save {
+                version: fitting(*version, BITS_16)?,
+                shelf: ShelfSettings {
+                    settings: settings([*manager, *least, *greatest, *rule, *limit], identifiers)?,
+                    second: second_manager(*manager, second, limit2),
+                    shelf: fitting(*shelf, BITS_16)?,
+                },
+            })
+        }
         _ => listing::parse(line).map(ShelfLine::Session),
     }
 }
@@ -106,6 +132,16 @@ fn post(line: &[u8]) -> Option<ShelfLine> {
     match numbers.as_slice() {
         [id, size] => Some(ShelfLine::Post { id: fitting(*id, BITS_16)?, size: fitting(*size, GREATEST_SIZE)?, entry }),
         _ => None,
+    }
+}
+
+/// "`old` file" and "`new` file": "hex of at most 64 bytes".
+fn file(line: &[u8]) -> Option<Vec<u8>> {
+    let (numbers, file) = numbers_and_bytes(line, MOST_FILE_BYTES)?;
+    if numbers.is_empty() {
+        Some(file)
+    } else {
+        None
     }
 }
 
@@ -301,6 +337,80 @@ mod tests {
         .iter()
         {
             assert_eq!(parse(line.as_bytes()), None, "{}", line);
+        }
+    }
+
+    #[test]
+    fn settings_files() {
+        assert_eq!(parse(b"old -"), Some(ShelfLine::Old(vec![])));
+        assert_eq!(parse(b"new 00ff"), Some(ShelfLine::New(vec![0, 255])));
+        for word in ["old", "new"].iter() {
+            let longest = format!("{} {}", word, "5a".repeat(64));
+            assert!(parse(longest.as_bytes()).is_some());
+            for line in
+                ["", " ", " 0", " 0F", " 000", " --", "  -", " - ", " - -", " 1 -", " 00 00", "\t-", " -\r"].iter()
+            {
+                assert_eq!(parse(format!("{}{}", word, line).as_bytes()), None, "{}{}", word, line);
+            }
+            assert_eq!(parse(format!("{}5a", longest).as_bytes()), None);
+            assert_eq!(parse(format!("{}5", longest).as_bytes()), None);
+            assert_eq!(parse(format!(" {} -", word).as_bytes()), None);
+        }
+        for line in ["Old -", "olds -", "ol -", "old-", "New -", "news -", "ne -", "new-"].iter() {
+            assert_eq!(parse(line.as_bytes()), None, "{}", line);
+        }
+    }
+
+    #[test]
+    fn settings_to_save() {
+        let save = |line: &str| match parse(line.as_bytes()) {
+            Some(ShelfLine::Save { version, shelf }) => Some((version, shelf)),
+            Some(_) => panic!("{}", line),
+            None => None,
+        };
+        let (version, shelf) = save("save 2 1 3 8 1 16 7 4 18 5 6").unwrap();
+        let second = shelf.second.unwrap();
+        assert_eq!((version, second.id, second.limit, shelf.shelf), (2, 7, 4, 18));
+        assert_eq!(
+            parse(b"dev 1 3 8 1 16 5 6"),
+            Some(ShelfLine::Session(Line::Dev(shelf.settings))),
+            "document 01's part is read as in `dev`"
+        );
+        assert_eq!(save("save 2 1 3 8 1 16 1 0 18 5 6").unwrap().1.second, None);
+        assert!(save("save 2 1 3 8 1 16 1 4 18 5 6").unwrap().1.second.is_some());
+        // The longest good line.
+        let line = format!("save 65535 65535 255 255 1 65535 65535 65535 65535{}", " 65535".repeat(8));
+        assert_eq!(line.len(), 98);
+        assert!(save(&line).is_some());
+        assert!(save("save 0 0 0 0 0 0 0 0 0").is_some());
+        for line in [
+            "save",
+            "save ",
+            "save 2",
+            "save 2 1 0 8 0 16 1 0",
+            "save 2 1 0 8 0 16 1 0 128 5 6 7 8 9 10 11 12 13",
+            "save 65536 1 0 8 0 16 1 0 128 5",
+            "save 2 65536 0 8 0 16 1 0 128 5",
+            "save 2 1 256 8 0 16 1 0 128 5",
+            "save 2 1 0 256 0 16 1 0 128 5",
+            "save 2 1 0 8 2 16 1 0 128 5",
+            "save 2 1 0 8 0 65536 1 0 128 5",
+            "save 2 1 0 8 0 16 65536 0 128 5",
+            "save 2 1 0 8 0 16 1 65536 128 5",
+            "save 2 1 0 8 0 16 1 0 65536 5",
+            "save 2 1 0 8 0 16 1 0 128 65536",
+            "save 02 1 0 8 0 16 1 0 128 5",
+            "save 2 1 0 8 0 16 1 0 128 5 ",
+            "save 2 1 0 8 0 16 1 0 128 -",
+            "save - 1 0 8 0 16 1 0 128 5",
+            "save 2  1 0 8 0 16 1 0 128 5",
+            " save 2 1 0 8 0 16 1 0 128 5",
+            "Save 2 1 0 8 0 16 1 0 128 5",
+            "saves 2 1 0 8 0 16 1 0 128 5",
+        ]
+        .iter()
+        {
+            assert_eq!(save(line), None, "{}", line);
         }
     }
 

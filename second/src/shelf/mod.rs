@@ -10,6 +10,8 @@ mod part_tests;
 #[cfg(test)]
 mod queue_tests;
 #[cfg(test)]
+mod settings_tests;
+#[cfg(test)]
 mod tests;
 
 use std::io::{self, Read, Write};
@@ -17,8 +19,9 @@ use std::io::{self, Read, Write};
 use crate::lines::{play_lines, Cut};
 use crate::listing::Line;
 use crate::queue::ENTRY_BYTES;
-use crate::rules::{Reason, MOST_CONTROLLERS, STATE_BYTES};
+use crate::rules::{Reason, Settings, MOST_CONTROLLERS, STATE_BYTES};
 use crate::session::{answer_line, Session, STALE};
+use crate::settings_file::{read, read_version_1, second_in_file, write};
 
 use self::hex::hex_of;
 use self::listing::{parse, ShelfLine, GREATEST_SIZE, MOST_BYTES};
@@ -97,6 +100,15 @@ impl Shelf {
                 }
                 Ok(answer)
             }
+            // These three "need no device".
+            ShelfLine::Old(file) => Ok(settings_line(&read_version_1(file)?, &[])),
+            // "one manager shows as second equal to manager, limit2 0"
+            ShelfLine::New(file) => {
+                let shelf = read(file)?;
+                let second = second_in_file(&shelf);
+                Ok(settings_line(&shelf.settings, &[second.id, second.limit, shelf.shelf]))
+            }
+            ShelfLine::Save { version, shelf } => Ok(format!("0 {}\n", hex_of(&write(*version, shelf)?))),
         }
     }
 
@@ -121,4 +133,13 @@ impl Shelf {
     fn place(&self, id: u64) -> Option<usize> {
         self.session.device.record.settings.used_identifiers().iter().position(|identifier| *identifier == id)
     }
+}
+
+/// "`0` manager least greatest rule limit", what a version 2 file has more of, "identifiers".
+fn settings_line(settings: &Settings, more: &[u64]) -> String {
+    let mut numbers = vec![0, settings.manager, settings.least, settings.greatest, settings.rule, settings.limit];
+    numbers.extend_from_slice(more);
+    numbers.extend(settings.used_identifiers());
+    let words: Vec<String> = numbers.iter().map(u64::to_string).collect();
+    format!("{}\n", words.join(" "))
 }

@@ -1,13 +1,13 @@
--- `fresh::clean` is right: each turn makes one unused identifier 0. The loop's invariant: with zeros from i on, the settings are what they are to be.
+-- `settings::clean` is right: each turn makes one unused identifier 0. The loop's invariant: with zeros from i on, the settings are what they are to be.
 -- The measure is the places that are left. Assumes nothing.
 use mathlib.Core.Path.{_≡_, refl}
 use Prim.Native.Nat.{_-_}
 use native.Mathlib.Omega.{arith}
 use borrow.Author.Needs.{needs}
 use lib.ListN.{length}
-use Rattle.fresh.proofs.FreshLaws.{cleanedFrom, cleaned-next, cleaned-end}
-use Rattle.fresh.proofs.clean.Statement.{statement}
-use Rattle.fresh.proofs.clean.Tie as tie
+use Rattle.settings.proofs.CleanLaws.{cleanedFrom, cleaned-next, cleaned-end}
+use Rattle.settings.proofs.clean.Statement.{statement}
+use Rattle.settings.proofs.clean.Tie as tie
 
 abbrev Inv-loop : tie.InvT-loop
 Inv-loop t₀ i₀ t i = (length (t .identifiers) ≡ 8) × (cleanedFrom t i ≡ cleanedFrom t₀ i₀)
