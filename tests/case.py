@@ -20,7 +20,7 @@ def input_of(case):
 def begins_anew(case):
     """Whether the case's first line makes a fresh device, so that it may follow others in one run of a program."""
     done = case.answers is None or case.answers[:1] == [b"0"]
-    return case.ended and bool(case.lines) and case.lines[0].startswith(b"dev ") and done
+    return case.ended and bool(case.lines) and case.lines[0].startswith((b"dev ", b"dev2 ")) and done
 
 
 def said(*texts):

@@ -81,7 +81,9 @@ def followed(tracked, line, answer):
     if not answer or answer[0] != b"0" and not answer[0].startswith(b"0 "):
         return answer
     word, *numbers = line.split(b" ")
-    if word == b"dev":
+    if word == b"by":
+        return followed(tracked, b" ".join(numbers[1:]), answer)
+    if word in (b"dev", b"dev2"):
         tracked.clear()
     if word == b"start":
         name, *told = map(int, numbers)

@@ -20,9 +20,9 @@ def base():
     """Controller 5 tracks 4 units from page 16 on and 2 from page 0 on; 6 is not tracked; 7 is suspended and tracks 3
     units of granularity 8. So 3 of the limit's 16 are taken, and 9 of the pool's 16,384 units: bits 0 to 5, and 8192 to
     8194. 5's queue has four places, of which the last and the first are filled, and its totals lie on both sides of 2^32; 6
-    has none; 7's has two places, is full and stopped."""
+    has none; 7's has two places, is full and stopped. There is one manager, 1, and the shelf's limit is 128."""
     record = Record()
-    record.manager, record.least, record.greatest, record.rule, record.limit = 1, 0, 8, 0, 16
+    record.manager, record.least, record.greatest, record.rule, record.limit, record.shelf = 1, 0, 8, 0, 16, 128
     record.count, record.identifiers = 3, [5, 6, 7, 0, 0, 0, 0, 0]
     record.controllers[0] = Controller((0, 2), [(65536, 4), (0, 2)], queue=Kept(4, 1, WORD - 1, 3))
     record.controllers[2] = Controller((8, 1), [(1048576, 3)], suspended=1, base=BASES[2], queue=Kept(2, 2, 0, 1, 1))
@@ -39,6 +39,7 @@ def base_with_rubbish():
         if place >= 3:
             one.tracking, one.suspended = (255, 255), place % 2
         one.base = {1: 60000, 3: 3, 4: 65535, 5: 16384, 7: 8193}.get(place, one.base)
+        one.manager = {1: 9, 3: 2, 4: 65535, 5: 3, 6: 5, 7: 0}.get(place, one.manager)
     unsound = [Kept(0), Kept(2, 2, 0), Kept(2, 0, 1, 1, 1), Kept(2, 0, 0, 2), Kept(65535, 7, 8, 65535)]
     for one, queue in zip(record.controllers[3:], unsound):
         one.queue = queue
@@ -114,7 +115,7 @@ def based(record, *bases):
 @change
 def counted(record, count, place=0):
     """On, with a count that need not fit the ranges there."""
-    record.controllers[place].tracking = (0, count)
+    record.controllers[place].tracking, record.controllers[place].manager = (0, count), None
     record.controllers[place].ranges = sixteen()
     record.controllers[place].base = (BASES * 2)[place]
     record.limit = 128
@@ -1773,9 +1774,9 @@ def cases():
     yield from several_sizes()
 
 
-def every_call(build, said):
+def every_call(build, said, records=RECORDS):
     """Every record of the table with every call. Marks are in every place, so that each call shows which it clears."""
-    for name, change_it, (fresh, others), *otherwise in RECORDS:
+    for name, change_it, (fresh, others), *otherwise in records:
         for call, fields in BASE_CALLS.items():
             number = fresh if call == "fresh" else dict(*otherwise).get(call, others)
             yield Case(changed(build, change_it), call, mark=MIXED, **fields).named(f"{name}, {call}{said}", number)
@@ -1791,9 +1792,9 @@ def wrong_words(build, said):
                 yield case.named(f"{name}, {call}{said}, {words} words", fresh if call == "fresh" else 1)
 
 
-def orders(build, said):
+def orders(build, said, table=ORDERS):
     """Each call as it is; then on a record whose last controller in use is unsound in row 1, and with a word too few."""
-    for name, change_it, calls in ORDERS:
+    for name, change_it, calls in table:
         record = changed(build, change_it)
         unsound = record.copied()
         unsound.controllers[record.count - 1].track(8, (1048576, 1), (1048577, 1))
@@ -1930,8 +1931,8 @@ def on_bytes():
 
 def named(case, name, known, *after):
     """The case with its name and what is known: the first numbers, and of some calls mark words, runs, the sequence, bases,
-    the queue, what is stored in its area, and what is taken."""
-    return case.named(name, *known, **dict(zip(("marks", "runs", "sequence", "bases", "queue", "stored", "taken"), after)))
+    the queue, what is stored in its area, what is taken, and managers."""
+    return case.named(name, *known, **dict(zip(("marks", "runs", "sequence", "bases", "queue", "stored", "taken", "managers"), after)))
 
 
 def changed(build, change_it):

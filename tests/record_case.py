@@ -5,12 +5,14 @@ import functools
 import struct
 
 import examined
+import managers
 import pool
-from parts import WORD
+from parts import MOST_STATE, WORD
 from queues import ENTRY, Kept, after_post, after_take, kept_refusal
 
 CALLS = ["fresh", "start", "stop", "write", "receive", "suspend", "resume", "batch", "part", "make", "post", "take"]
 QUEUE_CALLS = CALLS[9:]
+MANAGERS_CALLS = ["start", "stop", "receive", "suspend", "resume", "part"]  # those that name a manager (W12)
 CASE_BYTES = 3056
 MOST_WORDS, MOST_DATA, MOST_AREA = 512, 1024, 4200  # that a case may lend; a part may have more data, zeros past the 1,024
 MOST_QUEUE_AREA = 32_800  # that a queue call may be lent; an answer shows 4,200 bytes of it
@@ -34,43 +36,51 @@ def rotated(mark, bits):
 # ---- A case
 
 class Controller:
-    """Tracking is None (off) or (granularity, count). The base is its share's first bit. The queue is None or a `Kept`. The
-    16 ranges are pairs of start and length in units."""
+    """Tracking is None (off) or (granularity, count). The base is its share's first bit. The manager is an identifier, or None:
+    then it is the settings' first one where the controller is tracked, and 0 where it is off. The queue is None or a `Kept`.
+    The 16 ranges are pairs of start and length in units."""
 
-    def __init__(self, tracking=None, ranges=(), suspended=0, base=0, queue=None):
+    def __init__(self, tracking=None, ranges=(), suspended=0, base=0, queue=None, manager=None):
         self.tracking = tracking
         self.suspended = suspended
         self.base = base
+        self.manager = manager
         self.queue = queue
         self.ranges = (list(ranges) + [(0, 0)] * 16)[:16]
 
     def track(self, granularity, *ranges):
-        """Tracks these ranges; what stands in the places behind them stays, and so does the base."""
-        self.tracking = (granularity, len(ranges))
+        """The settings' first manager tracks these ranges; what stands in the places behind them stays, and so does the base."""
+        self.tracking, self.manager = (granularity, len(ranges)), None
         self.ranges[:len(ranges)] = ranges
 
-    def packed(self):
-        granularity, count = self.tracking or (0, 0)
-        head = (self.tracking is not None, granularity, count, self.suspended, self.base)
-        queue = (self.queue is not None, *(self.queue or Kept(0)))
-        return struct.pack("<4BHBHIIHB" + "QI" * 16, *head, *queue, *[number for pair in self.ranges for number in pair])
+    def managed_by(self, first):
+        """The identifier in the record, where this is the settings' first manager."""
+        return self.manager if self.manager is not None else first if self.tracking else 0
 
-    def readable(self):
+    def packed(self, first):
+        granularity, count = self.tracking or (0, 0)
+        head = (self.tracking is not None, granularity, count, self.suspended, self.base, self.managed_by(first))
+        queue = (self.queue is not None, *(self.queue or Kept(0)))
+        return struct.pack("<4BHHBHIIHB" + "QI" * 16, *head, *queue, *[number for pair in self.ranges for number in pair])
+
+    def readable(self, first):
         tracking = "on, granularity {}, count {}".format(*self.tracking) if self.tracking else "off"
         used = self.tracking[1] if self.tracking else 0
         listed = " ".join(map(str, self.ranges[:used])) or "none"
         unused = "rubbish" if any(map(any, self.ranges[used:])) else "zeros"
         running = "suspended" if self.suspended else "running"
         queue = f"{self.queue}, fill {self.queue.fill()}" if self.queue else "no queue"
-        return f"{tracking}, {running}; base {self.base}, {pool.units(self)} units; {queue}; ranges {listed}, then {unused}"
+        share = f"base {self.base}, {pool.units(self)} units; manager {self.managed_by(first)}"
+        return f"{tracking}, {running}; {share}; {queue}; ranges {listed}, then {unused}"
 
 
 class Record:
-    """Settings, 8 controllers and a sequence, as they come: nothing here asks whether they are sound. The sequence is None
-    (nothing open) or a pair of owner and end."""
+    """Settings, 8 controllers and a sequence, as they come: nothing here asks whether they are sound. The second manager is None
+    or a pair of identifier and limit, and the sequence None (nothing open) or a pair of owner and end."""
 
     def __init__(self):
-        self.manager = self.least = self.greatest = self.rule = self.limit = self.count = 0
+        self.manager = self.least = self.greatest = self.rule = self.limit = self.shelf = self.count = 0
+        self.second = None
         self.identifiers = [0] * 8
         self.controllers = [Controller() for _ in range(8)]
         self.sequence = None
@@ -84,15 +94,17 @@ class Record:
         return other
 
     def packed(self):
-        settings = (self.manager, self.least, self.greatest, self.rule, self.limit, self.count, *self.identifiers)
-        controllers = b"".join(one.packed() for one in self.controllers)
-        return struct.pack("<HBBBHQ8H", *settings) + controllers + packed_sequence(self.sequence)
+        second = (self.second is not None, *(self.second or (0, 0)))
+        settings = (self.manager, self.least, self.greatest, self.rule, self.limit, *second, self.shelf, self.count, *self.identifiers)
+        controllers = b"".join(one.packed(self.manager) for one in self.controllers)
+        return struct.pack("<HBBBHBHHHQ8H", *settings) + controllers + packed_sequence(self.sequence)
 
     def readable(self):
+        second = "second manager {}, its limit {}".format(*self.second) if self.second else "no second manager"
         yield (f"settings: manager {self.manager}, granularities {self.least} to {self.greatest}, rule {self.rule}, "
-               f"limit {self.limit}, count {self.count}, identifiers {self.identifiers}")
+               f"limit {self.limit}, {second}, shelf limit {self.shelf}, count {self.count}, identifiers {self.identifiers}")
         for place, one in enumerate(self.controllers):
-            yield f"controller {place}{' (unused)' if place >= self.count else ''}: {one.readable()}"
+            yield f"controller {place}{' (unused)' if place >= self.count else ''}: {one.readable(self.manager)}"
         yield "sequence: open, owner {}, end {}".format(*self.sequence) if self.sequence else "sequence: nothing open"
 
 
@@ -109,19 +121,22 @@ NOT_SAID = "not said"
 
 class Case:
     """A record, lent marks, bytes and an area, and one call. `known` are the answer's first numbers, as far as known by
-    hand, the row 0 unless said; of some done calls also mark words, runs, the sequence that is left and bases are known, and
-    of a queue call the queue that is left, what is stored in the area and what is put into the buffer."""
+    hand, the row 0 unless said; of some done calls also mark words, runs, the sequence that is left, bases and managers are known,
+    and of a queue call the queue that is left, what is stored in the area and what is put into the buffer. The call is by the
+    settings' first manager unless said."""
 
-    share_damaged = False  # a random case whose record was damaged in a share's place
-    queue_damaged = False  # in a queue
-    sound = None           # whether record and words of a random case are, where that is known
-    units = None           # how many bytes are lent to the plain engine; None for the other engine
-    value = 0              # tells what pending ones of these hold
+    share_damaged = False    # a random case whose record was damaged in a share's place
+    queue_damaged = False    # in a queue
+    manager_damaged = False  # in managers and their limits
+    sound = None             # whether record and words of a random case are, where that is known
+    units = None             # how many bytes are lent to the plain engine; None for the other engine
+    value = 0                # tells what pending ones of these hold
 
     def __init__(self, record, call, id=0, address=0, bytes=0, type=0, data=b"", records=0, words=pool.WORDS, mark=0,
-                 indicator=0, low=0, high=0, count=0, area=0, fill=0, front=b"", asked=0, shown=0):
+                 indicator=0, low=0, high=0, count=0, area=0, fill=0, front=b"", asked=0, shown=0, by=None):
         self.record = record
         self.call = call
+        self.by = record.manager if by is None else by
         self.id, self.address, self.bytes, self.type = id, address, bytes, type
         self.data, self.records = data, records
         self.words, self.mark = words, mark
@@ -129,11 +144,12 @@ class Case:
         self.area, self.fill, self.front = area, fill, front.ljust(FRONT_BYTES, b"%c" % fill)
         self.asked, self.shown = asked, shown
 
-    def named(self, name, *known, marks=None, runs=(), sequence=NOT_SAID, bases=(), queue=NOT_SAID, stored=None, taken=b""):
-        """The marks are by the number of their word; the runs are pairs of address and length in units; the bases are those of
-        the first controllers, in their order. Bytes are stored at places of the area, and taken to the buffer's front."""
+    def named(self, name, *known, marks=None, runs=(), sequence=NOT_SAID, bases=(), queue=NOT_SAID, stored=None, taken=b"", managers=()):
+        """The marks are by the number of their word; the runs are pairs of address and length in units; the bases and managers are
+        those of the first controllers, in their order. Bytes are stored at places of the area, and taken to the buffer's front."""
         self.name, self.known_marks, self.known_runs, self.known_sequence = name, marks or {}, runs, sequence
         self.known_bases, self.known_queue, self.known_stored, self.known_taken = bases, queue, stored or {}, taken
+        self.known_managers = managers
         self.known = (*known, 0) if len(known) == 1 else known
         return self
 
@@ -148,8 +164,8 @@ class Case:
         return other
 
     def packed(self):
-        call = (self.words, self.mark, CALLS.index(self.call), self.id, self.address, self.bytes, self.type)
-        fields = struct.pack("<HQBHQQBH", *call, len(self.data)) + in_room(self.data, MOST_DATA) + struct.pack("<H", self.records)
+        call = (self.words, self.mark, CALLS.index(self.call), self.by, self.id, self.address, self.bytes, self.type)
+        fields = struct.pack("<HQBHHQQBH", *call, len(self.data)) + in_room(self.data, MOST_DATA) + struct.pack("<H", self.records)
         part = struct.pack("<BIIIHB", self.indicator, self.low, self.high, self.count, self.area, self.fill) + self.front
         plain = struct.pack("<BHB", self.units is not None, self.units or 0, self.value)
         return (self.record.packed() + fields + part + struct.pack("<IH", self.asked, self.shown) + plain).ljust(CASE_BYTES, b"\0")
@@ -187,7 +203,7 @@ class Case:
         yield f"marks: {self.words} words, of which word w is {self.mark:#x} rotated left by w modulo 64 bits"
         if self.units is not None:
             yield f"in their place {self.units} bytes, the plain engine's: u + {self.value} modulo 255, and 1, where bit u is set, else 0; shown from {self.shown} on"
-        yield (f"call: {self.call}, id {self.id}, address {self.address}, bytes {self.bytes}, type {self.type}, "
+        yield (f"call: {self.call}, by {self.by}, id {self.id}, address {self.address}, bytes {self.bytes}, type {self.type}, "
                f"{len(self.data)} lent bytes {self.data.hex()}")
         if self.call == "batch":
             yield f"batch: {self.records} records, row after row of {list(ROW.iter_unpack(self.data))}"
@@ -203,8 +219,9 @@ class Case:
             runs = "".join(f", run {one}" for one in self.known_runs)
             sequence = "" if self.known_sequence == NOT_SAID else f", sequence {self.known_sequence}"
             bases = f", bases {list(self.known_bases)}" if self.known_bases else ""
+            managers = f", managers {list(self.known_managers)}" if self.known_managers else ""
             queue = "" if self.known_queue == NOT_SAID else f", {self.known_queue}"
-            yield f"documents 01 and 02 ask for: {numbers}{marks}{runs}{sequence}{bases}{queue}"
+            yield f"documents 01 and 02 ask for: {numbers}{marks}{runs}{sequence}{bases}{managers}{queue}"
 
 
 @functools.lru_cache(maxsize=None)
@@ -270,12 +287,14 @@ OWN_NUMBERS = {  # behind the row, of a done call; all others are 0
 
 def record_fields():
     """Name and width of each field of a record, in their order."""
-    yield from [("manager", 2), ("least", 1), ("greatest", 1), ("rule", 1), ("limit", 2), ("count", 8)]
+    yield from [("manager", 2), ("least", 1), ("greatest", 1), ("rule", 1), ("limit", 2)]
+    yield from [("second manager", 1), ("its identifier", 2), ("its limit", 2), ("shelf limit", 2), ("count", 8)]
     yield from ((f"identifier in place {place}", 2) for place in range(8))
     for place in range(8):
         for name in ("tracking", "granularity", "count of ranges", "suspended"):
             yield f"controller {place}: {name}", 1
         yield f"controller {place}: base", 2
+        yield f"controller {place}: manager", 2
         for name, width in (("queue", 1), ("size", 2), ("posted", 4), ("taken", 4), ("place", 2), ("stopped", 1)):
             yield f"controller {place}: {name}", width
         for row in range(16):
@@ -337,7 +356,7 @@ def asked_by_bits(case, answer):
     numbers are all known: what was given, save the mark words named; of a done part, save its own bytes of the area and the
     sequence; and of a done queue call, save its queue, an entry's place of the area and the front of its buffer. Of another
     done call the first numbers are known, a report's groups, the record and all marks, but for the bits that a write, a batch or a
-    report may change, at times some mark words, runs and bases, and the rest is taken to be as answered."""
+    report may change, at times some mark words, runs, bases and managers, and the rest is taken to be as answered."""
     known = case.known or as_answered(case, *answer[:2])
     if known[0] or case.call == "batch" and len(known) == len(NUMBERS):
         return given(case, known)
@@ -361,7 +380,9 @@ def asked_by_bits(case, answer):
     for row, (address, length) in enumerate(case.known_runs):
         struct.pack_into("<QII", asked, DATA_AT + 16 + 16 * row, address, length, 0)
     for place, base in enumerate(case.known_bases):
-        struct.pack_into("<H", asked, RECORD_AT + 35 + 212 * place, base)
+        struct.pack_into("<H", asked, RECORD_AT + 42 + 214 * place, base)
+    for place, manager in enumerate(case.known_managers):
+        struct.pack_into("<H", asked, RECORD_AT + 44 + 214 * place, manager)
     return bytes(asked)
 
 
@@ -379,7 +400,7 @@ def left(case, answered):
     marks, answered = pool.as_number(case.lent_words()), pool.as_number(answered)
     if case.call == "start":
         granularity, listed = data_listed(case.data)
-        one.tracking, one.ranges = (granularity, len(listed)), (listed + [(0, 0)] * 16)[:16]
+        one.tracking, one.manager, one.ranges = (granularity, len(listed)), case.by, (listed + [(0, 0)] * 16)[:16]
         marks = pool.packed(record, one, marks)
     if case.call == "stop":
         marks &= ~pool.mask(one)
@@ -445,7 +466,7 @@ def moves(case, record):
 def fresh(record):
     """The fresh device of these settings: zeros in every place that is not used."""
     made = Record()
-    for name in ("manager", "least", "greatest", "rule", "limit", "count"):
+    for name in ("manager", "least", "greatest", "rule", "limit", "second", "shelf", "count"):
         setattr(made, name, getattr(record, name))
     made.identifiers = (record.identifiers[:min(record.count, 8)] + [0] * 8)[:8]
     return made
@@ -504,19 +525,70 @@ def sequence_left(case):
 
 def as_answered(case, refusal, row):
     """The number of a random case's answer, and the row where there may be one. The number is known where the record or the
-    words are known to be unsound, and of a queue call wherever it isn't 1 for another reason."""
+    words are known to be unsound, and of a queue call wherever it isn't 1 for another reason; so it is of a call that names a
+    manager, save for what a start's structure and a part's bytes are refused with."""
     if case.sound is False and case.call != "fresh":
         return 1, 0
     if case.call in QUEUE_CALLS and (case.sound or refusal != 1):
         return refusal_of_queue_call(case), 0
+    if case.call in MANAGERS_CALLS and (case.sound or refusal != 1):
+        refusal = refusal_of_managers_call(case, refusal)
     return refusal, row if case.call == "start" and refusal in ROW_RULES else 0
+
+
+# ---- Calls that name a manager (document 02, W12)
+
+def refusal_of_managers_call(case, answered):
+    """What such a call is answered with on a sound record, with 256 words. Where nothing that is asked here refuses a start or a part,
+    its answer may be one of those that are not asked here."""
+    record, one = case.record, called(case.record, case.id)
+    known = [(2, case.by in managers.limits(record)), (2, is_known(record, case.id))]
+    running, suspended = (4, not one.suspended), (13, one.suspended == 1)
+    own = (5, one.tracking is not None and one.managed_by(record.manager) == case.by)
+    owner, _ = record.sequence or (case.id, 0)
+    tests = {
+        "start": [*known, running, (3, one.tracking is None)],
+        "stop": [*known, running, own],
+        "receive": [*known, own, (8, len(case.data) >= 32)],
+        "suspend": [*known, (15, case.type <= 1)],
+        "resume": [*known, suspended],
+        "part": [(1, case.area == MOST_STATE), *known, suspended, (23, owner == case.id)],
+    }[case.call]
+    open_here = {"start": (8, 6, 7, 18, *ROW_RULES, 10, 11), "part": (24, 25, 26, 27)}.get(case.call, ())
+    refusal = managers.first_hit(tests) or (answered if answered in open_here else 0)
+    return refusal or (limit_passed(case) if case.call == "start" else 0)
+
+
+def limit_passed(case):
+    """12 or 34 of a start that nothing else refuses, or 0."""
+    record, count = case.record, int.from_bytes(case.data[4:8], "little")
+    return managers.first_hit([
+        (12, count + managers.counted(record, case.by) <= managers.limits(record)[case.by]),
+        (34, count + managers.counted(record) <= record.shelf),
+    ])
+
+
+def is_anothers(case):
+    """Whether a stop or a receive asks for a controller that the settings' other manager tracks."""
+    one, asked = called(case.record, case.id), case.call in ("stop", "receive") and case.by in managers.limits(case.record)
+    return asked and one.tracking is not None and one.managed_by(case.record.manager) != case.by
+
+
+def is_strangers(case):
+    """Whether a call of a known controller is by what is no manager."""
+    return case.call in MANAGERS_CALLS and case.by not in managers.limits(case.record) and is_known(case.record, case.id)
+
+
+def is_known(record, id):
+    """Whether the settings name this controller."""
+    return id in record.identifiers[:min(record.count, 8)]
 
 
 # ---- Queue calls
 
 def refusal_of_queue_call(case):
     """What a queue call is answered with on a sound record, with 256 words."""
-    known = case.id in case.record.identifiers[:min(case.record.count, 8)]
+    known = is_known(case.record, case.id)
     return kept_refusal(case.call, called(case.record, case.id).queue, case.lent_area(), case.data) if known else 2
 
 

@@ -2,6 +2,7 @@
 
 import random
 
+import managers
 import pool
 from bad_rows import with_bad_rows
 from batches import MOST_TAKEN, bad_note
@@ -25,7 +26,7 @@ class Maker:
     def __init__(self, seed):
         self.random = random.Random(seed)
         self.place = 0  # the called controller's
-        self.share_damaged = self.queue_damaged = False
+        self.share_damaged = self.queue_damaged = self.manager_damaged = False
         self.sound = True  # None where that isn't known
 
     def chance(self, share):
@@ -39,11 +40,13 @@ class Maker:
         if self.chance(0.5):
             # A fresh looks at the settings alone.
             self.damage_settings() if call == "fresh" else self.damage()
-        self.called = self.identifier(call)
-        fields = {"id": self.called, "mark": self.mark(), "words": self.words()}
+        self.called, self.by = self.identifier(call), self.caller(call)
+        fields = {"id": self.called, "by": self.by, "mark": self.mark(), "words": self.words()}
         fields.update(getattr(self, call + "_fields", dict)())
         case = Case(self.record, call, **fields)
-        case.share_damaged, case.queue_damaged = self.share_damaged, self.queue_damaged
+        case.share_damaged, case.queue_damaged, case.manager_damaged = self.share_damaged, self.queue_damaged, self.manager_damaged
+        if self.manager_damaged:
+            self.sound = managers.is_sound(self.record)
         case.sound = False if case.words != pool.WORDS else self.sound
         return case
 
@@ -57,6 +60,7 @@ class Maker:
         distinct = list(dict.fromkeys(few))
         pick.shuffle(distinct)
         record.manager, used = distinct[0], distinct[1:record.count + 1]
+        names = [record.manager, distinct[record.count + 1]] if self.chance(0.6) else [record.manager]
         # An unused place often holds what would count if it were looked at.
         record.identifiers = used + [pick.choice(distinct + [0]) for _ in range(8 - record.count)]
         record.least, record.greatest = sorted(pick.choice([0, 0, 1, 8, 12, 19, 20]) for _ in range(2))
@@ -65,17 +69,21 @@ class Maker:
             one.base = self.number(16) % 2**16
             if self.chance(0.6):
                 one.ranges = [(self.number(64), self.number(32)) for _ in range(16)]
+            one.manager = pick.choice([0, *names, pick.choice(distinct), pick.randrange(65536)])
             if place >= record.count:
                 one.tracking = pick.choice([None, (0, 1), (pick.randrange(256), pick.randrange(256))])
             elif self.chance(0.5) and self.units_left():
                 granularity = pick.randint(record.least, record.greatest)
                 one.track(granularity, *self.ranges(granularity))
+                one.manager = pick.choice(names)
             one.suspended = int(self.chance(0.25))
             if self.chance(0.6):
                 one.queue = self.queue() if place < record.count or self.chance(0.3) else self.any_queue()
         self.lay_shares()
-        # Often little or nothing of the limit is left.
-        record.limit = min(128, self.taken() + pick.choice([0, 0, 1, 2, 16, 128, 128, 128]))
+        # Often little or nothing of a limit is left.
+        record.limit, *others = [min(128, managers.counted(record, name) + pick.choice([0, 1, 2, 16, *[128] * 6])) for name in names]
+        record.second = (names[1], *others) if others else None
+        record.shelf = min(128, managers.counted(record) + pick.choice([0, 1, 2, 16, *[128] * 10]))
         suspended = self.used_places(lambda one: one.suspended)
         if suspended and self.chance(0.6):
             record.sequence = (record.identifiers[pick.choice(suspended)], self.end())
@@ -127,10 +135,6 @@ class Maker:
     def units_left(self):
         """How many units the pool has beside those tracked; 0 where a damaged record has too many."""
         return max(0, pool.POOL - self.units_taken())
-
-    def taken(self):
-        used = self.record.controllers[:min(self.record.count, 8)]
-        return sum(one.tracking[1] for one in used if one.tracking)
 
     def ranges(self, granularity):
         """Ranges that keep the rules 18 to 21, 10 and 11, in any order; half of the lists overlap, some end at 2^64. Most are
@@ -201,14 +205,11 @@ class Maker:
         used, pick = self.record.controllers[:self.record.count], self.random
         tracked_ones = [one for one in used if one.tracking]
         self.one = pick.choice(tracked_ones or used)
-        damages = [self.damage_settings, self.damage_tracking, self.damage_sequence, self.damage_queue]
+        damages = [self.damage_settings, self.damage_tracking, self.damage_sequence, self.damage_queue, self.damage_managers]
         if tracked_ones:
-            damages += [self.damage_tracking, self.damage_limit, self.damage_queue] + [self.damage_range] * 4 + [self.damage_share] * 3
+            damages += [self.damage_tracking, self.damage_queue] + [self.damage_range] * 4 + [self.damage_share] * 3 + [self.damage_managers] * 3
         self.sound = None
         pick.choice(damages)()
-
-    def damage_limit(self):
-        self.record.limit = self.taken() - 1
 
     def damage_settings(self):
         record, pick = self.record, self.random
@@ -220,8 +221,18 @@ class Maker:
             ("greatest", [0, record.least, 20, 21, 255]),
             ("rule", [1]),
             ("limit", [0, 1, 128, 129, 256, 65535]),
+            ("second", self.other_seconds()),
+            ("second", self.other_seconds()),
+            ("shelf", [0, 1, 128, 129, 256, 65535]),
         ])
         setattr(record, name, pick.choice(values))
+
+    def other_seconds(self):
+        """A second manager that is the first, a controller, stands in an unused place or has another limit; or none."""
+        record, pick = self.record, self.random
+        name, limit = record.second or (pick.randrange(65536), pick.randrange(129))
+        others = [record.manager, *record.identifiers[:record.count], pick.choice(record.identifiers), pick.randrange(65536)]
+        return [None, *((other, pick.choice([0, limit])) for other in others), *((name, other) for other in (0, 127, 128, 129, 129, limit + 256, 65535))]
 
     def one_repeated(self):
         """The identifiers with one in use put into another place, used or not."""
@@ -237,7 +248,9 @@ class Maker:
             one.tracking = (pick.choice(edges + [20, 21, 64, 255]) % 256, count)
         else:
             one.tracking = (granularity, pick.choice([0, count - 1, count + 1, 16, 17, 18, 255]) % 256)
-            record.limit = pick.choice([record.limit, 128])
+            if self.chance(0.5):
+                record.limit = record.shelf = 128
+                self.limit(one.managed_by(record.manager), 128)
 
     def damage_share(self):
         """A base at or about the end of the pool, or about another share's ends; or a share that grows by a unit."""
@@ -284,6 +297,31 @@ class Maker:
         ]))
         self.sound = all(other.queue.is_sound() for other in pool.used(self.record) if other.queue)
 
+    def damage_managers(self):
+        """Another manager of a tracked controller, a limit at what is taken of it or about 128, or another second manager; whether the
+        record is sound then is known."""
+        record, pick = self.record, self.random
+        self.manager_damaged = True
+        name = pick.choice(list(managers.limits(record)))
+        taken = pick.choice([managers.counted(record, name), managers.counted(record)])
+        limit = max(0, pick.choice([taken - 1, taken - 1, taken - 1, taken, taken + 1, 128, 129, 256 + taken, 65535]))
+        kind = pick.choice(["manager"] * 4 + ["own limit"] * 3 + ["shelf limit"] * 3 + ["second"] * 2)
+        if kind == "manager":
+            self.one.manager = pick.choice([0, self.any_identifier(), self.any_identifier(), pick.choice(list(managers.limits(record))), name ^ 256])
+        if kind == "own limit":
+            self.limit(name, limit)
+        if kind == "shelf limit":
+            record.shelf = limit
+        if kind == "second":
+            record.second = pick.choice(self.other_seconds())
+
+    def limit(self, manager, limit):
+        """This manager has this limit; a stranger has none."""
+        if manager == self.record.manager:
+            self.record.limit = limit
+        elif manager in managers.limits(self.record):
+            self.record.second = (manager, limit)
+
     def damage_range(self):
         pick, one = self.random, self.one
         granularity, count = one.tracking
@@ -328,7 +366,17 @@ class Maker:
 
     def any_identifier(self):
         record, pick = self.record, self.random
-        return pick.choice([record.manager, pick.choice(record.identifiers), pick.randrange(65536)])
+        return pick.choice([*managers.limits(record), pick.choice(record.identifiers), pick.randrange(65536)])
+
+    def caller(self, call):
+        """Mostly a manager of the settings, and of a stop and a receive mostly the one that tracks; at times a controller or a stranger."""
+        pick, record, one = self.random, self.record, self.record.controllers[self.place]
+        known, tracker = list(managers.limits(record)), one.managed_by(record.manager)
+        if self.chance(0.07):
+            return pick.choice([0, record.manager ^ 256, pick.choice(record.identifiers), pick.randrange(65536)])
+        if call in ("stop", "receive") and one.tracking:
+            return tracker if self.chance(0.65) else pick.choice([name for name in known if name != tracker] or known)
+        return pick.choice(known)
 
     def used_places(self, wanted=lambda one: True):
         """The places in use with a controller that is wanted."""
@@ -347,9 +395,8 @@ class Maker:
         record, pick = self.record, self.random
         granularity = min(20, pick.choice([record.least, record.greatest]))
         parts = {"granularity": granularity, "ranges": self.ranges(granularity)}
-        if self.chance(0.25):
-            # Just enough of the limit is left, or one too few.
-            record.limit = min(128, self.taken() + len(parts["ranges"]) - pick.choice([0, 1]))
+        if self.chance(0.3):
+            self.leave_room(len(parts["ranges"]))
         elif self.chance(0.15):
             self.fill_pool(parts)
         if self.chance(0.5):
@@ -360,6 +407,16 @@ class Maker:
         elif self.chance(0.2):
             data += pick.randbytes(pick.choice([1, 12, 100]))
         return {"data": data}
+
+    def leave_room(self, count):
+        """Just enough of the caller's limit, of the shelf's or of both is left, or one too few; of the other as it was."""
+        record, pick = self.record, self.random
+        own, all_counts = (managers.counted(record, name) + count - pick.choice([0, 1]) for name in (self.by, None))
+        which = pick.choice(["own", "own", "shelf", "shelf", "both"])
+        if which != "shelf":
+            self.limit(self.by, min(128, own))
+        if which != "own":
+            record.shelf = min(128, all_counts)
 
     def fill_pool(self, parts):
         """The start's last range is made longer, so that the pool is just full, or has a unit too few."""

@@ -169,11 +169,14 @@ class Maker:
     def likely(self, identifier, granularity, ranges):
         """Whether the start will be done, as far as the maker can tell."""
         unit = 2 ** (12 + min(granularity, 20))
-        counts = len(ranges) + sum(len(others) for _, others in self.tracked.values())
         return (identifier in self.identifiers and identifier not in self.tracked and identifier not in self.suspended
-                and self.least <= granularity <= self.greatest and counts <= self.limit
+                and self.least <= granularity <= self.greatest and self.within_limits(len(ranges))
                 and all(address % unit == 0 and address + unit * length <= END for address, length in ranges)
                 and different_units(unit, ranges) <= self.left())
+
+    def within_limits(self, count):
+        """Whether so many ranges more are within the limit, as far as the maker can tell."""
+        return count + sum(len(others) for _, others in self.tracked.values()) <= self.limit
 
     def left(self):
         """How many units of the pool are left, as far as the maker can tell."""

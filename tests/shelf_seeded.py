@@ -1,11 +1,12 @@
 """Shelf listings from a seed: the sessions of seeded.py with batches and bursts (document 02, W4), with parts of states (W6),
-with queues (W8) and with settings files (W11) among their lines.
+with queues (W8) and with settings files (W11) among their lines, and most of them with two managers (W12).
 
 A batch is aimed as single writes are, at the edges of ranges and units, by one controller or a few; often one of its notes
 will be refused, in a random place. Parts come in sequences, mostly sensible ones of small states, with other lines, spoiled
 parts and other controllers' between them. Queues are small, mostly, so that they go round and close; a few posts or a few
 takes come at a time. Settings files hold the device's own settings or others; some are damaged, and what is saved is mostly
-read again. Listing K of seed N is always the same. A later request adds its lines to `kinds`.
+read again. A manager mostly asks for what it tracks itself, at times for what the other one does, and rarely it is no manager at
+all. Listing K of seed N is always the same. A later request adds its lines to `kinds`.
 """
 
 import random
@@ -13,15 +14,16 @@ import random
 import damaged
 from batches import MOST_BURST, MOST_BYTES, MOST_LISTED, MOST_TAKEN, bad_note, batch_line, burst_line, line_of_bytes
 from case import Case
+from managers import TOLD, dev2_line
 from parts import WORD, any_state, next_part, part_line, spoiled
 from queues import CLOSING, ENTRY, MOST_BUFFER, MOST_PLACES, MOST_SIZE, WRONG_ENTRIES, WRONG_SIZES
 from queues import Queue, any_entry, make_line, places_of, post_line, take_line
 from seeded import Maker, lines_of
-from settings_files import Settings, any_settings, damaged_file, file_of, reader_line, save_line, spoiled_settings
+from settings_files import MOST_LIMIT, Settings, any_settings, broken, damaged_file, file_of, reader_line, save_line, spoiled_settings
 
 FEW = [0, 1, 1, 2, 2, 3, 3, 4, 5, 8, 8, 13, 20, 40]
 ABOUT_THE_MOST = [MOST_TAKEN - 1, MOST_TAKEN, MOST_TAKEN, MOST_TAKEN + 1, MOST_TAKEN + 1, MOST_LISTED, MOST_LISTED + 1]
-WORDS = [b"batch", b"burst", b"part", b"queue", b"post", b"take", b"old", b"new", b"save", b"write", b"batches"]
+WORDS = [b"batch", b"burst", b"part", b"queue", b"post", b"take", b"old", b"new", b"save", b"dev2", b"by", b"write", b"batches"]
 MOSTS = (MOST_TAKEN, MOST_LISTED, MOST_BURST, ENTRY, 2 * ENTRY, MOST_PLACES * ENTRY, MOST_SIZE, MOST_BUFFER)
 NUMBERS = [b"%d" % (most + more) for most in MOSTS for more in (-1, 0, 1)]
 NUMBERS += [b"-", b"00000000", b"0000000A", CLOSING.hex().encode(), CLOSING.hex().upper().encode(), CLOSING.hex().encode()[2:]]
@@ -36,8 +38,8 @@ def listing(seed, number):
 
 
 def damage(dice, line):
-    """A session's damage mostly; else the words, numbers and lengths of shelf listings."""
-    return dice.choice([damaged.damage] * 16 + [other_word, other_word, other_number, other_number, other_length])(dice, line)
+    """A session's damage mostly; else the words, numbers and lengths of shelf listings, or `by` before any line."""
+    return dice.choice([damaged.damage] * 16 + [other_word, other_word, other_number, other_number, other_length, said_by, said_by])(dice, line)
 
 
 def other_word(dice, line):
@@ -48,6 +50,11 @@ def other_number(dice, line):
     words = line.split(b" ")
     words[dice.randrange(len(words))] = dice.choice(NUMBERS)
     return b" ".join(words)
+
+
+def said_by(dice, line):
+    """By any manager, also where the line may have none or has one."""
+    return b"by %d %b" % (dice.choice([0, 1, 2, 3, 65535]), line)
 
 
 def other_length(dice, _line):
@@ -64,10 +71,71 @@ class ShelfMaker(Maker):
         self.owner, self.state, self.sent = None, b"", 0  # guess: whose state is on its way, and how many bytes were sent
         self.queues = {}                                  # guess: identifier -> queue
         self.logging = dice.choice([4, 20, 20, 60])       # how often lines of queues come
+        self.trackers = {}                                # guess: identifier -> the manager that tracks it
+        self.by = None                                    # who makes the next start, and who made the last call
+        self.telling = dice.choice([0, 0.2, 1])           # how often the first manager says who it is
+
+    # ---- dev2, by
 
     def dev(self):
-        self.queues = {}
-        return super().dev()
+        """With one manager, by `dev` or `dev2`, or with two; often there is little left of some limit."""
+        self.queues, self.trackers = {}, {}
+        line = super().dev()
+        self.second, self.limit2, self.shelf = self.manager, 0, MOST_LIMIT
+        if self.dice.random() < 0.3:
+            return line
+        if self.dice.random() < 0.85:
+            self.second = self.dice.choice([name for name in (0, 1, 2, 4, 9, 258, 65533, 65534, 65535) if name not in (self.manager, *self.identifiers)])
+            self.limit2 = self.dice.choice([0, 1, 2, 4, 16, 16, 33, 64, 128, 128])
+        sums = [self.limit, self.limit2, self.limit + self.limit2 - 1, (self.limit + self.limit2) // 2]
+        self.shelf = max(0, min(MOST_LIMIT, self.dice.choice([1, 3, 16, 18, *sums, *[MOST_LIMIT] * 6])))
+        return dev2_line(self.device()).encode()
+
+    def device(self):
+        """The device's own settings."""
+        return Settings(self.manager, self.least, self.greatest, self.rule, self.limit, self.second, self.limit2, self.shelf, tuple(self.identifiers))
+
+    def refused_dev(self):
+        if self.dice.random() < 0.4:
+            return super().refused_dev()
+        one = self.device()
+        while not broken(one):
+            one = spoiled_settings(self.dice, one)
+        return dev2_line(one).encode()
+
+    def any_manager(self):
+        """One of the device's, rarely a controller or a stranger."""
+        luck = self.dice.random()
+        return self.dice.choice([*self.identifiers, 0, 3, 9, 65535, (self.second + 256) % 65536]) if luck < 0.03 else self.manager if luck < 0.5 else self.second
+
+    def words(self, word, *numbers):
+        line = super().words(word, *numbers)
+        return self.told(line, word, numbers[0]) if word in TOLD else line
+
+    def told(self, line, word, name):
+        """The line by a manager: of a stop and a receive mostly the one that tracks. The first one need not be said."""
+        if word != "start":
+            self.by = self.trackers[name] if word in ("stop", "recv") and name in self.trackers and self.dice.random() < 0.85 else self.any_manager()
+        return line if self.by == self.manager and self.dice.random() >= self.telling else b"by %d %b" % (self.by, line)
+
+    def start(self):
+        before, self.by = set(self.tracked), self.any_manager()
+        line = super().start()
+        self.trackers.update({name: self.by for name in set(self.tracked) - before})
+        return line
+
+    def stop(self, kept=None):
+        before = dict(self.tracked)
+        line = super().stop(kept)
+        for name in set(before) - set(self.tracked):
+            if self.trackers.get(name) != self.by:
+                self.tracked[name] = before[name]
+        return line
+
+    def within_limits(self, count):
+        limit = {self.second: self.limit2, self.manager: self.limit}.get(self.by, 0)
+        own = sum(len(ranges) for name, (_, ranges) in self.tracked.items() if self.trackers.get(name) == self.by)
+        return count + own <= limit and count + sum(len(ranges) for _, ranges in self.tracked.values()) <= self.shelf
 
     def kinds(self):
         batches = [(self.batch, 30 if self.tracked else 3), (self.burst, 8 if self.tracked else 2)]
@@ -105,7 +173,7 @@ class ShelfMaker(Maker):
 
     def bad_note(self):
         dice, note = self.dice, self.notes(1)[0]
-        unknown = dice.choice([self.manager, (note[0] + 1) % 65536, 4])
+        unknown = dice.choice([self.manager, self.second, (note[0] + 1) % 65536, 4])
         suspended = dice.choice(sorted(self.suspended) or [note[0]])
         return bad_note(dice, note, unknown, suspended)
 
@@ -126,7 +194,8 @@ class ShelfMaker(Maker):
             self.owner, self.state, self.sent = self.identifier(self.suspended), any_state(self.dice), 0
             lines += [*self.suspended_too(self.owner, 0.9), *self.suspended_too(self.identifier(), 0.4)]
         for _ in range(self.dice.choice([1, 1, 2, 3, 5])):
-            lines.append(part_line(self.part()).encode())
+            one = self.part()
+            lines.append(self.told(part_line(one).encode(), "part", one.id))
             if self.owner is None:
                 break
         return lines
@@ -214,9 +283,10 @@ class ShelfMaker(Maker):
         return [line.encode() for line in dice.sample(lines, dice.choice([1, 2, 3]))]
 
     def settings(self):
-        """The device's own, with one manager or two; or any."""
+        """The device's own, also with one manager, or with another second one; or any."""
         if self.dice.random() < 0.5:
             return any_settings(self.dice)
-        alone = Settings(self.manager, self.least, self.greatest, self.rule, self.limit, self.manager, 0, 128, tuple(self.identifiers))
+        own = self.device()
+        alone = own._replace(second=self.manager, limit2=0, shelf=MOST_LIMIT)
         other = alone._replace(second=self.dice.choice([4, 9, 65533]), limit2=self.dice.choice([0, 4, 128]), shelf=self.dice.choice([0, 18, 128]))
-        return self.dice.choice([alone, alone, other])
+        return self.dice.choice([own, own, alone, other])

@@ -4,6 +4,9 @@
 //! "256 lent words" (W7) has no counterpart here, and refusal 1 is about the record alone, and in W6 about the state area.
 //! (`records` lends words.) A share that moves is another base in the record, and the sets stay as they are: "moving marks
 //! changes no pending unit".
+//!
+//! W12: start, stop, receive, suspend, resume and a part of a state name the manager that makes them, which is `by` here;
+//! writes, batches and the calls of a queue don't. Where a call has two 2, the first is for the manager.
 
 use std::collections::{BTreeMap, BTreeSet};
 
@@ -74,14 +77,16 @@ impl Device {
         Ok(device)
     }
 
-    /// Start: 1, 2, 4, 3, 8 (header), 6, 7, 8 (listed ranges), 18, then row by row 19, 20 and 21, then 10, 11, 12.
+    /// Start: 1, 2, 2, 4, 3, 8 (header), 6, 7, 8 (listed ranges), 18, then row by row 19, 20 and 21, then 10, 11, 12, 34.
     /// "An accepted start clears the controller's 64 words and records granularity and ranges." W7: "A share stands for
-    /// 01's 64 words".
-    pub fn start(&mut self, id: u64, buffer: &[u8]) -> Result<(), Reason> {
+    /// 01's 64 words". W12: it records who starts, too.
+    pub fn start(&mut self, by: u64, id: u64, buffer: &[u8]) -> Result<(), Reason> {
+        let manager = self.manager(by)?;
         let controller = self.controller(id)?;
         if controller.suspended {
             return Err(SUSPENDED.into());
         }
+        // W12: "3 if either manager tracks that controller".
         if controller.tracking != Tracking::Off {
             return Err(ALREADY_TRACKED.into());
         }
@@ -109,8 +114,8 @@ impl Device {
         if too_many_units(&self.record, header.granularity, &ranges) {
             return Err(TOO_MANY_UNITS.into());
         }
-        if limit_passed(&self.record, ranges.len()) {
-            return Err(LIMIT_PASSED.into());
+        if let Some(refusal) = limit_refusal(&self.record, manager, ranges.len()) {
+            return Err(refusal.into());
         }
         let mut places = [Range::default(); MOST_RANGES];
         for (place, range) in places.iter_mut().zip(&ranges) {
@@ -118,6 +123,7 @@ impl Device {
         }
         let controller = self.controller_mut(id)?;
         controller.tracking = Tracking::On { granularity: header.granularity, count: header.count };
+        controller.manager = by;
         controller.ranges = places;
         self.pending.insert(id, BTreeSet::new());
         self.pack();
@@ -142,19 +148,19 @@ impl Device {
         }
     }
 
-    /// Stop: 1, 2, 4, 5. "An accepted stop clears them again and forgets the ranges." READINGS 7.2: it "moves nothing"; its
-    /// base is 0 then, as that of every place that is left unused.
-    pub fn stop(&mut self, id: u64) -> Result<(), Refusal> {
+    /// Stop: 1, 2, 2, 4, 5. "An accepted stop clears them again and forgets the ranges." READINGS 7.2: it "moves nothing"; its
+    /// base is 0 then, as that of every place that is left unused, and so is its manager.
+    pub fn stop(&mut self, by: u64, id: u64) -> Result<(), Refusal> {
+        self.manager(by)?;
         let controller = self.controller(id)?;
         if controller.suspended {
             return Err(SUSPENDED);
         }
-        if controller.tracking == Tracking::Off {
-            return Err(NOT_TRACKED);
-        }
+        tracked_granularity(controller, by)?;
         let controller = self.controller_mut(id)?;
         controller.tracking = Tracking::Off;
         controller.base = 0;
+        controller.manager = 0;
         controller.ranges = [Range::default(); MOST_RANGES];
         self.pending.insert(id, BTreeSet::new());
         Ok(())
@@ -206,16 +212,14 @@ impl Device {
         Ok(Batch { done, count, refusal })
     }
 
-    /// Receive: 1, 2, 5, 8. "The first so many are reported and made clear; later ones stay. More To Report is set
+    /// Receive: 1, 2, 2, 5, 8. "The first so many are reported and made clear; later ones stay. More To Report is set
     /// exactly if a run stays." "Bytes after the last descriptor are unchanged. The granularity is the one with which
     /// that controller was started." W10: "Put in the result how many groups of 64 units ... were examined", which is "taken
     /// over the marks before the call".
-    pub fn receive(&mut self, id: u64, buffer: &mut [u8]) -> Result<usize, Refusal> {
+    pub fn receive(&mut self, by: u64, id: u64, buffer: &mut [u8]) -> Result<usize, Refusal> {
+        self.manager(by)?;
         let controller = self.controller(id)?;
-        let granularity = match controller.tracking {
-            Tracking::Off => return Err(NOT_TRACKED),
-            Tracking::On { granularity, .. } => granularity,
-        };
+        let granularity = tracked_granularity(controller, by)?;
         if buffer.len() < LEAST_BUFFER {
             return Err(BUFFER_TOO_SHORT);
         }
@@ -241,9 +245,10 @@ impl Device {
         Ok(groups)
     }
 
-    /// Suspend: 1, 2, 15. "Suspend type 1 suspends, also where already suspended (house). Type 0 is a notice and
-    /// changes nothing (house)."
-    pub fn suspend(&mut self, id: u64, kind: u64) -> Result<(), Refusal> {
+    /// Suspend: 1, 2, 2, 15. "Suspend type 1 suspends, also where already suspended (house). Type 0 is a notice and
+    /// changes nothing (house)." W12: "Suspension belongs to the controller, whoever asked."
+    pub fn suspend(&mut self, by: u64, id: u64, kind: u64) -> Result<(), Refusal> {
+        self.manager(by)?;
         let controller = self.controller_mut(id)?;
         match kind {
             0 => Ok(()),
@@ -255,8 +260,9 @@ impl Device {
         }
     }
 
-    /// Resume: 1, 2, 13. W6: "its resume drops its unfinished sequence".
-    pub fn resume(&mut self, id: u64) -> Result<(), Refusal> {
+    /// Resume: 1, 2, 2, 13. W6: "its resume drops its unfinished sequence".
+    pub fn resume(&mut self, by: u64, id: u64) -> Result<(), Refusal> {
+        self.manager(by)?;
         let controller = self.controller_mut(id)?;
         if !controller.suspended {
             return Err(NOT_SUSPENDED);
@@ -270,17 +276,18 @@ impl Device {
         Ok(())
     }
 
-    /// Set Controller State (W6): 1, 2, 13, then 23 to 27. Answers how many bytes are assembled, which are the area's
+    /// Set Controller State (W6): 1, 2, 2, 13, then 23 to 27. Answers how many bytes are assembled, which are the area's
     /// first, and 0 where the sequence goes on. "A refused part changes nothing, an accepted one only its own bytes of the
     /// area."
     ///
     /// The part is judged by the joined bytes, before any of them is stored; those before its own are the area's anyway.
-    pub fn set_state(&mut self, area: &mut [u8], part: &Part) -> Result<usize, Refusal> {
+    pub fn set_state(&mut self, by: u64, area: &mut [u8], part: &Part) -> Result<usize, Refusal> {
         self.asked_sound()?;
         // "in one lent area of that size (else 1)"
         if area.len() != STATE_BYTES {
             return Err(UNSOUND);
         }
+        self.manager(by)?;
         // "The named controller must be suspended"
         if !self.controller(part.id)?.suspended {
             return Err(NOT_SUSPENDED);
@@ -341,11 +348,17 @@ impl Device {
         }
     }
 
+    /// With what each call that names its manager begins: 1; then "2 for an unknown manager" (W12).
+    fn manager(&self, by: u64) -> Result<Manager, Refusal> {
+        self.asked_sound()?;
+        self.record.settings.known_manager(by).ok_or(UNKNOWN)
+    }
+
     /// With what each call of an identifier begins: 1; then 2, "identifier not in the settings, or the manager's own".
     /// Answers the place of the identifier.
     fn place(&self, id: u64) -> Result<usize, Refusal> {
         self.asked_sound()?;
-        if id == self.record.settings.manager {
+        if self.record.settings.known_manager(id).is_some() {
             return Err(UNKNOWN);
         }
         for (place, identifier) in self.record.settings.used_identifiers().iter().enumerate() {
@@ -376,6 +389,15 @@ impl Device {
     fn controller_mut(&mut self, id: u64) -> Result<&mut Controller, Refusal> {
         let place = self.place(id)?;
         self.record.controllers.get_mut(place).ok_or(UNKNOWN)
+    }
+}
+
+/// The granularity with which this manager tracks the controller; else 5. W12: "stop and receive by the other manager get
+/// 5."
+fn tracked_granularity(controller: &Controller, by: u64) -> Result<u64, Refusal> {
+    match controller.tracking {
+        Tracking::On { granularity, .. } if controller.manager == by => Ok(granularity),
+        _ => Err(NOT_TRACKED),
     }
 }
 
@@ -453,6 +475,8 @@ mod tests {
             greatest: 8,
             rule: 0,
             limit: 16,
+            second: None,
+            shelf: 128,
             number: 2,
             identifiers: [5, 6, 0, 0, 0, 0, 0, 0],
         })
@@ -475,8 +499,8 @@ mod tests {
     /// The device above with both controllers suspended, and an area of stale bytes.
     fn receiver() -> (Device, Vec<u8>) {
         let mut device = device();
-        device.suspend(5, 1).unwrap();
-        device.suspend(6, 1).unwrap();
+        device.suspend(1, 5, 1).unwrap();
+        device.suspend(1, 6, 1).unwrap();
         (device, vec![0xEE; 4096])
     }
 
@@ -492,7 +516,7 @@ mod tests {
     /// A refused start's number and row, if it has one. It changes nothing.
     fn refused_start(device: &Device, buffer: &[u8]) -> (Refusal, Option<usize>) {
         let mut after = device.clone();
-        let answer = after.start(5, buffer);
+        let answer = after.start(1, 5, buffer);
         assert_eq!(&after, device);
         let reason = answer.unwrap_err();
         (reason.number, reason.row)
@@ -501,16 +525,16 @@ mod tests {
     #[test]
     fn closed_device_answers_1_to_every_call() {
         let mut device = Device::default();
-        assert_eq!(device.start(0, &one_range()), Err(Reason { number: 1, row: None }));
-        assert_eq!(device.stop(0), Err(1));
+        assert_eq!(device.start(1, 0, &one_range()), Err(Reason { number: 1, row: None }));
+        assert_eq!(device.stop(1, 0), Err(1));
         assert_eq!(device.write(&note(0, 0, 0)), Err(1));
         assert_eq!(device.batch(&[]), Err(1));
         assert_eq!(device.batch(&[note(0, 0, 0)]), Err(1));
         assert_eq!(device.batch(&[note(0, 0, 0); 1025]), Err(1));
-        assert_eq!(device.receive(0, &mut [0; 64]), Err(1));
-        assert_eq!(device.suspend(0, 9), Err(1));
-        assert_eq!(device.resume(0), Err(1));
-        assert_eq!(device.set_state(&mut [0; 4096], &part(3, 0, &[0; 48])), Err(1));
+        assert_eq!(device.receive(1, 0, &mut [0; 64]), Err(1));
+        assert_eq!(device.suspend(1, 0, 9), Err(1));
+        assert_eq!(device.resume(1, 0), Err(1));
+        assert_eq!(device.set_state(1, &mut [0; 4096], &part(3, 0, &[0; 48])), Err(1));
         assert_eq!(device.make_queue(0, &[0; 64]), Err(1));
         assert_eq!(device.post(0, &mut [0; 64], &[0; 32]), Err(1));
         assert_eq!(device.take(0, &[0; 64], 1, &mut [0; 32]), Err(1));
@@ -520,20 +544,20 @@ mod tests {
     #[test]
     fn unsound_record_answers_1_before_all_else() {
         let mut device = device();
-        device.start(5, &one_range()).unwrap();
+        device.start(1, 5, &one_range()).unwrap();
         device.record.controllers[0].ranges[0].length = 0;
         let before = device.clone();
         for id in [1, 5, 6, 7].iter() {
-            assert_eq!(device.start(*id, &[]), Err(Reason { number: 1, row: None }));
-            assert_eq!(device.stop(*id), Err(1));
+            assert_eq!(device.start(1, *id, &[]), Err(Reason { number: 1, row: None }));
+            assert_eq!(device.stop(1, *id), Err(1));
             assert_eq!(device.write(&note(*id, u64::MAX, u64::MAX)), Err(1));
             for notes in [0, 1, 1024, 1025].iter() {
                 assert_eq!(device.batch(&vec![note(*id, u64::MAX, u64::MAX); *notes]), Err(1));
             }
-            assert_eq!(device.receive(*id, &mut []), Err(1));
-            assert_eq!(device.suspend(*id, 2), Err(1));
-            assert_eq!(device.resume(*id), Err(1));
-            assert_eq!(device.set_state(&mut [0; 4096], &Part { id: *id, ..part(4, 2, &[0; 3]) }), Err(1));
+            assert_eq!(device.receive(1, *id, &mut []), Err(1));
+            assert_eq!(device.suspend(1, *id, 2), Err(1));
+            assert_eq!(device.resume(1, *id), Err(1));
+            assert_eq!(device.set_state(1, &mut [0; 4096], &Part { id: *id, ..part(4, 2, &[0; 3]) }), Err(1));
             assert_eq!(device.make_queue(*id, &[]), Err(1));
             assert_eq!(device.post(*id, &mut [], &[]), Err(1));
             assert_eq!(device.take(*id, &[], 0, &mut []), Err(1));
@@ -549,6 +573,8 @@ mod tests {
             greatest: 8,
             rule: 0,
             limit: 16,
+            second: None,
+            shelf: 128,
             number: 1,
             identifiers: [5, 6, 7, 8, 9, 10, 11, 12],
         })
@@ -556,7 +582,7 @@ mod tests {
         assert_eq!(device.record.settings.identifiers, [5, 0, 0, 0, 0, 0, 0, 0]);
         assert_eq!(device.record.controllers[0], Controller::default());
         let ranges = [Range { start: 65536, length: 4 }, Range { start: 0, length: 2 }];
-        device.start(5, &structure_bytes(0, &ranges)).unwrap();
+        device.start(1, 5, &structure_bytes(0, &ranges)).unwrap();
         let controller = &device.record.controllers[0];
         assert_eq!(controller.tracking, Tracking::On { granularity: 0, count: 2 });
         assert_eq!(controller.ranges[0], ranges[0]);
@@ -564,7 +590,7 @@ mod tests {
         for range in &controller.ranges[2..] {
             assert_eq!(*range, Range { start: 0, length: 0 });
         }
-        device.stop(5).unwrap();
+        device.stop(1, 5).unwrap();
         assert_eq!(device.record.controllers[0], Controller::default());
     }
 
@@ -575,7 +601,7 @@ mod tests {
         let stale = Unit { row: 0, address: 65536 };
         device.pending.insert(5, [stale].iter().cloned().collect());
         device.pending.insert(6, [stale].iter().cloned().collect());
-        device.start(5, &one_range()).unwrap();
+        device.start(1, 5, &one_range()).unwrap();
         assert_eq!(device.pending.get(&5), Some(&BTreeSet::new()));
         assert_eq!(device.pending.get(&6), Some(&[stale].iter().cloned().collect()));
     }
@@ -588,7 +614,7 @@ mod tests {
 
     /// Starts a controller with so many pages from page 0 on.
     fn start_pages(device: &mut Device, id: u64, pages: u64) -> Result<(), Reason> {
-        device.start(id, &structure_bytes(0, &[Range { start: 0, length: pages }]))
+        device.start(1, id, &structure_bytes(0, &[Range { start: 0, length: pages }]))
     }
 
     fn bases(device: &Device) -> Vec<u64> {
@@ -603,16 +629,16 @@ mod tests {
         }
         assert_eq!(bases(&device), [0, 64, 0, 0, 65, 0, 0, 165]);
         // What is off is at 0, and the others stay where they are.
-        device.stop(5).unwrap();
+        device.stop(1, 5).unwrap();
         assert_eq!(bases(&device), [0, 64, 0, 0, 65, 0, 0, 165]);
-        device.stop(9).unwrap();
+        device.stop(1, 9).unwrap();
         assert_eq!(bases(&device), [0, 64, 0, 0, 0, 0, 0, 165]);
         // The next start packs, whoever starts.
         start_pages(&mut device, 7, 2).unwrap();
         assert_eq!(bases(&device), [0, 0, 1, 0, 0, 0, 0, 3]);
         // A suspended one moves too. A refused start moves nothing.
-        device.suspend(12, 1).unwrap();
-        device.stop(6).unwrap();
+        device.suspend(1, 12, 1).unwrap();
+        device.stop(1, 6).unwrap();
         assert_eq!(start_pages(&mut device, 10, 16320), Err(Reason { number: 11, row: None }));
         assert_eq!(bases(&device), [0, 0, 1, 0, 0, 0, 0, 3]);
         assert_eq!(start_pages(&mut device, 10, 16319), Ok(()));
@@ -632,7 +658,7 @@ mod tests {
         device.record.controllers[7].tracking = Tracking::On { granularity: 255, count: 255 };
         start_pages(&mut device, 6, 3).unwrap();
         assert_eq!(bases(&device), [0, 3, 6, 0, 0, 0, 0, 9]);
-        device.stop(5).unwrap();
+        device.stop(1, 5).unwrap();
         assert_eq!(bases(&device), [0, 3, 6, 0, 0, 0, 0, 9]);
     }
 
@@ -643,6 +669,7 @@ mod tests {
         for (place, pages, base) in [(1, 10, 16374), (4, 20, 300), (7, 30, 64)].iter() {
             let controller: &mut Controller = &mut device.record.controllers[*place];
             controller.tracking = Tracking::On { granularity: 0, count: 1 };
+            controller.manager = 1;
             controller.ranges[0] = Range { start: 0, length: *pages };
             controller.base = *base;
         }
@@ -659,7 +686,7 @@ mod tests {
         assert_eq!(start_pages(&mut device, 6, 6384), Ok(()));
         assert_eq!(start_pages(&mut device, 7, 1), Err(Reason { number: 11, row: None }));
         assert_eq!(device.write(&note(6, 0, u64::MAX)), Ok(6384));
-        device.stop(5).unwrap();
+        device.stop(1, 5).unwrap();
         assert_eq!(start_pages(&mut device, 7, 10000), Ok(()));
         assert_eq!(bases(&device), [0, 0, 6384, 0, 0, 0, 0, 0]);
         assert_eq!(device.pending[&6].len(), 6384);
@@ -695,7 +722,7 @@ mod tests {
         buffer[1] = 255;
         buffer[2] = 255;
         buffer.push(255);
-        assert_eq!(device.clone().start(5, &buffer), Ok(()));
+        assert_eq!(device.clone().start(1, 5, &buffer), Ok(()));
     }
 
     #[test]
@@ -715,7 +742,7 @@ mod tests {
         assert_eq!(refused_start(&device, &huge), (8, None));
         let mut sixteen = buffer.clone();
         sixteen[4] = 16;
-        assert_eq!(device.clone().start(5, &sixteen), Ok(()));
+        assert_eq!(device.clone().start(1, 5, &sixteen), Ok(()));
         let mut none = buffer;
         none[4] = 0;
         assert_eq!(refused_start(&device, &none), (18, Some(0)));
@@ -750,18 +777,18 @@ mod tests {
     #[test]
     fn report_in_its_buffer() {
         let mut device = device();
-        device.start(5, &one_range()).unwrap();
+        device.start(1, 5, &one_range()).unwrap();
         assert_eq!(device.write(&note(5, 65536, 1)), Ok(1));
         assert_eq!(device.write(&note(5, 73728, 1)), Ok(1));
         // Refused: the buffer is unchanged, and so is the device.
         let before = device.clone();
         let mut buffer = [170; 31];
-        assert_eq!(device.receive(5, &mut buffer), Err(8));
+        assert_eq!(device.receive(1, 5, &mut buffer), Err(8));
         assert_eq!(buffer, [170; 31]);
         assert_eq!(device, before);
         // One descriptor in 47 bytes; those after it are unchanged.
         let mut buffer = [170; 47];
-        assert_eq!(device.receive(5, &mut buffer), Ok(1));
+        assert_eq!(device.receive(1, 5, &mut buffer), Ok(1));
         let mut expected = [170; 47];
         expected[..32].copy_from_slice(&[
             0, 1, 5, 0, 1, 0, 0, 0, 0, 0, 0, 0, 0, 0, 0, 0, // more, identifier 5, one, granularity 0
@@ -769,9 +796,9 @@ mod tests {
         ]);
         assert_eq!(buffer, expected);
         // The other one, while suspended.
-        assert_eq!(device.suspend(5, 1), Ok(()));
+        assert_eq!(device.suspend(1, 5, 1), Ok(()));
         let mut buffer = [170; 47];
-        assert_eq!(device.receive(5, &mut buffer), Ok(1));
+        assert_eq!(device.receive(1, 5, &mut buffer), Ok(1));
         let mut expected = [170; 47];
         expected[..32].copy_from_slice(&[
             0, 2, 5, 0, 1, 0, 0, 0, 0, 0, 0, 0, 0, 0, 0, 0, // suspended
@@ -780,7 +807,7 @@ mod tests {
         assert_eq!(buffer, expected);
         // Nothing left: a header alone.
         let mut buffer = [170; 32];
-        assert_eq!(device.receive(5, &mut buffer), Ok(1));
+        assert_eq!(device.receive(1, 5, &mut buffer), Ok(1));
         let mut expected = [170; 32];
         expected[..16].copy_from_slice(&[0, 2, 5, 0, 0, 0, 0, 0, 0, 0, 0, 0, 0, 0, 0, 0]);
         assert_eq!(buffer, expected);
@@ -789,7 +816,7 @@ mod tests {
     #[test]
     fn batch_in_all() {
         let mut device = device();
-        device.start(5, &one_range()).unwrap();
+        device.start(1, 5, &one_range()).unwrap();
         let record = device.record.clone();
         // Units 1 and 2 of controller 5; 6 isn't tracked, and 7 isn't there, so the last note is not tried.
         let list = [note(5, 69632, 1), note(5, 73727, 2), note(6, 0, 5), note(7, 0, 1), note(5, 65536, 1)];
@@ -808,7 +835,7 @@ mod tests {
     #[test]
     fn lists_of_1024_and_1025() {
         let mut device = device();
-        device.start(5, &one_range()).unwrap();
+        device.start(1, 5, &one_range()).unwrap();
         let before = device.clone();
         // 22 is asked before any note, good or bad.
         for each in [note(5, 65536, 1), note(7, 0, 1), note(5, u64::MAX, 2)].iter() {
@@ -827,7 +854,7 @@ mod tests {
     fn assert_refused(device: &Device, area: &[u8], part: &Part, refusal: Refusal) {
         let mut after = device.clone();
         let mut area_after = area.to_vec();
-        assert_eq!(after.set_state(&mut area_after, part), Err(refusal), "{:?}", part);
+        assert_eq!(after.set_state(1, &mut area_after, part), Err(refusal), "{:?}", part);
         assert_eq!((&after, area_after.as_slice()), (device, area), "{:?}", part);
     }
 
@@ -835,13 +862,13 @@ mod tests {
     fn state_in_parts() {
         let (mut device, mut area) = receiver();
         let state = sixty();
-        assert_eq!(device.set_state(&mut area, &part(1, 0, &state[..16])), Ok(0));
+        assert_eq!(device.set_state(1, &mut area, &part(1, 0, &state[..16])), Ok(0));
         assert_eq!(device.record.sequence, Sequence::Open { owner: 5, end: 16 });
-        assert_eq!(device.set_state(&mut area, &part(0, 16, &state[16..44])), Ok(0));
+        assert_eq!(device.set_state(1, &mut area, &part(0, 16, &state[16..44])), Ok(0));
         assert_eq!(device.record.sequence, Sequence::Open { owner: 5, end: 44 });
         // A dword is missing; the sequence stays open, and the bytes are not stored.
         assert_refused(&device, &area, &part(2, 44, &state[44..56]), 27);
-        assert_eq!(device.set_state(&mut area, &part(2, 44, &state[44..])), Ok(60));
+        assert_eq!(device.set_state(1, &mut area, &part(2, 44, &state[44..])), Ok(60));
         assert_eq!(device.record.sequence, Sequence::Nothing);
         assert_eq!(area[..60].to_vec(), state);
         assert_eq!(area[60..].to_vec(), vec![0xEE; 4036]);
@@ -853,14 +880,14 @@ mod tests {
         for one in (4..60).step_by(4) {
             for two in (one + 4..=60).step_by(4) {
                 let (mut device, mut area) = receiver();
-                assert_eq!(device.set_state(&mut area, &part(1, 0, &state[..one])), Ok(0));
-                assert_eq!(device.set_state(&mut area, &part(0, one as u64, &state[one..two])), Ok(0));
-                assert_eq!(device.set_state(&mut area, &part(2, two as u64, &state[two..])), Ok(60));
+                assert_eq!(device.set_state(1, &mut area, &part(1, 0, &state[..one])), Ok(0));
+                assert_eq!(device.set_state(1, &mut area, &part(0, one as u64, &state[one..two])), Ok(0));
+                assert_eq!(device.set_state(1, &mut area, &part(2, two as u64, &state[two..])), Ok(60));
                 assert_eq!(area[..60].to_vec(), state, "{} {}", one, two);
             }
         }
         let (mut device, mut area) = receiver();
-        assert_eq!(device.set_state(&mut area, &part(3, 0, &state)), Ok(60));
+        assert_eq!(device.set_state(1, &mut area, &part(3, 0, &state)), Ok(60));
         assert_eq!(area[..60].to_vec(), state);
     }
 
@@ -880,7 +907,7 @@ mod tests {
         let (mut device, mut area) = receiver();
         device.record.settings.number = 3;
         device.record.settings.identifiers[2] = 7;
-        assert_eq!(device.set_state(&mut area, &part(1, 0, &[0; 16])), Ok(0));
+        assert_eq!(device.set_state(1, &mut area, &part(1, 0, &[0; 16])), Ok(0));
         // An offset of 2 and more that is wrong: of an unknown one, of one that runs, of another, of the owner.
         let bad = part(4, 2, &[0; 3]);
         assert_refused(&device, &area, &Part { id: 9, ..bad.clone() }, 2);
@@ -912,12 +939,12 @@ mod tests {
         state[..48].copy_from_slice(&[0; 48]);
         state[16] = 244;
         state[17] = 3;
-        assert_eq!(device.set_state(&mut area, &part(1, 0, &state)), Ok(0));
+        assert_eq!(device.set_state(1, &mut area, &part(1, 0, &state)), Ok(0));
         assert_refused(&device, &area, &part(0, 4096, &[0; 4]), 27);
         assert_refused(&device, &area, &part(0, 4100, &[0; 4]), 24);
         assert_refused(&device, &area, &part(0, 4096, &[]), 25);
         assert_refused(&device, &area, &Part { count: 0, ..part(2, 4096, &[0; 4]) }, 25);
-        assert_eq!(device.set_state(&mut area, &part(2, 4096, &[])), Ok(4096));
+        assert_eq!(device.set_state(1, &mut area, &part(2, 4096, &[])), Ok(4096));
         assert_eq!(area, state);
     }
 
@@ -925,21 +952,21 @@ mod tests {
     fn parts_that_begin_anew() {
         let (mut device, mut area) = receiver();
         // Refused, neither of them ends the open sequence nor stores a byte.
-        assert_eq!(device.set_state(&mut area, &part(1, 0, &[0; 20])), Ok(0));
+        assert_eq!(device.set_state(1, &mut area, &part(1, 0, &[0; 20])), Ok(0));
         let mut bad = vec![0xEE; 48];
         bad[0] = 0;
         bad[1] = 1;
         assert_refused(&device, &area, &part(3, 0, &bad), 27);
         assert_refused(&device, &area, &part(1, 0, &[0xEE; 4100]), 27);
-        assert_eq!(device.set_state(&mut area, &part(2, 20, &[0; 28])), Ok(48));
+        assert_eq!(device.set_state(1, &mut area, &part(2, 20, &[0; 28])), Ok(48));
         assert_eq!(area[..49].to_vec(), [vec![0; 48], vec![0xEE]].concat());
         // Accepted, a first one goes on from its own end, and an only one ends all.
-        assert_eq!(device.set_state(&mut area, &part(1, 0, &[0xEE; 48])), Ok(0));
-        assert_eq!(device.set_state(&mut area, &part(1, 0, &[0; 4])), Ok(0));
+        assert_eq!(device.set_state(1, &mut area, &part(1, 0, &[0xEE; 48])), Ok(0));
+        assert_eq!(device.set_state(1, &mut area, &part(1, 0, &[0; 4])), Ok(0));
         assert_eq!(device.record.sequence, Sequence::Open { owner: 5, end: 4 });
         assert_eq!(area[..8].to_vec(), [0, 0, 0, 0, 0xEE, 0xEE, 0xEE, 0xEE]);
         assert_refused(&device, &area, &part(0, 48, &[0; 4]), 26);
-        assert_eq!(device.set_state(&mut area, &part(3, 0, &[0; 48])), Ok(48));
+        assert_eq!(device.set_state(1, &mut area, &part(3, 0, &[0; 48])), Ok(48));
         assert_refused(&device, &area, &part(2, 48, &[]), 26);
         assert_refused(&device, &area, &part(0, 4, &[0; 4]), 26);
     }
@@ -947,16 +974,16 @@ mod tests {
     #[test]
     fn resume_drops_its_own_sequence_alone() {
         let (mut device, mut area) = receiver();
-        assert_eq!(device.set_state(&mut area, &part(1, 0, &[0; 16])), Ok(0));
-        assert_eq!(device.resume(6), Ok(()));
+        assert_eq!(device.set_state(1, &mut area, &part(1, 0, &[0; 16])), Ok(0));
+        assert_eq!(device.resume(1, 6), Ok(()));
         assert_eq!(device.record.sequence, Sequence::Open { owner: 5, end: 16 });
-        assert_eq!(device.resume(6), Err(13));
-        assert_eq!(device.set_state(&mut area, &part(0, 16, &[0; 4])), Ok(0));
+        assert_eq!(device.resume(1, 6), Err(13));
+        assert_eq!(device.set_state(1, &mut area, &part(0, 16, &[0; 4])), Ok(0));
         let before = area.clone();
-        assert_eq!(device.resume(5), Ok(()));
+        assert_eq!(device.resume(1, 5), Ok(()));
         assert_eq!(device.record.sequence, Sequence::Nothing);
         assert_refused(&device, &area, &part(0, 20, &[0; 4]), 13);
-        assert_eq!(device.suspend(5, 1), Ok(()));
+        assert_eq!(device.suspend(1, 5, 1), Ok(()));
         assert_refused(&device, &area, &part(0, 20, &[0; 4]), 26);
         assert_eq!(area, before);
     }
@@ -964,23 +991,23 @@ mod tests {
     #[test]
     fn other_calls_carry_the_sequence_on() {
         let (mut device, mut area) = receiver();
-        device.resume(6).unwrap();
-        assert_eq!(device.set_state(&mut area, &part(1, 0, &[0; 16])), Ok(0));
+        device.resume(1, 6).unwrap();
+        assert_eq!(device.set_state(1, &mut area, &part(1, 0, &[0; 16])), Ok(0));
         let open = Sequence::Open { owner: 5, end: 16 };
-        assert_eq!(device.start(6, &one_range()), Ok(()));
+        assert_eq!(device.start(1, 6, &one_range()), Ok(()));
         assert_eq!(device.write(&note(6, 65536, 1)), Ok(1));
         assert_eq!(device.batch(&[note(6, 69632, 1), note(5, 0, 1)]).unwrap().refusal, Some(4));
-        assert_eq!(device.receive(6, &mut [0; 64]), Ok(1));
-        assert_eq!(device.stop(6), Ok(()));
+        assert_eq!(device.receive(1, 6, &mut [0; 64]), Ok(1));
+        assert_eq!(device.stop(1, 6), Ok(()));
         for kind in 0..2 {
-            assert_eq!(device.suspend(5, kind), Ok(()));
-            assert_eq!(device.suspend(6, kind), Ok(()));
+            assert_eq!(device.suspend(1, 5, kind), Ok(()));
+            assert_eq!(device.suspend(1, 6, kind), Ok(()));
         }
-        assert_eq!(device.suspend(5, 2), Err(15));
+        assert_eq!(device.suspend(1, 5, 2), Err(15));
         assert_eq!(device.record.sequence, open);
         // Of the owner itself these two are refused.
-        assert_eq!(device.start(5, &one_range()), Err(Reason { number: 4, row: None }));
-        assert_eq!(device.stop(5), Err(4));
+        assert_eq!(device.start(1, 5, &one_range()), Err(Reason { number: 4, row: None }));
+        assert_eq!(device.stop(1, 5), Err(4));
         assert_eq!(device.record.sequence, open);
     }
 
@@ -991,8 +1018,8 @@ mod tests {
             device.record.sequence = Sequence::Open { owner: *owner, end: *end };
             let before = device.clone();
             assert_refused(&device, &area, &part(1, 0, &[0; 4]), 1);
-            assert_eq!(device.resume(5), Err(1));
-            assert_eq!(device.suspend(5, 1), Err(1));
+            assert_eq!(device.resume(1, 5), Err(1));
+            assert_eq!(device.suspend(1, 5, 1), Err(1));
             assert_eq!(device.batch(&[]), Err(1));
             assert_eq!(device, before);
         }
@@ -1205,22 +1232,22 @@ mod tests {
         let queue = queue_of_5(&device);
         assert_eq!(queue, Queue { size: 4, posted: 2, taken: 1, place: 1, stopped: false });
         let mut state = vec![0; 4096];
-        device.start(5, &one_range()).unwrap();
+        device.start(1, 5, &one_range()).unwrap();
         assert_eq!(queue_of_5(&device), queue);
         device.write(&note(5, 65536, 1)).unwrap();
         device.batch(&[note(5, 69632, 1)]).unwrap();
-        device.receive(5, &mut [0; 64]).unwrap();
+        device.receive(1, 5, &mut [0; 64]).unwrap();
         assert_eq!(queue_of_5(&device), queue);
-        device.stop(5).unwrap();
+        device.stop(1, 5).unwrap();
         assert_eq!(queue_of_5(&device), queue);
         assert_eq!(device.record.controllers[0], Controller { queue: Some(queue), ..Controller::default() });
-        device.suspend(5, 1).unwrap();
-        device.set_state(&mut state, &part(1, 0, &[0; 16])).unwrap();
+        device.suspend(1, 5, 1).unwrap();
+        device.set_state(1, &mut state, &part(1, 0, &[0; 16])).unwrap();
         // A suspended controller's queue is as any other, and leaves the sequence.
         assert_eq!(device.post(5, &mut area, &[3; 32]), Ok(false));
         assert_taken(&mut device, &area, 1, 32, &[2], false);
         assert_eq!(device.record.sequence, Sequence::Open { owner: 5, end: 16 });
-        device.resume(5).unwrap();
+        device.resume(1, 5).unwrap();
         assert_eq!(queue_of_5(&device), Queue { size: 4, posted: 3, taken: 2, place: 2, stopped: false });
         assert_eq!(device.record.controllers[1].queue, None);
         // A fresh device has none.
@@ -1231,9 +1258,9 @@ mod tests {
     fn queues_leave_all_else() {
         // 5 is tracked with a unit pending, 6 suspended; each has its own queue.
         let mut device = device();
-        device.start(5, &one_range()).unwrap();
+        device.start(1, 5, &one_range()).unwrap();
         device.write(&note(5, 65536, 1)).unwrap();
-        device.suspend(6, 1).unwrap();
+        device.suspend(1, 6, 1).unwrap();
         let before = device.clone();
         let (mut area_of_5, mut area_of_6) = (vec![5; 64], vec![6; 96]);
         device.make_queue(5, &area_of_5).unwrap();
@@ -1326,6 +1353,430 @@ mod tests {
         assert_eq!(queue_of_5(&device), Queue { size: 1024, posted: 728, taken: 728, place: 1000, stopped: true });
     }
 
+    /// READINGS W12: managers 1 (16) and 2 (4), shelf 18, controllers 5, 6 and 7.
+    fn two_managers() -> Device {
+        let second = Some(Manager { id: 2, limit: 4 });
+        let identifiers = [5, 6, 7, 0, 0, 0, 0, 0];
+        Device::fresh(&Settings { second, shelf: 18, number: 3, identifiers, ..device().record.settings }).unwrap()
+    }
+
+    /// So many ranges of one unit.
+    fn ranges_of(count: usize) -> Vec<u8> {
+        let ranges: Vec<Range> = (0..count).map(|row| Range { start: 8192 * row as u64, length: 1 }).collect();
+        structure_bytes(0, &ranges)
+    }
+
+    /// The number of a start by this manager with so many ranges of one unit, 0 done. A refused one changes nothing.
+    fn start_by(device: &mut Device, by: u64, id: u64, count: usize) -> Refusal {
+        let before = device.clone();
+        match device.start(by, id, &ranges_of(count)) {
+            Ok(()) => 0,
+            Err(reason) => {
+                assert_eq!(device, &before);
+                reason.number
+            }
+        }
+    }
+
+    fn managers(device: &Device) -> Vec<u64> {
+        device.record.controllers.iter().map(|controller| controller.manager).collect()
+    }
+
+    #[test]
+    fn worked_two_managers() {
+        let mut device = two_managers();
+        assert_eq!(start_by(&mut device, 1, 5, 10), 0);
+        assert_eq!(start_by(&mut device, 2, 5, 1), 3);
+        assert_eq!(device.stop(2, 5), Err(5));
+        assert_eq!(device.receive(2, 5, &mut [0; 16]), Err(5));
+        for unknown in [1, 2].iter() {
+            assert_eq!(start_by(&mut device, 1, *unknown, 1), 2);
+            assert_eq!(start_by(&mut device, 2, *unknown, 1), 2);
+        }
+        assert_eq!(start_by(&mut device, 2, 6, 5), 12);
+        assert_eq!(start_by(&mut device, 2, 6, 4), 0);
+        assert_eq!(start_by(&mut device, 1, 7, 7), 12, "17 of 16, although 21 of 18");
+        assert_eq!(start_by(&mut device, 1, 7, 5), 34, "15 of 16, and 19 of 18");
+        assert_eq!(start_by(&mut device, 1, 7, 4), 0);
+        assert_eq!(managers(&device), [1, 2, 1, 0, 0, 0, 0, 0]);
+        assert_eq!(device.suspend(2, 5, 1), Ok(()));
+        assert_eq!(device.stop(1, 5), Err(4));
+        assert_eq!(device.stop(2, 5), Err(4));
+        assert_eq!(device.resume(1, 5), Ok(()));
+        assert_eq!(device.stop(1, 5), Ok(()));
+        assert_eq!(managers(&device), [0, 2, 1, 0, 0, 0, 0, 0]);
+        assert_eq!(start_by(&mut device, 1, 5, 10), 0, "given back to both");
+    }
+
+    #[test]
+    fn a_shelf_limit_with_one_manager() {
+        let mut device = two_managers();
+        device.record.settings.second = None;
+        device.record.settings.shelf = 3;
+        assert_eq!(start_by(&mut device, 1, 5, 4), 34);
+        assert_eq!(start_by(&mut device, 1, 5, 16), 34);
+        assert_eq!(start_by(&mut device, 1, 5, 3), 0);
+        assert_eq!(start_by(&mut device, 1, 6, 1), 34);
+        assert_eq!(start_by(&mut device, 1, 6, 14), 12, "17 of 16");
+        assert_eq!(start_by(&mut device, 2, 6, 1), 2, "there is no second one");
+    }
+
+    #[test]
+    fn unknown_managers() {
+        // 5 is tracked and 6 suspended; all that can be wrong is wrong as well.
+        let mut device = two_managers();
+        device.start(1, 5, &one_range()).unwrap();
+        device.suspend(1, 6, 1).unwrap();
+        let before = device.clone();
+        // Controllers are no managers, nor is the name of a place that is off, or an unused one.
+        for by in [0, 3, 5, 6, 7, 257, 258, 65535, 65536, u64::MAX].iter() {
+            for id in [1, 2, 3, 5, 6, 7, 9].iter() {
+                assert_eq!(device.start(*by, *id, &[]), Err(Reason { number: 2, row: None }));
+                assert_eq!(device.start(*by, *id, &one_range()), Err(Reason { number: 2, row: None }));
+                assert_eq!(device.stop(*by, *id), Err(2));
+                assert_eq!(device.receive(*by, *id, &mut []), Err(2));
+                assert_eq!(device.receive(*by, *id, &mut [0; 64]), Err(2));
+                assert_eq!(device.suspend(*by, *id, 1), Err(2));
+                assert_eq!(device.suspend(*by, *id, 2), Err(2));
+                assert_eq!(device.resume(*by, *id), Err(2));
+                let part = Part { id: *id, ..part(1, 0, &[0; 4]) };
+                assert_eq!(device.set_state(*by, &mut [0; 4096], &part), Err(2));
+                assert_eq!(device.set_state(*by, &mut [0; 4095], &part), Err(1), "1 comes first");
+            }
+        }
+        assert_eq!(device, before);
+        // Unsound: 1 comes first, whoever calls. 5 is tracked by one that isn't there.
+        device.record.controllers[0].manager = 3;
+        let before = device.clone();
+        for by in [1, 2, 3, 5].iter() {
+            assert_eq!(device.start(*by, 7, &one_range()), Err(Reason { number: 1, row: None }));
+            assert_eq!(device.stop(*by, 5), Err(1));
+            assert_eq!(device.receive(*by, 5, &mut [0; 64]), Err(1));
+            assert_eq!(device.suspend(*by, 5, 1), Err(1));
+            assert_eq!(device.resume(*by, 6), Err(1));
+            assert_eq!(device.set_state(*by, &mut [0; 4096], &part(1, 0, &[0; 4])), Err(1));
+        }
+        assert_eq!(device.write(&note(5, 0, 1)), Err(1));
+        assert_eq!(device.batch(&[]), Err(1));
+        assert_eq!(device.make_queue(5, &[0; 64]), Err(1));
+        assert_eq!(device, before);
+    }
+
+    #[test]
+    fn a_closed_device_has_no_manager() {
+        // All zeros: 0 is the name there, and 1 answers whoever calls.
+        let mut device = Device::default();
+        for by in [0, 1, 2, 65535].iter() {
+            assert_eq!(device.start(*by, 5, &one_range()), Err(Reason { number: 1, row: None }));
+            assert_eq!(device.stop(*by, 5), Err(1));
+            assert_eq!(device.receive(*by, 5, &mut [0; 64]), Err(1));
+            assert_eq!(device.suspend(*by, 5, 1), Err(1));
+            assert_eq!(device.resume(*by, 5), Err(1));
+            assert_eq!(device.set_state(*by, &mut [0; 4096], &part(1, 0, &[0; 4])), Err(1));
+        }
+    }
+
+    #[test]
+    fn the_other_manager_gets_5() {
+        let mut device = two_managers();
+        device.start(2, 5, &one_range()).unwrap();
+        device.write(&note(5, 65536, 1)).unwrap();
+        let before = device.clone();
+        // 5 before 8, and nothing is reported or dropped.
+        for bytes in [0, 16, 31, 32, 64].iter() {
+            let mut buffer = vec![170; *bytes];
+            assert_eq!(device.receive(1, 5, &mut buffer), Err(5));
+            assert_eq!(buffer, vec![170; *bytes]);
+        }
+        assert_eq!(device.stop(1, 5), Err(5));
+        assert_eq!(device, before);
+        // 4 before 5, of both; the report of a suspended one is its manager's alone.
+        device.suspend(1, 5, 1).unwrap();
+        assert_eq!(device.stop(1, 5), Err(4));
+        assert_eq!(device.stop(2, 5), Err(4));
+        assert_eq!(device.receive(1, 5, &mut [0; 64]), Err(5));
+        assert_eq!(device.receive(2, 5, &mut [0; 31]), Err(8));
+        assert_eq!(device.receive(2, 5, &mut [0; 32]), Ok(1));
+        assert_eq!(device.pending[&5].len(), 0);
+        device.resume(1, 5).unwrap();
+        assert_eq!(device.stop(2, 5), Ok(()));
+        // Tracked by nobody it is 5 to both.
+        for by in [1, 2].iter() {
+            assert_eq!(device.stop(*by, 5), Err(5));
+            assert_eq!(device.receive(*by, 5, &mut [0; 64]), Err(5));
+        }
+        // And now the other one may start it.
+        assert_eq!(start_by(&mut device, 1, 5, 1), 0);
+        assert_eq!(managers(&device)[0], 1);
+    }
+
+    #[test]
+    fn either_manager_makes_it_3() {
+        // Also the one that tracks it, and before anything of the structure is read. 4 comes before, and 2.
+        for tracks in [1, 2].iter() {
+            let mut device = two_managers();
+            device.start(*tracks, 5, &one_range()).unwrap();
+            for by in [1, 2].iter() {
+                assert_eq!(device.start(*by, 5, &[]), Err(Reason { number: 3, row: None }));
+                assert_eq!(device.start(*by, 5, &[9; 8]), Err(Reason { number: 3, row: None }));
+                assert_eq!(start_by(&mut device, *by, 5, 16), 3);
+            }
+            device.suspend(3 - tracks, 5, 1).unwrap();
+            assert_eq!(start_by(&mut device, 1, 5, 1), 4);
+            assert_eq!(start_by(&mut device, 2, 5, 1), 4);
+            assert_eq!(start_by(&mut device, 3, 5, 1), 2);
+        }
+    }
+
+    #[test]
+    fn manager_0() {
+        // 0 is what a controller that is off names, and an identifier like any other.
+        let mut device = two_managers();
+        device.record.settings.manager = 0;
+        assert_eq!(device.stop(0, 5), Err(5));
+        assert_eq!(device.receive(0, 5, &mut [0; 64]), Err(5));
+        assert_eq!(start_by(&mut device, 0, 5, 2), 0);
+        assert_eq!(start_by(&mut device, 2, 5, 2), 3);
+        assert_eq!(device.stop(2, 5), Err(5));
+        assert_eq!(start_by(&mut device, 0, 6, 15), 12);
+        assert_eq!(device.receive(0, 5, &mut [0; 64]), Ok(1));
+        assert_eq!(device.stop(0, 5), Ok(()));
+        assert_eq!(start_by(&mut device, 1, 5, 2), 2);
+    }
+
+    #[test]
+    fn orders_of_11_12_and_34() {
+        let mut device = two_managers();
+        assert_eq!(start_by(&mut device, 1, 5, 14), 0);
+        // 2 asks for 5 of its 4 in a shelf that has room for 4, with units that the pool has no room for, and then with less
+        // and less that is wrong.
+        let start = |device: &Device, count: usize, pages: u64| {
+            let mut ranges = vec![Range { start: 0, length: 1 }; count];
+            ranges[0].length = pages;
+            device.clone().start(2, 6, &structure_bytes(0, &ranges)).err().map_or(0, |reason| reason.number)
+        };
+        assert_eq!(start(&device, 5, 16371), 11);
+        assert_eq!(start(&device, 5, 16370), 12);
+        assert_eq!(start(&device, 4, 16370), 0);
+        device.record.settings.shelf = 17;
+        assert_eq!(start(&device, 5, 16371), 11);
+        assert_eq!(start(&device, 5, 16370), 12);
+        assert_eq!(start(&device, 4, 16371), 11);
+        assert_eq!(start(&device, 4, 16370), 34);
+        assert_eq!(start(&device, 3, 16370), 0);
+        device.record.settings.rule = 1;
+        assert_eq!(start(&device, 5, 16371), 10);
+    }
+
+    #[test]
+    fn one_pool_for_both() {
+        let mut device = two_managers();
+        let pages = |device: &mut Device, by, id, length| {
+            device
+                .start(by, id, &structure_bytes(0, &[Range { start: 0, length }]))
+                .err()
+                .map_or(0, |reason| reason.number)
+        };
+        assert_eq!(pages(&mut device, 1, 6, 10000), 0);
+        assert_eq!(pages(&mut device, 2, 5, 6385), 11);
+        assert_eq!(pages(&mut device, 2, 5, 6384), 0);
+        assert_eq!(bases(&device), [0, 6384, 0, 0, 0, 0, 0, 0], "the order is that of the settings, whoever tracks");
+        assert_eq!(pages(&mut device, 1, 7, 1), 11);
+        assert_eq!(device.stop(2, 5), Ok(()));
+        assert_eq!(pages(&mut device, 1, 7, 6384), 0);
+        assert_eq!(bases(&device), [0, 0, 10000, 0, 0, 0, 0, 0]);
+    }
+
+    #[test]
+    fn both_managers_have_one_sequence() {
+        let mut device = two_managers();
+        let mut area = vec![0xEE; 4096];
+        let state = sixty();
+        device.suspend(1, 5, 1).unwrap();
+        device.suspend(2, 6, 1).unwrap();
+        assert_eq!(device.set_state(1, &mut area, &part(1, 0, &state[..16])), Ok(0));
+        // Another controller's, whoever sends; and 2 goes on with what 1 began.
+        let of_6 = Part { id: 6, ..part(1, 0, &[0; 4]) };
+        assert_eq!(device.set_state(1, &mut area, &of_6), Err(23));
+        assert_eq!(device.set_state(2, &mut area, &of_6), Err(23));
+        assert_eq!(device.set_state(2, &mut area, &part(0, 16, &state[16..44])), Ok(0));
+        assert_eq!(device.set_state(3, &mut area, &part(2, 44, &state[44..])), Err(2));
+        assert_eq!(device.set_state(1, &mut area, &part(2, 44, &state[44..])), Ok(60));
+        assert_eq!(area[..60].to_vec(), state);
+        // One drops by a resume what the other began.
+        assert_eq!(device.set_state(1, &mut area, &part(1, 0, &state[..16])), Ok(0));
+        assert_eq!(device.resume(3, 5), Err(2));
+        assert_eq!(device.record.sequence, Sequence::Open { owner: 5, end: 16 });
+        assert_eq!(device.resume(2, 5), Ok(()));
+        assert_eq!(device.record.sequence, Sequence::Nothing);
+    }
+
+    #[test]
+    fn managers_where_nobody_tracks_stay() {
+        // What stands in a place that is off, or unused, is left by every call but a start of it.
+        let mut device = two_managers();
+        device.record.controllers[1].manager = 60000;
+        device.record.controllers[7].manager = 9;
+        device.record.controllers[7].tracking = Tracking::On { granularity: 255, count: 255 };
+        assert_eq!(start_by(&mut device, 2, 7, 2), 0);
+        assert_eq!(device.write(&note(7, 0, 1)), Ok(1));
+        assert_eq!(device.receive(2, 7, &mut [0; 64]), Ok(1));
+        assert_eq!(device.suspend(1, 6, 1), Ok(()));
+        assert_eq!(device.resume(2, 6), Ok(()));
+        assert_eq!(managers(&device), [0, 60000, 2, 0, 0, 0, 0, 9]);
+        assert_eq!(device.stop(2, 7), Ok(()));
+        assert_eq!(managers(&device), [0, 60000, 0, 0, 0, 0, 0, 9]);
+        assert_eq!(start_by(&mut device, 1, 6, 2), 0);
+        assert_eq!(managers(&device), [0, 1, 0, 0, 0, 0, 0, 9]);
+        assert_eq!(device.stop(1, 6), Ok(()));
+        assert_eq!(managers(&device), [0, 0, 0, 0, 0, 0, 0, 9]);
+    }
+
+    /// What the numbers of calls by several managers have to be, worked out from the calls alone: who tracks each
+    /// controller and with how many ranges, and whether it is suspended.
+    #[derive(Default)]
+    struct Expected {
+        tracked: BTreeMap<u64, (u64, u64)>,
+        suspended: BTreeSet<u64>,
+    }
+
+    impl Expected {
+        fn counts(&self, of: &dyn Fn(u64) -> bool) -> u64 {
+            self.tracked.values().filter(|(by, _)| of(*by)).map(|(_, count)| count).sum()
+        }
+
+        fn start(&mut self, limits: (u64, u64, u64), by: u64, id: u64, count: u64) -> Refusal {
+            let limit = [0, limits.0, limits.1][by as usize];
+            if self.suspended.contains(&id) {
+                4
+            } else if self.tracked.contains_key(&id) {
+                3
+            } else if count + self.counts(&|other| other == by) > limit {
+                12
+            } else if count + self.counts(&|_| true) > limits.2 {
+                34
+            } else {
+                self.tracked.insert(id, (by, count));
+                0
+            }
+        }
+
+        fn stop(&mut self, by: u64, id: u64) -> Refusal {
+            match self.tracked.get(&id) {
+                _ if self.suspended.contains(&id) => 4,
+                Some((tracks, _)) if *tracks == by => {
+                    self.tracked.remove(&id);
+                    0
+                }
+                _ => 5,
+            }
+        }
+
+        fn receive(&self, by: u64, id: u64) -> Refusal {
+            match self.tracked.get(&id) {
+                Some((tracks, _)) if *tracks == by => 0,
+                _ => 5,
+            }
+        }
+    }
+
+    /// Devices on which the same calls have the same answers: one that names the managers the other way round, and
+    /// one in which their names are changed, 1 for 2 and 2 for 1, as they are in the calls.
+    #[test]
+    fn calls_by_two_managers() {
+        let mut random = Random(12);
+        let mut met = [0; 35];
+        for _ in 0..200 {
+            let limits = (random.below(20) as u64, random.below(10) as u64, random.below(24) as u64);
+            let (first, second) = (Manager { id: 1, limit: limits.0 }, Manager { id: 2, limit: limits.1 });
+            let of = |first: Manager, second: Manager| {
+                let identifiers = [5, 6, 7, 8, 0, 0, 0, 0];
+                let settings = Settings { number: 4, identifiers, shelf: limits.2, ..device().record.settings };
+                let (manager, limit) = (first.id, first.limit);
+                Device::fresh(&Settings { manager, limit, second: Some(second), ..settings }).unwrap()
+            };
+            let mut device = of(first, second);
+            let mut turned = of(second, first);
+            let mut renamed = of(Manager { id: 2, ..first }, Manager { id: 1, ..second });
+            let mut expected = Expected::default();
+            for _ in 0..80 {
+                let (by, id) = (1 + random.below(2) as u64, 5 + random.below(4) as u64);
+                let count = 1 + random.below(9);
+                let call = random.below(10);
+                let call_of = |device: &mut Device, by: u64| match call {
+                    0..=3 => start_by(device, by, id, count),
+                    4 | 5 => device.stop(by, id).err().unwrap_or(0),
+                    6 => device.receive(by, id, &mut [0; 64]).err().unwrap_or(0),
+                    7 => device.suspend(by, id, 1).err().unwrap_or(0),
+                    8 => device.resume(by, id).err().unwrap_or(0),
+                    _ => device.write(&note(id, 0, 65536)).err().unwrap_or(0),
+                };
+                let number = match call {
+                    0..=3 => expected.start(limits, by, id, count as u64),
+                    4 | 5 => expected.stop(by, id),
+                    6 => expected.receive(by, id),
+                    7 => {
+                        expected.suspended.insert(id);
+                        0
+                    }
+                    8 if expected.suspended.remove(&id) => 0,
+                    8 => 13,
+                    _ if expected.suspended.contains(&id) => 4,
+                    _ => 0,
+                };
+                assert_eq!(call_of(&mut device, by), number);
+                assert_eq!(call_of(&mut turned, by), number);
+                assert_eq!(call_of(&mut renamed, 3 - by), number);
+                assert_eq!(
+                    (&device.record.controllers, &device.pending),
+                    (&turned.record.controllers, &turned.pending)
+                );
+                assert_eq!(device.pending, renamed.pending);
+                for (place, id) in [5, 6, 7, 8].iter().enumerate() {
+                    let tracks = expected.tracked.get(id).map_or(0, |(by, _)| *by);
+                    assert_eq!(device.record.controllers[place].manager, tracks);
+                }
+                met[number as usize] += 1;
+            }
+        }
+        for number in [0, 3, 4, 5, 12, 13, 34].iter() {
+            assert!(met[*number] > 200, "{}: {}", number, met[*number]);
+        }
+    }
+
+    /// W12: suspend, resume and parts are the same whichever manager makes them, and a device with one manager is the
+    /// same as one with a second that does nothing.
+    #[test]
+    fn who_asks_makes_no_difference() {
+        let mut random = Random(13);
+        for _ in 0..60 {
+            let mut one = two_managers();
+            one.record.settings.second = None;
+            let mut two = two_managers();
+            let (mut area_of_one, mut area_of_two) = (vec![0; 4096], vec![0; 4096]);
+            for _ in 0..60 {
+                let (by, id) = (1 + random.below(2) as u64, 5 + random.below(3) as u64);
+                let count = 1 + random.below(7);
+                let low = 4 * random.below(4) as u64;
+                let part = Part { id, ..part(random.below(3) as u64, low, &[0; 4]) };
+                let call = random.below(8);
+                let call_of = |device: &mut Device, area: &mut [u8], by: u64| match call {
+                    0 => u64::from(start_by(device, 1, id, count)),
+                    1 => device.stop(1, id).err().map_or(0, u64::from),
+                    2 => device.receive(1, id, &mut [0; 48]).map_or_else(u64::from, |groups| 100 + groups as u64),
+                    3 => device.suspend(by, id, 1).err().map_or(0, u64::from),
+                    4 => device.resume(by, id).err().map_or(0, u64::from),
+                    5 | 6 => device.set_state(by, area, &part).map_or_else(u64::from, |whole| 100 + whole as u64),
+                    _ => device.write(&note(id, 0, 8192)).map_or_else(u64::from, |count| 100 + count),
+                };
+                assert_eq!(call_of(&mut one, &mut area_of_one, 1), call_of(&mut two, &mut area_of_two, by));
+                assert_eq!(one.record.controllers, two.record.controllers);
+                assert_eq!((one.record.sequence, &one.pending), (two.record.sequence, &two.pending));
+                assert_eq!(area_of_one, area_of_two);
+            }
+        }
+    }
+
     #[test]
     fn newly_pending_by_hand() {
         let unit = |address| Unit { row: 0, address };
@@ -1395,7 +1846,7 @@ mod tests {
     fn a_unit_listed_twice_is_marked_once() {
         let mut device = device();
         let ranges = [Range { start: 69632, length: 1 }, Range { start: 65536, length: 4 }];
-        device.start(5, &structure_bytes(0, &ranges)).unwrap();
+        device.start(1, 5, &structure_bytes(0, &ranges)).unwrap();
         assert_eq!(device.write(&note(5, 69632, 1)), Ok(1));
         assert_eq!(device.pending[&5].iter().cloned().collect::<Vec<_>>(), [Unit { row: 0, address: 69632 }]);
         assert_eq!(device.write(&note(5, 65536, 16384)), Ok(3));

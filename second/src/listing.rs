@@ -1,6 +1,6 @@
 //! The lines of a listing (document 01, "Session listing").
 
-use crate::rules::{Note, Range, Settings, MOST_CONTROLLERS, MOST_RANGES};
+use crate::rules::{Note, Range, Settings, GREATEST_LIMIT, MOST_CONTROLLERS, MOST_RANGES};
 
 /// "lines of at most 1,023 bytes before the line feed"
 pub const MOST_BYTES: usize = 1023;
@@ -68,7 +68,8 @@ pub fn parse(line: &[u8]) -> Option<Line> {
     }
 }
 
-/// "manager, least, greatest, rule (0 or 1), limit", and "0 to 8 identifiers".
+/// "manager, least, greatest, rule (0 or 1), limit", and "0 to 8 identifiers". W12: "The session keeps one manager and shelf
+/// limit 128."
 pub fn settings(fields: [u64; 5], identifiers: &[u64]) -> Option<Settings> {
     let [manager, least, greatest, rule, limit] = fields;
     if identifiers.len() > MOST_CONTROLLERS {
@@ -84,6 +85,8 @@ pub fn settings(fields: [u64; 5], identifiers: &[u64]) -> Option<Settings> {
         greatest: fitting(greatest, BITS_8)?,
         rule: fitting(rule, GREATEST_RULE)?,
         limit: fitting(limit, BITS_16)?,
+        second: None,
+        shelf: GREATEST_LIMIT,
         number: identifiers.len() as u64,
         identifiers: places,
     })
@@ -114,7 +117,7 @@ pub fn note(fields: &[u64]) -> Option<Note> {
 
 /// "decimal numbers without leading zeros": `0` is a number, and `00`, `+1`, `01` are not. Nothing also for a number of
 /// more than 64 bits, as no field is wider.
-fn number(piece: &[u8]) -> Option<u64> {
+pub fn number(piece: &[u8]) -> Option<u64> {
     if piece == b"0" {
         return Some(0);
     }
@@ -214,6 +217,8 @@ mod tests {
                 greatest: 3,
                 rule: 1,
                 limit: 4,
+                second: None,
+                shelf: 128,
                 number: 2,
                 identifiers: [5, 6, 0, 0, 0, 0, 0, 0],
             }))
@@ -243,6 +248,8 @@ mod tests {
                 greatest: 255,
                 rule: 1,
                 limit: 65535,
+                second: None,
+                shelf: 128,
                 number: 8,
                 identifiers: [65535; 8],
             }))
@@ -272,7 +279,7 @@ mod tests {
 
     #[test]
     fn fewest_numbers() {
-        assert_eq!(parse(b"dev 0 0 0 0 0"), Some(Line::Dev(Settings::default())));
+        assert_eq!(parse(b"dev 0 0 0 0 0"), Some(Line::Dev(Settings { shelf: 128, ..Settings::default() })));
         assert_eq!(parse(b"start 0 0"), Some(Line::Start { id: 0, granularity: 0, ranges: Vec::new() }));
     }
 }

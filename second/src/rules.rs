@@ -1,12 +1,12 @@
-//! The rules of document 01 that speak of plain numbers: settings, granularities, ranges and whose a unit is (with
-//! change requests W2 and W3 of document 02), a shelf's settings (W11), the pool of units (W7), touching, a queue's fill
-//! (W8), and when a device record is sound (with W6, W7 and W8). Nothing here knows of a session.
+//! The rules of document 01 that speak of plain numbers: settings (with change request W12 of document 02), granularities,
+//! ranges and whose a unit is (with W2 and W3), the pool of units (W7), the limits of managers and shelf (W12), touching, a
+//! queue's fill (W8), and when a device record is sound (with W6, W7, W8 and W12). Nothing here knows of a session.
 //!
 //! Arithmetic on addresses is done in 128 bits and stops at the greatest number there (saturates) instead of
 //! wrapping. No number that passes the rules comes near it; one that stops there is far past 2^64 and so is
 //! refused, which is the right answer.
 
-use std::collections::BTreeSet;
+use std::collections::{BTreeMap, BTreeSet};
 
 /// Document 01, "Refusal numbers": "Every refused call returns its number".
 pub type Refusal = u8;
@@ -41,6 +41,7 @@ pub const NO_QUEUE: Refusal = 29;
 pub const LOGGING_STOPPED: Refusal = 30;
 pub const MARK: Refusal = 31;
 pub const FILE_VERSION: Refusal = 32;
+pub const SHELF_LIMIT_PASSED: Refusal = 34;
 pub const FILE_LENGTH: Refusal = 35;
 
 /// "tracks, for up to 8 migratable controllers".
@@ -57,7 +58,7 @@ pub const STATE_BYTES: usize = 4096;
 pub const DWORD_BYTES: usize = 4;
 /// "least ≤ greatest ≤ 20 (house)".
 pub const GREATEST_GRANULARITY: u64 = 20;
-/// "The descriptor limit (CMMRTD), 0 to 128."
+/// "The descriptor limit (CMMRTD), 0 to 128."; the shelf's likewise (W11).
 pub const GREATEST_LIMIT: u64 = 128;
 /// "16 bits each".
 pub const GREATEST_IDENTIFIER: u64 = 65535;
@@ -66,26 +67,22 @@ pub const END_OF_MEMORY: u128 = 18_446_744_073_709_551_616;
 /// W8: "free-running 32-bit totals": as many values they have, and behind the last one comes 0 again.
 pub const TOTALS: u64 = 4_294_967_296;
 
-/// The settings, as plain numbers that may be nonsense. Of the identifiers the first `number` are used.
+/// The settings, as plain numbers that may be nonsense. They "name one or two managers" (W12). Of the identifiers the first
+/// `number` are used.
 #[derive(Clone, Debug, Default, PartialEq, Eq)]
 pub struct Settings {
+    /// The first manager, and below its limit.
     pub manager: u64,
     pub least: u64,
     pub greatest: u64,
     /// The power-of-two rule: 0 off, 1 on.
     pub rule: u64,
     pub limit: u64,
+    pub second: Option<Manager>,
+    /// The shelf's limit: "one over both".
+    pub shelf: u64,
     pub number: u64,
     pub identifiers: [u64; MOST_CONTROLLERS],
-}
-
-/// The settings of a shelf (W11, W12), which "name one or two managers": document 01's, which name the first, a second
-/// manager if there is one, and the limit over both.
-#[derive(Clone, Debug, Default, PartialEq, Eq)]
-pub struct ShelfSettings {
-    pub settings: Settings,
-    pub second: Option<Manager>,
-    pub shelf: u64,
 }
 
 /// A manager's identifier and its descriptor limit.
@@ -134,12 +131,14 @@ pub struct Queue {
 
 /// "Separately it is running or suspended." Of the ranges the first `count` are used, and none where it is off. W7: "The
 /// device record tells where each share lies": the base is the share's first bit, and not used where it is off. W8: "one
-/// queue per controller", tracked or not, once it is made.
+/// queue per controller", tracked or not, once it is made. W12: the record "says which manager tracks which controller": by
+/// its identifier, which isn't used where it is off.
 #[derive(Clone, Debug, Default, PartialEq, Eq)]
 pub struct Controller {
     pub tracking: Tracking,
     pub suspended: bool,
     pub base: u64,
+    pub manager: u64,
     pub queue: Option<Queue>,
     pub ranges: [Range; MOST_RANGES],
 }
@@ -173,6 +172,18 @@ impl Settings {
             used.push(*identifier);
         }
         used
+    }
+
+    /// The managers that the settings name: the first one, and the second if there is one.
+    pub fn managers(&self) -> Vec<Manager> {
+        let mut managers = vec![Manager { id: self.manager, limit: self.limit }];
+        managers.extend(self.second);
+        managers
+    }
+
+    /// The manager of this identifier; nothing for "an unknown manager" (W12).
+    pub fn known_manager(&self, id: u64) -> Option<Manager> {
+        self.managers().into_iter().find(|manager| manager.id == id)
     }
 }
 
@@ -215,28 +226,21 @@ fn range_end(unit: u128, range: Range) -> u128 {
     u128::from(range.start).saturating_add(length_in_bytes)
 }
 
-/// Refusal 16: "settings break the rules above", that is the list in "Settings and sizes".
+/// Refusal 16: "settings break the rules above", that is the list in "Settings and sizes". W12: "The managers' identifiers
+/// differ and are not among the controllers, else 16."
+///
+/// The names of all managers and of all controllers are put into one set, and none may get lost there.
 pub fn settings_broken(settings: &Settings) -> bool {
     // "1 to 8 controller identifiers"
     if settings.number < 1 || settings.number > MOST_CONTROLLERS as u64 {
         return true;
     }
-    let used = settings.used_identifiers();
-    for (place, identifier) in used.iter().enumerate() {
-        // "16 bits each"
-        if *identifier > GREATEST_IDENTIFIER {
-            return true;
-        }
-        // "all different"
-        if used.iter().skip(place + 1).any(|later| later == identifier) {
-            return true;
-        }
-        // "the manager's own identifier, not among them"
-        if *identifier == settings.manager {
-            return true;
-        }
-    }
-    if settings.manager > GREATEST_IDENTIFIER {
+    let managers = settings.managers();
+    let mut names = settings.used_identifiers();
+    names.extend(managers.iter().map(|manager| manager.id));
+    // "all different, 16 bits each; the manager's own identifier, not among them"
+    let different: BTreeSet<&u64> = names.iter().collect();
+    if different.len() < names.len() || names.iter().any(|name| *name > GREATEST_IDENTIFIER) {
         return true;
     }
     // "Least and greatest granularity, least ≤ greatest ≤ 20 (house)."
@@ -247,24 +251,8 @@ pub fn settings_broken(settings: &Settings) -> bool {
     if settings.rule != 0 && settings.rule != 1 {
         return true;
     }
-    // "The descriptor limit (CMMRTD), 0 to 128."
-    settings.limit > GREATEST_LIMIT
-}
-
-/// Refusal 16 of a shelf's settings: also W12's "The managers' identifiers differ and are not among the controllers", and a
-/// limit above 128. All names are asked at once whether one stands there twice.
-pub fn shelf_settings_broken(shelf: &ShelfSettings) -> bool {
-    if settings_broken(&shelf.settings) || shelf.shelf > GREATEST_LIMIT {
-        return true;
-    }
-    let second = match shelf.second {
-        Some(second) => second,
-        None => return false,
-    };
-    let mut names = shelf.settings.used_identifiers();
-    names.extend_from_slice(&[shelf.settings.manager, second.id]);
-    let different: BTreeSet<&u64> = names.iter().collect();
-    different.len() < names.len() || second.id > GREATEST_IDENTIFIER || second.limit > GREATEST_LIMIT
+    // "The descriptor limit (CMMRTD), 0 to 128.", of each manager; W11: "a whole-shelf limit of 0 to 128".
+    managers.iter().any(|manager| manager.limit > GREATEST_LIMIT) || settings.shelf > GREATEST_LIMIT
 }
 
 /// Refusal 7: "granularity below the least or above the greatest".
@@ -441,21 +429,54 @@ pub fn pool_broken(record: &Record) -> bool {
     units_together(record) > POOL_UNITS
 }
 
-/// The counts of all controllers now tracked, together.
-pub fn counts_together(record: &Record) -> u128 {
-    let mut together: u128 = 0;
+/// How many ranges are tracked for each manager, by its identifier: "The shared record says which manager tracks which
+/// controller". Each tracked controller's count is booked on the account of the one that the record names, be it a manager
+/// of the settings or not; one that tracks nobody has no account.
+pub fn accounts(record: &Record) -> BTreeMap<u64, u128> {
+    let mut accounts: BTreeMap<u64, u128> = BTreeMap::new();
     for (controller, _) in record.controllers.iter().zip(0..record.settings.number) {
         if let Tracking::On { count, .. } = controller.tracking {
-            together = together.saturating_add(u128::from(count));
+            let account = accounts.entry(controller.manager).or_default();
+            *account = account.saturating_add(u128::from(count));
         }
     }
-    together
+    accounts
 }
 
-/// Refusal 12: "given exactly if the requested count plus the counts of all controllers now tracked is above the
-/// limit". W2: "the descriptor limit still counts listed ranges".
-pub fn limit_passed(record: &Record, requested: usize) -> bool {
-    counts_together(record).saturating_add(requested as u128) > u128::from(record.settings.limit)
+/// The counts on these accounts, together: "all counts".
+pub fn counts_together(accounts: &BTreeMap<u64, u128>) -> u128 {
+    accounts.values().fold(0, |together, count| together.saturating_add(*count))
+}
+
+/// Refusals 12 and 34 (W12): "12 exactly if the request and that manager's tracked counts together pass its limit, then 34
+/// exactly if the request and both managers' tracked counts together pass the shelf's." W2: "the descriptor limit still counts
+/// listed ranges".
+///
+/// So the request is booked on the manager's account, and then that account and all together are asked.
+pub fn limit_refusal(record: &Record, manager: Manager, requested: usize) -> Option<Refusal> {
+    let mut booked = accounts(record);
+    let account = booked.entry(manager.id).or_default();
+    *account = account.saturating_add(requested as u128);
+    if *account > u128::from(manager.limit) {
+        return Some(LIMIT_PASSED);
+    }
+    if counts_together(&booked) > u128::from(record.settings.shelf) {
+        return Some(SHELF_LIMIT_PASSED);
+    }
+    None
+}
+
+/// W12: "in a sound one that manager is in the settings, its counts are within its limit, and all counts within the
+/// shelf's."
+pub fn accounts_broken(record: &Record) -> bool {
+    let accounts = accounts(record);
+    for (id, count) in &accounts {
+        match record.settings.known_manager(*id) {
+            Some(manager) if *count <= u128::from(manager.limit) => {}
+            _ => return true,
+        }
+    }
+    counts_together(&accounts) > u128::from(record.settings.shelf)
 }
 
 /// W6: "An open one is unsound if its owner isn't suspended or its end isn't whole dwords, 4 to 4,096 bytes." An owner
@@ -489,7 +510,8 @@ pub fn queue_broken(queue: &Queue) -> bool {
 /// Refusal 1, its first half: "A record is sound exactly if its settings would pass 16, each tracked controller's
 /// granularity and ranges would pass 7, 9, 10 and 11, and the counts together are within the limit. Unused places
 /// aren't looked at". W3: "9 becomes 18 ..., 19 ..., 20 ..., 21"; here it is all one which of them, and which row. W6
-/// adds the open sequence, W7 puts the shares in the place of 11, and W8 adds each queue.
+/// adds the open sequence, W7 puts the shares in the place of 11, W8 adds each queue, and W12 has each manager's counts and
+/// all counts asked, and who tracks whom.
 pub fn sound(record: &Record) -> bool {
     let settings = &record.settings;
     if settings_broken(settings) {
@@ -509,7 +531,7 @@ pub fn sound(record: &Record) -> bool {
             return false;
         }
     }
-    counts_together(record) <= u128::from(settings.limit) && !pool_broken(record) && !sequence_broken(record)
+    !accounts_broken(record) && !pool_broken(record) && !sequence_broken(record)
 }
 
 /// Refusal 14: "a written range ends past 2^64".
@@ -534,7 +556,8 @@ pub fn touches(address: u64, bytes: u64, unit_start: u128, unit_bytes: u128) -> 
 mod tests {
     use super::*;
 
-    /// Manager 1, granularities 0 to 8, rule off, limit 16, controllers 5 and 6, nobody tracked.
+    /// Manager 1, granularities 0 to 8, rule off, limit 16, no second manager, shelf limit 128, controllers 5 and 6, nobody
+    /// tracked. Each place names manager 1, which isn't looked at where it is off.
     fn record() -> Record {
         let mut record = Record::default();
         record.settings = Settings {
@@ -543,9 +566,14 @@ mod tests {
             greatest: 8,
             rule: 0,
             limit: 16,
+            second: None,
+            shelf: 128,
             number: 2,
             identifiers: [5, 6, 0, 0, 0, 0, 0, 0],
         };
+        for controller in record.controllers.iter_mut() {
+            controller.manager = 1;
+        }
         record
     }
 
@@ -714,47 +742,79 @@ mod tests {
         assert!(!sound(&record));
     }
 
+    fn manager(id: u64, limit: u64) -> Manager {
+        Manager { id, limit }
+    }
+
+    #[test]
+    fn one_manager_or_two() {
+        let mut settings = record().settings;
+        assert_eq!(settings.managers(), [manager(1, 16)]);
+        assert_eq!(settings.known_manager(1), Some(manager(1, 16)));
+        assert_eq!(settings.known_manager(2), None);
+        assert_eq!(settings.known_manager(5), None, "a controller is no manager");
+        settings.second = Some(manager(2, 4));
+        assert_eq!(settings.managers(), [manager(1, 16), manager(2, 4)]);
+        assert_eq!(settings.known_manager(1), Some(manager(1, 16)));
+        assert_eq!(settings.known_manager(2), Some(manager(2, 4)));
+        for unknown in [0, 3, 5, 257, 65535, u64::MAX].iter() {
+            assert_eq!(settings.known_manager(*unknown), None, "{}", unknown);
+        }
+    }
+
     #[test]
     fn settings_of_a_shelf() {
-        let broken = |second: Option<(u64, u64)>, shelf: u64| {
-            let second = second.map(|(id, limit)| Manager { id, limit });
-            shelf_settings_broken(&ShelfSettings { settings: record().settings, second, shelf })
+        let with = |second: Option<Manager>, shelf: u64| {
+            let mut record = record();
+            record.settings.second = second;
+            record.settings.shelf = shelf;
+            assert_eq!(sound(&record), !settings_broken(&record.settings));
+            sound(&record)
         };
-        for shelf in [0, 1, 127, 128].iter() {
-            assert!(!broken(None, *shelf));
-            assert!(!broken(Some((2, 4)), *shelf));
+        // The shelf's limit may be below, between and above those of the managers.
+        for shelf in [0, 1, 4, 15, 17, 127, 128].iter() {
+            assert!(with(None, *shelf), "{}", shelf);
+            assert!(with(Some(manager(2, 4)), *shelf), "{}", shelf);
         }
-        assert!(broken(None, 129));
-        assert!(broken(Some((2, 4)), 65535));
+        for shelf in [129, 256, 65535, u64::MAX].iter() {
+            assert!(!with(None, *shelf), "{}", shelf);
+            assert!(!with(Some(manager(2, 4)), *shelf), "{}", shelf);
+        }
         // A second manager's limit, its name, and one that is the first or a controller.
-        for (second, expected) in [
-            ((2, 0), false),
-            ((2, 128), false),
-            ((2, 129), true),
-            ((0, 4), false),
-            ((65535, 4), false),
-            ((65536, 4), true),
-            ((1, 0), true),
-            ((1, 4), true),
-            ((5, 4), true),
-            ((6, 4), true),
-            ((7, 4), false),
+        for (id, limit, expected) in [
+            (2, 0, true),
+            (2, 128, true),
+            (2, 129, false),
+            (2, u64::MAX, false),
+            (0, 4, true),
+            (65535, 4, true),
+            (65536, 4, false),
+            (u64::MAX, 4, false),
+            (1, 0, false),
+            (1, 4, false),
+            (1, 16, false),
+            (5, 4, false),
+            (6, 4, false),
+            (6, 0, false),
+            (7, 4, true),
         ]
         .iter()
         {
-            assert_eq!(broken(Some(*second), 128), *expected, "{:?}", second);
+            assert_eq!(with(Some(manager(*id, *limit)), 128), *expected, "{} {}", id, limit);
         }
         // A controller in an unused place is none, and what document 01 asks is asked too.
-        let mut shelf =
-            ShelfSettings { settings: record().settings, second: Some(Manager { id: 7, limit: 4 }), shelf: 18 };
-        shelf.settings.identifiers[2] = 7;
-        assert!(!shelf_settings_broken(&shelf));
-        shelf.settings.number = 3;
-        assert!(shelf_settings_broken(&shelf));
-        shelf.second = None;
-        assert!(!shelf_settings_broken(&shelf));
-        shelf.settings.limit = 129;
-        assert!(shelf_settings_broken(&shelf));
+        let mut settings = Settings { second: Some(manager(7, 4)), shelf: 18, ..record().settings };
+        settings.identifiers[2] = 7;
+        assert!(!settings_broken(&settings));
+        settings.number = 3;
+        assert!(settings_broken(&settings));
+        settings.second = None;
+        assert!(!settings_broken(&settings));
+        settings.limit = 129;
+        assert!(settings_broken(&settings));
+        settings.limit = 16;
+        settings.manager = 7;
+        assert!(settings_broken(&settings));
     }
 
     #[test]
@@ -1204,10 +1264,148 @@ mod tests {
         assert!(!sound(&record));
     }
 
+    /// READINGS W12: managers 1 (16) and 2 (4), shelf 18, controllers 5, 6 and 7. Each of these is tracked by this
+    /// manager, with so many ranges of one unit, if there is one of them.
+    fn shelf(tracked: [(u64, u64); 3]) -> Record {
+        let mut record = record();
+        record.settings.second = Some(manager(2, 4));
+        record.settings.shelf = 18;
+        record.settings.number = 3;
+        record.settings.identifiers[2] = 7;
+        for (place, (by, count)) in tracked.iter().enumerate() {
+            let controller: &mut Controller = &mut record.controllers[place];
+            controller.manager = *by;
+            controller.base = 16 * place as u64;
+            if *count > 0 {
+                controller.tracking = on(0, *count);
+            }
+            for (row, range) in controller.ranges.iter_mut().enumerate().take(*count as usize) {
+                *range = Range { start: 8192 * row as u64, length: 1 };
+            }
+        }
+        record
+    }
+
+    #[test]
+    fn worked_accounts() {
+        // READINGS W12: 5 tracked by 3; 6 tracked by 2 with 5 ranges; 16 and 4.
+        assert!(sound(&shelf([(1, 10), (2, 4), (1, 4)])));
+        assert!(!sound(&shelf([(3, 10), (2, 4), (1, 4)])));
+        assert!(!sound(&shelf([(1, 10), (2, 5), (1, 1)])));
+        assert!(!sound(&shelf([(1, 16), (2, 4), (1, 0)])), "20 of 18");
+        assert!(sound(&shelf([(1, 14), (2, 4), (1, 0)])));
+        assert!(!sound(&shelf([(1, 15), (2, 4), (1, 0)])), "19 of 18");
+        assert!(sound(&shelf([(1, 16), (2, 2), (1, 0)])));
+        assert!(!sound(&shelf([(1, 16), (2, 3), (1, 0)])));
+        // 1 tracks two of them: 16, and 17 of its 16.
+        assert!(sound(&shelf([(1, 8), (1, 8), (2, 2)])));
+        assert!(!sound(&shelf([(1, 8), (1, 9), (2, 0)])));
+        // 2 tracks two: 4, and 5 of its 4. Each is within its limit, and together they aren't.
+        assert!(sound(&shelf([(2, 1), (1, 8), (2, 3)])));
+        assert!(!sound(&shelf([(2, 2), (1, 8), (2, 3)])));
+        assert!(!sound(&shelf([(2, 4), (1, 1), (2, 1)])));
+    }
+
+    #[test]
+    fn who_tracks_whom() {
+        for by in [0, 3, 5, 6, 257, 258, 65535, u64::MAX].iter() {
+            for place in 0..3 {
+                let mut record = shelf([(1, 1), (2, 1), (1, 1)]);
+                record.controllers[place].manager = *by;
+                assert!(!sound(&record), "{} {}", by, place);
+                // Off it isn't looked at.
+                record.controllers[place].tracking = Tracking::Off;
+                assert!(sound(&record), "{} {}", by, place);
+            }
+            // In an unused place neither.
+            let mut record = shelf([(1, 1), (2, 1), (*by, 1)]);
+            record.settings.number = 2;
+            assert!(sound(&record), "{}", by);
+        }
+        // The second manager is gone, and then it is another; then the first one is.
+        let mut record = shelf([(1, 1), (2, 1), (1, 1)]);
+        record.settings.second = None;
+        assert!(!sound(&record));
+        record.settings.second = Some(manager(3, 4));
+        assert!(!sound(&record));
+        record.settings.second = Some(manager(2, 4));
+        record.settings.manager = 3;
+        assert!(!sound(&record));
+        // 1 is the second one now, with the limit of that one: its two ranges are within it, or not.
+        record.settings.manager = 2;
+        record.settings.second = Some(manager(1, 2));
+        assert!(sound(&record));
+        record.settings.second = Some(manager(1, 1));
+        assert!(!sound(&record));
+        // A manager may be 0, which a controller that is off names as well.
+        let mut record = shelf([(0, 1), (2, 1), (0, 0)]);
+        record.settings.manager = 0;
+        assert!(sound(&record));
+        record.settings.limit = 1;
+        assert!(sound(&record));
+        record.settings.limit = 0;
+        assert!(!sound(&record));
+    }
+
+    #[test]
+    fn accounts_by_hand() {
+        let of = |record: &Record| accounts(record).into_iter().collect::<Vec<_>>();
+        assert_eq!(of(&shelf([(1, 0), (2, 0), (3, 0)])), []);
+        assert_eq!(of(&shelf([(1, 10), (2, 4), (1, 4)])), [(1, 14), (2, 4)]);
+        assert_eq!(of(&shelf([(9, 1), (2, 4), (9, 2)])), [(2, 4), (9, 3)]);
+        assert_eq!(counts_together(&accounts(&shelf([(9, 1), (2, 4), (9, 2)]))), 7);
+        // One that says it has no ranges has an account all the same, and so an unknown manager is found.
+        let mut record = shelf([(1, 1), (2, 4), (1, 1)]);
+        record.controllers[0].tracking = on(0, 0);
+        record.controllers[0].manager = 9;
+        assert_eq!(of(&record), [(1, 1), (2, 4), (9, 0)]);
+        assert!(accounts_broken(&record));
+        record.controllers[0].manager = 1;
+        assert!(!accounts_broken(&record));
+    }
+
+    #[test]
+    fn a_request_beside_all_counts() {
+        let (first, second) = (manager(1, 16), manager(2, 4));
+        // READINGS W12: 1 tracks 10.
+        let record = shelf([(1, 10), (2, 0), (1, 0)]);
+        assert_eq!(limit_refusal(&record, second, 5), Some(12));
+        assert_eq!(limit_refusal(&record, second, 4), None);
+        // And 2 tracks 4: 17 of 16 is 12, although 21 are above 18 too; 15 of 16 and 19 of 18.
+        let record = shelf([(1, 10), (2, 4), (1, 0)]);
+        assert_eq!(limit_refusal(&record, first, 7), Some(12));
+        assert_eq!(limit_refusal(&record, first, 6), Some(34));
+        assert_eq!(limit_refusal(&record, first, 5), Some(34));
+        assert_eq!(limit_refusal(&record, first, 4), None);
+        assert_eq!(limit_refusal(&record, second, 1), Some(12));
+        // 14 and 4 are all; none more, of either.
+        let record = shelf([(1, 10), (2, 4), (1, 4)]);
+        assert_eq!(limit_refusal(&record, first, 1), Some(34));
+        assert_eq!(limit_refusal(&record, first, 2), Some(34));
+        assert_eq!(limit_refusal(&record, first, 3), Some(12));
+        // Nobody is tracked, and the shelf's limit is below the managers'.
+        let mut record = shelf([(1, 0), (2, 0), (1, 0)]);
+        record.settings.shelf = 3;
+        assert_eq!(limit_refusal(&record, first, 3), None);
+        assert_eq!(limit_refusal(&record, first, 4), Some(34));
+        assert_eq!(limit_refusal(&record, first, 16), Some(34));
+        assert_eq!(limit_refusal(&record, first, 17), Some(12));
+        assert_eq!(limit_refusal(&record, second, 4), Some(34));
+        assert_eq!(limit_refusal(&record, second, 5), Some(12));
+        // One manager: the shelf's alone is met.
+        record.settings.second = None;
+        assert_eq!(limit_refusal(&record, first, 4), Some(34));
+        assert_eq!(limit_refusal(&record, first, 3), None);
+    }
+
     #[test]
     fn unused_places_are_not_looked_at() {
         let mut record = tracked(0, &[range(65536, 4)]);
         record.settings.limit = 1;
+        record.settings.shelf = 1;
+        for place in 1..8 {
+            record.controllers[place].manager = u64::MAX;
+        }
         record.settings.identifiers = [5, 6, 5, 6, 1, 1, u64::MAX, 70000];
         for row in 1..16 {
             record.controllers[0].ranges[row] = range(u64::MAX, u64::MAX);
@@ -1230,16 +1428,19 @@ mod tests {
         record.controllers[1].suspended = true;
         assert!(sound(&record));
         // Each of these places counts once it is used.
+        record.settings.shelf = 128;
         let mut more = record.clone();
         more.controllers[0].tracking = on(0, 2);
         more.settings.limit = 128;
         assert!(!sound(&more));
         let mut more = record.clone();
         more.controllers[1].tracking = on(0, 1);
+        more.controllers[1].manager = 1;
         more.settings.limit = 128;
         assert!(!sound(&more));
         let mut more = record.clone();
         more.settings.identifiers[2] = 7;
+        more.controllers[2].manager = 1;
         more.settings.number = 3;
         more.settings.limit = 128;
         assert!(!sound(&more));
@@ -1442,6 +1643,9 @@ mod tests {
         record.settings.limit = 127;
         assert!(!sound(&record));
         record.settings.limit = 128;
+        record.settings.shelf = 127;
+        assert!(!sound(&record));
+        record.settings.shelf = 128;
         for place in 0..8 {
             let mut longer = record.clone();
             longer.controllers[place].ranges[15].length = 256;
@@ -1458,12 +1662,15 @@ mod tests {
             greatest: u64::MAX,
             rule: u64::MAX,
             limit: u64::MAX,
+            second: Some(manager(u64::MAX, u64::MAX)),
+            shelf: u64::MAX,
             number: u64::MAX,
             identifiers: [u64::MAX; 8],
         };
         for controller in record.controllers.iter_mut() {
             controller.tracking = on(u64::MAX, u64::MAX);
             controller.base = u64::MAX;
+            controller.manager = u64::MAX;
             controller.queue = Some(queue(u64::MAX, u64::MAX, u64::MAX, u64::MAX));
             controller.ranges = [range(u64::MAX, u64::MAX); 16];
         }
@@ -1476,7 +1683,11 @@ mod tests {
         assert!(too_many_units(&Record::default(), 0, &[range(u64::MAX, u64::MAX), range(0, 1), range(4095, 3)]));
         assert!(pool_broken(&record));
         assert!(!pool_broken(&Record::default()));
-        assert!(limit_passed(&record, usize::MAX));
+        // 8 times 2^64 - 1 are on one account, and a request is booked beside them.
+        assert!(accounts_broken(&record));
+        assert!(!accounts_broken(&Record::default()));
+        assert_eq!(limit_refusal(&record, manager(u64::MAX, u64::MAX), usize::MAX), Some(12));
+        assert_eq!(limit_refusal(&record, manager(0, u64::MAX), usize::MAX), Some(34));
         assert!(queue_broken(&queue(u64::MAX, u64::MAX, u64::MAX, u64::MAX)));
         assert!(!queue_broken(&queue(u64::MAX, u64::MAX, 0, u64::MAX - 1)));
         assert!(queue_broken(&queue(0, 0, 0, 0)));

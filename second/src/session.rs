@@ -48,37 +48,43 @@ pub fn answer_line<L>(
 
 impl Session {
     pub fn answer(&mut self, cut: &Cut) -> String {
-        answer_line(cut, &parse, &mut |line| self.play(line))
+        answer_line(cut, &parse, &mut |line| self.play(self.first_manager(), line))
+    }
+
+    /// W12: "The session keeps one manager", which makes all its calls. The closed device has none, and answers 1 whoever
+    /// calls.
+    pub fn first_manager(&self) -> u64 {
+        self.device.record.settings.manager
     }
 
     /// "Each answers one line: the number, and after a done write its count. A report adds four named numbers and a
-    /// line a descriptor."
-    pub fn play(&mut self, line: &Line) -> Result<String, Reason> {
+    /// line a descriptor." A call that names its manager is made by this one (W12).
+    pub fn play(&mut self, by: u64, line: &Line) -> Result<String, Reason> {
         match line {
             // "a refused `dev` keeps the device there was"
             Line::Dev(settings) => {
                 self.device = Device::fresh(settings)?;
             }
             Line::Start { id, granularity, ranges } => {
-                self.device.start(*id, &structure_bytes(*granularity, ranges))?;
+                self.device.start(by, *id, &structure_bytes(*granularity, ranges))?;
             }
-            Line::Stop { id } => self.device.stop(*id)?,
+            Line::Stop { id } => self.device.stop(by, *id)?,
             Line::Write(note) => return Ok(format!("0 {}\n", self.device.write(note)?)),
             Line::Recv { id, buffer } => {
-                let report = self.recv(*id, *buffer)?;
+                let report = self.recv(by, *id, *buffer)?;
                 return Ok(format!("{}\n{}", report.first_line, report.others));
             }
-            Line::Susp { id, kind } => self.device.suspend(*id, *kind)?,
-            Line::Resume { id } => self.device.resume(*id)?,
+            Line::Susp { id, kind } => self.device.suspend(by, *id, *kind)?,
+            Line::Resume { id } => self.device.resume(by, *id)?,
         }
         Ok("0\n".to_string())
     }
 
     /// A `recv` line. Its groups (W10) are none of the four numbers of a session listing; in a shelf listing they are printed.
-    pub fn recv(&mut self, id: u64, buffer: u64) -> Result<ReportLines, Refusal> {
+    pub fn recv(&mut self, by: u64, id: u64, buffer: u64) -> Result<ReportLines, Refusal> {
         // At most 4096 bytes: a line with more is bad.
         let mut bytes = vec![STALE; buffer as usize];
-        let groups = self.device.receive(id, &mut bytes)?;
+        let groups = self.device.receive(by, id, &mut bytes)?;
         Ok(report_lines(&bytes, groups))
     }
 }

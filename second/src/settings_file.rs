@@ -8,8 +8,8 @@ use std::collections::BTreeMap;
 
 use crate::little_endian::{get, put};
 use crate::rules::{
-    shelf_settings_broken, Manager, Refusal, Settings, ShelfSettings, FILE_LENGTH, FILE_VERSION, GREATEST_LIMIT, MARK,
-    MOST_CONTROLLERS, SETTINGS,
+    settings_broken, Manager, Refusal, Settings, FILE_LENGTH, FILE_VERSION, GREATEST_LIMIT, MARK, MOST_CONTROLLERS,
+    SETTINGS,
 };
 
 /// `TRK`, its first letter the lowest byte of a number of three.
@@ -78,22 +78,22 @@ pub fn second_manager(manager: u64, second: u64, limit: u64) -> Option<Manager> 
 }
 
 /// The other way round: how a version 2 file names the second manager, or that there is one only.
-pub fn second_in_file(shelf: &ShelfSettings) -> Manager {
-    shelf.second.unwrap_or(Manager { id: shelf.settings.manager, limit: 0 })
+pub fn second_in_file(settings: &Settings) -> Manager {
+    settings.second.unwrap_or(Manager { id: settings.manager, limit: 0 })
 }
 
 /// The version 1 reader, which "is kept and refuses version 2 by number".
 pub fn read_version_1(file: &[u8]) -> Result<Settings, Refusal> {
-    read_known(file, &[1]).map(|shelf| shelf.settings)
+    read_known(file, &[1])
 }
 
 /// "The new reader takes both".
-pub fn read(file: &[u8]) -> Result<ShelfSettings, Refusal> {
+pub fn read(file: &[u8]) -> Result<Settings, Refusal> {
     read_known(file, &[1, 2])
 }
 
 /// "35 for a wrong length, first where fewer than five bytes are there, else after 31 wrong mark and 32 version; then 16."
-fn read_known(file: &[u8], known: &[u64]) -> Result<ShelfSettings, Refusal> {
+fn read_known(file: &[u8], known: &[u64]) -> Result<Settings, Refusal> {
     let (head, rest) = taken_off(HEAD, file).ok_or(FILE_LENGTH)?;
     if head.get(&Field::Mark) != Some(&TRK) {
         return Err(MARK);
@@ -105,12 +105,12 @@ fn read_known(file: &[u8], known: &[u64]) -> Result<ShelfSettings, Refusal> {
         Some((numbers, [])) => numbers,
         _ => return Err(FILE_LENGTH),
     };
-    let shelf = shelf_of(&numbers);
+    let settings = settings_of(&numbers);
     // The writer's 16 is the reader's, and other bytes than its own have a spare one set.
-    if write(version, &shelf)? != file {
+    if write(version, &settings)? != file {
         return Err(SETTINGS);
     }
-    Ok(shelf)
+    Ok(settings)
 }
 
 /// The numbers of these fields from the file's beginning, and what is left; nothing if they are not all there.
@@ -130,55 +130,54 @@ fn number(numbers: &Numbers, field: Field) -> u64 {
 
 /// The settings that the numbers name, nonsense or not. "a version 1 file gives one manager and the shelf limit 128." Unused
 /// places are left at 0 whatever the file has there.
-fn shelf_of(numbers: &Numbers) -> ShelfSettings {
+fn settings_of(numbers: &Numbers) -> Settings {
     let of = |field| number(numbers, field);
+    let (second, shelf) = match numbers.get(&Field::Shelf) {
+        None => (None, GREATEST_LIMIT),
+        Some(shelf) => (second_manager(of(Field::Manager), of(Field::Second), of(Field::SecondLimit)), *shelf),
+    };
     let mut settings = Settings {
         manager: of(Field::Manager),
         least: of(Field::Least),
         greatest: of(Field::Greatest),
         rule: of(Field::Rule),
         limit: of(Field::Limit),
+        second,
+        shelf,
         number: of(Field::Number),
         identifiers: [0; MOST_CONTROLLERS],
     };
     for (place, _) in (0..MOST_CONTROLLERS).zip(0..settings.number) {
         settings.identifiers[place] = of(Field::Identifier(place));
     }
-    match numbers.get(&Field::Shelf) {
-        None => ShelfSettings { settings, second: None, shelf: GREATEST_LIMIT },
-        Some(shelf) => {
-            let second = second_manager(settings.manager, of(Field::Second), of(Field::SecondLimit));
-            ShelfSettings { settings, second, shelf: *shelf }
-        }
-    }
+    settings
 }
 
 /// The writer: 16, then 32 for a version that there isn't or that can't hold these settings. It makes its own buffer, so 8
 /// can't be met.
-pub fn write(version: u64, shelf: &ShelfSettings) -> Result<Vec<u8>, Refusal> {
-    if shelf_settings_broken(shelf) {
+pub fn write(version: u64, settings: &Settings) -> Result<Vec<u8>, Refusal> {
+    if settings_broken(settings) {
         return Err(SETTINGS);
     }
     let rows = body(version).ok_or(FILE_VERSION)?;
     let mut file = Vec::new();
     let mut laid_down = Numbers::new();
     for (field, width) in [HEAD, &rows].concat() {
-        let value = value_of(field, version, shelf);
+        let value = value_of(field, version, settings);
         put(&mut file, u128::from(value), width);
         laid_down.insert(field, value);
     }
     // A version can't hold them where its numbers would be read as another shelf.
-    let held = shelf_of(&laid_down);
-    if (held.second, held.shelf) != (shelf.second, shelf.shelf) {
+    let held = settings_of(&laid_down);
+    if (held.second, held.shelf) != (settings.second, settings.shelf) {
         return Err(FILE_VERSION);
     }
     Ok(file)
 }
 
 /// What stands in a field of a file with these settings.
-fn value_of(field: Field, version: u64, shelf: &ShelfSettings) -> u64 {
-    let settings = &shelf.settings;
-    let second = second_in_file(shelf);
+fn value_of(field: Field, version: u64, settings: &Settings) -> u64 {
+    let second = second_in_file(settings);
     match field {
         Field::Mark => TRK,
         Field::Version => version,
@@ -191,7 +190,7 @@ fn value_of(field: Field, version: u64, shelf: &ShelfSettings) -> u64 {
         Field::Identifier(place) => settings.used_identifiers().get(place).copied().unwrap_or(0),
         Field::Second => second.id,
         Field::SecondLimit => second.limit,
-        Field::Shelf => shelf.shelf,
+        Field::Shelf => settings.shelf,
     }
 }
 
@@ -200,18 +199,16 @@ mod tests {
     use super::*;
 
     /// `dev 1 0 8 0 16 5 6`, one manager, shelf limit 128.
-    fn one() -> ShelfSettings {
-        let identifiers = [5, 6, 0, 0, 0, 0, 0, 0];
-        let settings = Settings { manager: 1, least: 0, greatest: 8, rule: 0, limit: 16, number: 2, identifiers };
-        ShelfSettings { settings, second: None, shelf: 128 }
+    fn one() -> Settings {
+        let (second, identifiers) = (None, [5, 6, 0, 0, 0, 0, 0, 0]);
+        Settings { manager: 1, least: 0, greatest: 8, rule: 0, limit: 16, second, shelf: 128, number: 2, identifiers }
     }
 
     /// READINGS W11: managers 1 (16), 2 (4), shelf 18, controllers 5, 6 and 7.
-    fn two() -> ShelfSettings {
-        let mut shelf = ShelfSettings { second: Some(Manager { id: 2, limit: 4 }), shelf: 18, ..one() };
-        shelf.settings.number = 3;
-        shelf.settings.identifiers[2] = 7;
-        shelf
+    fn two() -> Settings {
+        let mut settings = Settings { second: Some(Manager { id: 2, limit: 4 }), shelf: 18, number: 3, ..one() };
+        settings.identifiers[2] = 7;
+        settings
     }
 
     const ONE_1: [u8; 29] = [
@@ -239,7 +236,7 @@ mod tests {
         assert_eq!(read(&ONE_1), Ok(one()));
         assert_eq!(read(&one_2()), Ok(one()));
         assert_eq!(read(&TWO), Ok(two()));
-        assert_eq!(read_version_1(&ONE_1), Ok(one().settings));
+        assert_eq!(read_version_1(&ONE_1), Ok(one()));
         assert_eq!(read_version_1(&one_2()), Err(32));
         assert_eq!(read_version_1(&TWO), Err(32));
     }
@@ -247,21 +244,21 @@ mod tests {
     #[test]
     fn what_a_version_cannot_hold() {
         assert_eq!(write(1, &two()), Err(32));
-        assert_eq!(write(1, &ShelfSettings { shelf: 127, ..one() }), Err(32));
-        assert_eq!(write(1, &ShelfSettings { shelf: 128, ..two() }), Err(32));
+        assert_eq!(write(1, &Settings { shelf: 127, ..one() }), Err(32));
+        assert_eq!(write(1, &Settings { shelf: 128, ..two() }), Err(32));
         for version in [0, 3, 257, 258, 513, 65535].iter() {
             assert_eq!(write(*version, &one()), Err(32), "{}", version);
             // 16 comes first.
-            assert_eq!(write(*version, &ShelfSettings { shelf: 129, ..one() }), Err(16), "{}", version);
+            assert_eq!(write(*version, &Settings { shelf: 129, ..one() }), Err(16), "{}", version);
         }
-        assert_eq!(write(1, &ShelfSettings { shelf: 129, ..two() }), Err(16));
+        assert_eq!(write(1, &Settings { shelf: 129, ..two() }), Err(16));
     }
 
     #[test]
     fn equal_managers_in_memory_are_16() {
         for limit in [0, 4].iter() {
-            let shelf = ShelfSettings { second: Some(Manager { id: 1, limit: *limit }), ..one() };
-            assert_eq!(write(2, &shelf), Err(16));
+            let settings = Settings { second: Some(Manager { id: 1, limit: *limit }), ..one() };
+            assert_eq!(write(2, &settings), Err(16));
         }
         assert_eq!(second_manager(1, 1, 0), None);
         assert_eq!(second_manager(1, 1, 4), Some(Manager { id: 1, limit: 4 }));
@@ -270,11 +267,11 @@ mod tests {
 
     #[test]
     fn unused_places_are_written_as_0() {
-        let mut shelf = one();
-        shelf.settings.identifiers[2] = 7;
-        shelf.settings.identifiers[7] = 65535;
-        assert_eq!(write(1, &shelf), Ok(ONE_1.to_vec()));
-        assert_eq!(write(2, &shelf), Ok(one_2()));
+        let mut settings = one();
+        settings.identifiers[2] = 7;
+        settings.identifiers[7] = 65535;
+        assert_eq!(write(1, &settings), Ok(ONE_1.to_vec()));
+        assert_eq!(write(2, &settings), Ok(one_2()));
     }
 
     /// The number of a reader, 0 done.
@@ -309,9 +306,9 @@ mod tests {
                     let mut changed = file.to_vec();
                     changed[place] = value;
                     // What is accepted is what is written: one encoding. It is never the settings of another file.
-                    if let Ok(shelf) = read(&changed) {
-                        assert_eq!(write(u64::from(changed[3]), &shelf), Ok(changed.clone()));
-                        assert_eq!(read(file) == Ok(shelf), *file == &changed[..]);
+                    if let Ok(settings) = read(&changed) {
+                        assert_eq!(write(u64::from(changed[3]), &settings), Ok(changed.clone()));
+                        assert_eq!(read(file) == Ok(settings), *file == &changed[..]);
                     }
                     let (old, new) = both(&changed);
                     let expected = match place {

@@ -1433,7 +1433,9 @@ fn lines_of_a_shelf_listing() {
     let batches = ["batch", "batch 5 65536 1", "batch 7 0 1", "burst 0 5 0 0", "burst 1 5 65536 1", "burst 1025 5 0 0"];
     let parts = ["part 5 1 0 0 1 00000000", "part 5 2 0 0 0 -", "part 9 4 2 0 1 -", "part 5 1 0 0 1"];
     let queues = ["queue 5 64", "queue 5 63", "post 5 64 -", "post 9 64 00", "take 5 64 1 32", "take 5 64 0 0"];
-    for line in batches.iter().chain(&parts).chain(&queues) {
+    let managers =
+        ["dev2 1 0 8 0 16 2 4 18 5 6", "dev2 1 0 8 0 16 1 0 128 5 6", "by 1 stop 5", "by 2 recv 5 64", "by 1"];
+    for line in batches.iter().chain(&parts).chain(&queues).chain(&managers) {
         check(
             &Session::answer,
             &[

@@ -131,14 +131,15 @@ module _ (d : Device) (eight : length (d .controllers) ≡ 8) (most : d .setting
 
   -- packing leaves of a controller all but its place, and of a share its size
   pub packed-alike : (j : ℕ) (k : Controller) → (packedAt (sizesOf d) j k .suspended ≡ k .suspended) × (packedAt (sizesOf d) j k .tracking ≡ k .tracking) × (packedAt (sizesOf d) j k .ranges ≡ k .ranges)
-      × (packedAt (sizesOf d) j k .queue ≡ k .queue)
+      × (packedAt (sizesOf d) j k .queue ≡ k .queue) × (packedAt (sizesOf d) j k .manager ≡ k .manager)
   packed-alike j k = go (eqb (getD (sizesOf d) j 0) 0)
     where
       go : (b : Bool)
           → (cond b k (withBase k (newBase (sizesOf d) j)) .suspended ≡ k .suspended) × (cond b k (withBase k (newBase (sizesOf d) j)) .tracking ≡ k .tracking)
           × (cond b k (withBase k (newBase (sizesOf d) j)) .ranges ≡ k .ranges) × (cond b k (withBase k (newBase (sizesOf d) j)) .queue ≡ k .queue)
-      go true = (refl, refl, refl, refl)
-      go false = (refl, refl, refl, refl)
+          × (cond b k (withBase k (newBase (sizesOf d) j)) .manager ≡ k .manager)
+      go true = (refl, refl, refl, refl, refl)
+      go false = (refl, refl, refl, refl, refl)
 
   pub packed-size : (j : ℕ) → j < 8 → getD (sharesOf (packedDevice d)) j noShare .size ≡ getD (sharesOf d) j noShare .size
   packed-size j h = go (leb (d .settings .count) j) refl
@@ -153,7 +154,7 @@ module _ (d : Device) (eight : length (d .controllers) ≡ 8) (most : d .setting
           ap (λ (a : Share). a .size) (sharesOf-at (packedDevice d) j u (omega (arith, h, packed-eight)))
           ∙ share-size (getD (packedDevice d .controllers) j noController)
           ∙ ap (λ (k : Controller). heldUnits (heldOf k)) (packed-at d j (omega (arith, h, eight)))
-          ∙ rw (a .1, a .2) (sym (share-size (getD (d .controllers) j noController)))
+          ∙ rw (a .1, a .2, a .4) (sym (share-size (getD (d .controllers) j noController)))
           ∙ sym (ap (λ (a : Share). a .size) (sharesOf-at d j u (omega (arith, h, eight))))
 
   -- a share has as many bits as before, and begins at its new place if it has any

@@ -40,16 +40,16 @@ module _ (en : Engine) (ws : List ℕ) (id : ℕ) (x : List ℕ) (long : 32 ≤ 
   done-fits d none = omega arith
   done-fits d (some i) = report-fits (controllerAt d (some i) .base) (controllerAt d (some i) .suspended) (controllerAt d (some i) .tracking) (controllerAt d (some i) .ranges)
 
-module _ (en : Engine) (d : Device) (ws : List ℕ) (id : ℕ) (x : List ℕ) where
+module _ (en : Engine) (d : Device) (ws : List ℕ) (m id : ℕ) (x : List ℕ) where
   -- a receive that answers 0 was not refused
-  receipt-fits : receiveBy en d ws id x .answer .number ≡ 0 → Fits x (receiveBy en d ws id x)
+  receipt-fits : receiveBy en d ws m id x .answer .number ≡ 0 → Fits x (receiveBy en d ws m id x)
   unfolding receiveBy
   receipt-fits =
-      verdict-both (λ (r : Receipt) (n : ℕ). r .answer .number ≡ 0 → Fits x r) (receiveOrder (seenIn d (en .words ws) (placeOf (d .settings) id)) x)
+      verdict-both (λ (r : Receipt) (n : ℕ). r .answer .number ≡ 0 → Fits x r) (receiveOrder (d .settings) m (seenIn d (en .words ws) (placeOf (d .settings) id)) x)
       (receiveDone en d ws id x (placeOf (d .settings) id)) 0 (λ n i. received n noReport ws x) (λ n i. 0)
-      ((λ e. absurd (omega arith)), ((λ e. absurd (omega arith)), ((λ e. absurd (omega arith)), ((λ e. absurd (omega arith)), tt))))
-      (λ passed e. done-fits en ws id x (leb-true 32 (length x) (passed .1 .1 .1 .0)) d (placeOf (d .settings) id))
+      ((λ e. absurd (omega arith)), ((λ e. absurd (omega arith)), ((λ e. absurd (omega arith)), ((λ e. absurd (omega arith)), ((λ e. absurd (omega arith)), tt)))))
+      (λ passed e. done-fits en ws id x (leb-true 32 (length x) (passed .1 .1 .1 .1 .0)) d (placeOf (d .settings) id))
 
   -- the same of its answer
-  pub answer-fits : (r : Received) → r ≡ receiveBy en d ws id x .answer → r .number ≡ 0 → 16 + 16 * (r .runs) ≤ length x
+  pub answer-fits : (r : Received) → r ≡ receiveBy en d ws m id x .answer → r .number ≡ 0 → 16 + 16 * (r .runs) ≤ length x
   answer-fits r e f = rw e (receipt-fits (rw e at f))

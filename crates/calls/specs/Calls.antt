@@ -1,6 +1,7 @@
 -- What each call answers and leaves, as a total function of what it is given: any record, any words, any bytes. The refusals are the tables of
 -- `rules` (Order.antt), and what is done is done by the rules' own functions on the controller's units and marks. The calls that touch marks are said once for
--- any engine (W9), which is a way to hold marks in an area; `…Change`, `writeNote` and `receiveReceipt` are those of the engine that holds them in words.
+-- any engine (W9), which is a way to hold marks in an area; `…Change`, `writeNote` and `receiveReceipt` are those of the engine that holds them in words. A call of
+-- a manager's names it first, then its controller (W12).
 use Prim.Native.Nat.{ℕ, suc, _+_, _*_, _/_}
 use mathlib.Core.Bool.{Bool, false, _||_, cond}
 use mathlib.Core.List.{List, [], _∷_, map}
@@ -72,7 +73,7 @@ sizesOf d = map (λ (a : Share). a .size) (sharesOf d)
 
 -- the same controller with its share elsewhere
 abbrev pub withBase : Controller → ℕ → Controller
-withBase c base = record { tracking = c .tracking; base = base; suspended = c .suspended; ranges = c .ranges; queue = c .queue }
+withBase c base = record { tracking = c .tracking; manager = c .manager; base = base; suspended = c .suspended; ranges = c .ranges; queue = c .queue }
 
 -- controllers from place i on whose shares, of these sizes, are packed: one that has none is as it was
 abbrev pub packedFrom : List ℕ → ℕ → List Controller → List Controller
@@ -140,28 +141,28 @@ freshBy e s ws =
 abbrev pub freshChange : Settings → List ℕ → Change Changed
 freshChange s ws = freshBy inWords s ws
 
--- a start records granularity, count and ranges, with zeros in the other places, and packs the shares, its own clear among them
-abbrev pub started : Controller → List ℕ → Controller
-started c x = record { tracking = On (granularityOf x) (countOf x); base = 0; suspended = c .suspended; ranges = placed (rangesOf x); queue = c .queue }
+-- a start by a manager records it (W12), granularity, count and ranges, with zeros in the other places, and packs the shares, its own clear among them
+abbrev pub started : Controller → ℕ → List ℕ → Controller
+started c m x = record { tracking = On (granularityOf x) (countOf x); manager = m; base = 0; suspended = c .suspended; ranges = placed (rangesOf x); queue = c .queue }
 
-abbrev pub startDone : Engine → Device → List ℕ → List ℕ → Option ℕ → Change Started
-startDone e d ws x none = startedWith 0 0 d ws
-startDone e d ws x (some i) =
-    let d′ = withController d i (started (controllerAt d (some i)) x) in
+abbrev pub startDone : Engine → Device → List ℕ → ℕ → List ℕ → Option ℕ → Change Started
+startDone e d ws m x none = startedWith 0 0 d ws
+startDone e d ws m x (some i) =
+    let d′ = withController d i (started (controllerAt d (some i)) m x) in
     startedWith 0 0 (packedDevice d′) (e .packed ws (basesOf d) (sizesOf d′) i)
 
-abbrev pub startAt : Engine → Device → List ℕ → List ℕ → Option ℕ → Change Started
-startAt e d ws x p = verdict (startOrder (d .settings) (seenIn d (e .words ws) p) x) (startDone e d ws x p) (λ n i. startedWith n i d ws)
+abbrev pub startAt : Engine → Device → List ℕ → ℕ → List ℕ → Option ℕ → Change Started
+startAt e d ws m x p = verdict (startOrder (d .settings) m (seenIn d (e .words ws) p) x) (startDone e d ws m x p) (λ n i. startedWith n i d ws)
 
-unfoldable pub startBy : Engine → Device → List ℕ → ℕ → List ℕ → Change Started
-startBy e d ws id x = startAt e d ws x (placeOf (d .settings) id)
+unfoldable pub startBy : Engine → Device → List ℕ → ℕ → ℕ → List ℕ → Change Started
+startBy e d ws m id x = startAt e d ws m x (placeOf (d .settings) id)
 
-abbrev pub startChange : Device → List ℕ → ℕ → List ℕ → Change Started
-startChange d ws id x = startBy inWords d ws id x
+abbrev pub startChange : Device → List ℕ → ℕ → ℕ → List ℕ → Change Started
+startChange d ws m id x = startBy inWords d ws m id x
 
--- a stop forgets the ranges and clears the share; no other moves
+-- a stop forgets the ranges and the manager and clears the share; no other moves
 abbrev pub stopped : Controller → Controller
-stopped c = record { tracking = Off; base = 0; suspended = c .suspended; ranges = placed []; queue = c .queue }
+stopped c = record { tracking = Off; manager = 0; base = 0; suspended = c .suspended; ranges = placed []; queue = c .queue }
 
 abbrev pub stopDone : Engine → Device → List ℕ → Option ℕ → Change Changed
 stopDone e d ws none = changed 0 d ws
@@ -169,29 +170,29 @@ stopDone e d ws (some i) =
     let c = controllerAt d (some i) in
     changed 0 (withController d i (stopped c)) (e .cleared ws (c .base) (heldUnits (heldOf c)))
 
-abbrev pub stopAt : Engine → Device → List ℕ → Option ℕ → Change Changed
-stopAt e d ws p = verdict (stopOrder (seenIn d (e .words ws) p)) (stopDone e d ws p) (λ n i. changed n d ws)
+abbrev pub stopAt : Engine → Device → List ℕ → ℕ → Option ℕ → Change Changed
+stopAt e d ws m p = verdict (stopOrder (d .settings) m (seenIn d (e .words ws) p)) (stopDone e d ws p) (λ n i. changed n d ws)
 
-unfoldable pub stopBy : Engine → Device → List ℕ → ℕ → Change Changed
-stopBy e d ws id = stopAt e d ws (placeOf (d .settings) id)
+unfoldable pub stopBy : Engine → Device → List ℕ → ℕ → ℕ → Change Changed
+stopBy e d ws m id = stopAt e d ws m (placeOf (d .settings) id)
 
-abbrev pub stopChange : Device → List ℕ → ℕ → Change Changed
-stopChange d ws id = stopBy inWords d ws id
+abbrev pub stopChange : Device → List ℕ → ℕ → ℕ → Change Changed
+stopChange d ws m id = stopBy inWords d ws m id
 
 -- a suspend changes the flag alone
 abbrev pub flagged : Controller → Bool → Controller
-flagged c b = record { tracking = c .tracking; base = c .base; suspended = b; ranges = c .ranges; queue = c .queue }
+flagged c b = record { tracking = c .tracking; manager = c .manager; base = c .base; suspended = b; ranges = c .ranges; queue = c .queue }
 
 abbrev pub flagDone : Device → Option ℕ → Bool → Changed
 flagDone d none b = record { number = 0; device = d }
 flagDone d (some i) b = record { number = 0; device = withController d i (flagged (controllerAt d (some i)) b) }
 
-abbrev pub suspendAt : Device → ℕ → ℕ → Option ℕ → Changed
-suspendAt d words kind p =
-    verdict (suspendOrder (seenIn d words p) kind) (flagDone d p (controllerAt d p .suspended || eqb kind 1)) (λ n i. record { number = n; device = d })
+abbrev pub suspendAt : Device → ℕ → ℕ → ℕ → Option ℕ → Changed
+suspendAt d words m kind p =
+    verdict (suspendOrder (d .settings) m (seenIn d words p) kind) (flagDone d p (controllerAt d p .suspended || eqb kind 1)) (λ n i. record { number = n; device = d })
 
-unfoldable pub suspendChange : Device → ℕ → ℕ → ℕ → Changed
-suspendChange d words id kind = suspendAt d words kind (placeOf (d .settings) id)
+unfoldable pub suspendChange : Device → ℕ → ℕ → ℕ → ℕ → Changed
+suspendChange d words m id kind = suspendAt d words m kind (placeOf (d .settings) id)
 
 -- a resume changes the flag, and drops a state of its own that is under way (W6)
 abbrev pub dropped : ℕ → Sequence → Sequence
@@ -201,11 +202,11 @@ abbrev pub resumeDone : Device → ℕ → Option ℕ → Changed
 resumeDone d id none = record { number = 0; device = d }
 resumeDone d id (some i) = record { number = 0; device = withSequence (withController d i (flagged (controllerAt d (some i)) false)) (dropped id (d .sequence)) }
 
-abbrev pub resumeAt : Device → ℕ → ℕ → Option ℕ → Changed
-resumeAt d words id p = verdict (resumeOrder (seenIn d words p)) (resumeDone d id p) (λ n i. record { number = n; device = d })
+abbrev pub resumeAt : Device → ℕ → ℕ → ℕ → Option ℕ → Changed
+resumeAt d words m id p = verdict (resumeOrder (d .settings) m (seenIn d words p)) (resumeDone d id p) (λ n i. record { number = n; device = d })
 
-unfoldable pub resumeChange : Device → ℕ → ℕ → Changed
-resumeChange d words id = resumeAt d words id (placeOf (d .settings) id)
+unfoldable pub resumeChange : Device → ℕ → ℕ → ℕ → Changed
+resumeChange d words m id = resumeAt d words m id (placeOf (d .settings) id)
 
 -- ---- write
 
@@ -298,14 +299,14 @@ receiveDone e d ws id x none = received 0 noReport ws x
 receiveDone e d ws id x (some i) =
     receiveIn e ws (controllerAt d (some i) .base) id (controllerAt d (some i) .suspended) (controllerAt d (some i) .tracking) (controllerAt d (some i) .ranges) x
 
-abbrev pub receiveAt : Engine → Device → List ℕ → ℕ → List ℕ → Option ℕ → Receipt
-receiveAt e d ws id x p = verdict (receiveOrder (seenIn d (e .words ws) p) x) (receiveDone e d ws id x p) (λ n i. received n noReport ws x)
+abbrev pub receiveAt : Engine → Device → List ℕ → ℕ → ℕ → List ℕ → Option ℕ → Receipt
+receiveAt e d ws m id x p = verdict (receiveOrder (d .settings) m (seenIn d (e .words ws) p) x) (receiveDone e d ws id x p) (λ n i. received n noReport ws x)
 
-unfoldable pub receiveBy : Engine → Device → List ℕ → ℕ → List ℕ → Receipt
-receiveBy e d ws id x = receiveAt e d ws id x (placeOf (d .settings) id)
+unfoldable pub receiveBy : Engine → Device → List ℕ → ℕ → ℕ → List ℕ → Receipt
+receiveBy e d ws m id x = receiveAt e d ws m id x (placeOf (d .settings) id)
 
-abbrev pub receiveReceipt : Device → List ℕ → ℕ → List ℕ → Receipt
-receiveReceipt d ws id x = receiveBy inWords d ws id x
+abbrev pub receiveReceipt : Device → List ℕ → ℕ → ℕ → List ℕ → Receipt
+receiveReceipt d ws m id x = receiveBy inWords d ws m id x
 
 -- ---- a part of a state (W6)
 
@@ -324,17 +325,17 @@ partDone d area id p =
     let stored = put area (offsetOf p) (p .bytes) in
     cond (isLast p) (arrival 0 (length joined) (withSequence d Nothing) stored) (arrival 0 0 (withSequence d (Open id (length joined))) stored)
 
-abbrev pub partAt : Device → ℕ → List ℕ → ℕ → Part → Option ℕ → Arrival
-partAt d words area id p i = verdict (partOrder (seenIn d words i) (arrivingIn (d .sequence) area id) p) (partDone d area id p) (λ n j. arrival n 0 d area)
+abbrev pub partAt : Device → ℕ → List ℕ → ℕ → ℕ → Part → Option ℕ → Arrival
+partAt d words area m id p i = verdict (partOrder (d .settings) m (seenIn d words i) (arrivingIn (d .sequence) area id) p) (partDone d area id p) (λ n j. arrival n 0 d area)
 
-unfoldable pub partChange : Device → ℕ → List ℕ → ℕ → Part → Arrival
-partChange d words area id p = partAt d words area id p (placeOf (d .settings) id)
+unfoldable pub partChange : Device → ℕ → List ℕ → ℕ → ℕ → Part → Arrival
+partChange d words area m id p = partAt d words area m id p (placeOf (d .settings) id)
 
 -- ---- a controller's queue (W8)
 
 -- a record in which the controller at a place has another queue
 abbrev pub queuing : Controller → Queue → Controller
-queuing c q = record { tracking = c .tracking; base = c .base; suspended = c .suspended; ranges = c .ranges; queue = q }
+queuing c q = record { tracking = c .tracking; manager = c .manager; base = c .base; suspended = c .suspended; ranges = c .ranges; queue = q }
 
 abbrev pub withQueue : Device → ℕ → Queue → Device
 withQueue d i q = withController d i (queuing (controllerAt d (some i)) q)

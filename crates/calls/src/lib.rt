@@ -7,9 +7,10 @@ use rules::Bytes;
 use rules::Controller;
 use rules::Device;
 use rules::Range;
+use rules::Tracking;
 ghost use mathlib.Core.Path.{_≡_};
 ghost use lib.ListN.{length};
-ghost use Rattle.calls.specs.Inner.{placeNumber};
+ghost use Rattle.calls.specs.Inner.{placeNumber, trackingBy};
 
 // The answer of a call that may change the record: its number, and the record as it is afterwards.
 pub struct Changed {
@@ -82,6 +83,20 @@ pub fn ranges_of(c: Controller) -> [Range; 16]
     ensures { λ r. ⌜ (r ≡ c .ranges) × (length r ≡ 16) ⌝ }
 {
     c.ranges
+}
+
+// How a manager finds a controller tracked: as it is, or not at all where another manager tracks it (W12).
+pub fn tracking_by(c: Controller, manager: u16) -> Tracking
+    ensures { λ r. ⌜ r ≡ trackingBy manager (c .tracking) (c .manager) ⌝ }
+{
+    let t = c.tracking;
+    let Tracking::On(_, _) = t else {
+        return t;
+    };
+    if c.manager != manager {
+        return Tracking::Off;
+    }
+    t
 }
 
 // The number of a refused place.

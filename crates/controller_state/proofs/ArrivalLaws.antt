@@ -7,21 +7,21 @@ use mathlib.Core.Option.{Option, none, some}
 use Prim.Native.Nat.{ℕ, _+_, _-_, _*_, _%_, _^_, _≤_, _<_}
 use native.Mathlib.Omega.{arith}
 use lib.Dec.{leb, ltb, eqb}
-use lib.ListN.{length, take, getD}
+use lib.ListN.{length, take, drop, getD}
 use borrow.Author.Tests.{le-leb, lt-leb, leb-true, lt-ltb, eq-eqb, ne-eqb, eqb-true}
 use Rattle.little.specs.Little.{put}
 use Rattle.rules.specs.Refusals.{verdict, refusal}
-use Rattle.rules.specs.Settings.{placeOf}
+use Rattle.rules.specs.Settings.{isManager, placeOf}
 use Rattle.rules.specs.ControllerState.{stateMost, stateOk}
-use Rattle.rules.specs.Order.{Part, Arriving, offsetOf, firstBy, lastBy, isFirst, isLast, isOffset, areCounted, dataOk, followsOn, follows, soFar, joinedWith, partTests}
+use Rattle.rules.specs.Order.{Part, Arriving, offsetOf, firstBy, lastBy, isFirst, isLast, isOffset, areCounted, dataOk, followsOn, follows, soFar, joinedWith, partTests, partOrder}
 use Rattle.rules.specs.declared.Sequence.{Sequence}
 use Rattle.rules.specs.declared.Sequence.the-variants.{Nothing, Open}
 use Rattle.rules.specs.declared.Device.{Device}
 use Rattle.rules.proofs.ListLaws.{and-left, and-right}
 use Rattle.rules.proofs.RefusalLaws.{Passed, refusal-none, passes-Passed, verdict-refused, verdict-passed}
-use Rattle.record.specs.Record.{noController, withSequence, othersIn, frontOf, frontIn, arrivingIn, whereIs, seenIn}
+use Rattle.record.specs.Record.{noController, withSequence, othersIn, frontOf, frontIn, arrivingIn, whereBy, seenIn}
 use Rattle.record.specs.declared.Place.the-variants.{At, Refused}
-use Rattle.record.proofs.RecordLaws.{frontOf-length, frontOf-take, Located, whereIs-at, whereIs-refused}
+use Rattle.record.proofs.RecordLaws.{frontOf-length, frontOf-take, Located, whereIs-at, whereBy-tests, whereBy-at}
 use Rattle.state_bytes.specs.Parts.{assembled}
 use Rattle.state_bytes.proofs.PartLaws.{assembled-length, assembled-put}
 use Rattle.calls.specs.declared.StateSet.{StateSet}
@@ -215,33 +215,36 @@ module _ (d : Device) (id i end : ℕ) where
 pub leaves : (x : Arrival) (r : StateSet) (area : List ℕ) → x ≡ record { answer = r; area = area } → (r ≡ x .answer) × (area ≡ x .area)
 leaves x r area e = (sym (ap (λ (y : Arrival). y .answer) e), sym (ap (λ (y : Arrival). y .area) e))
 
-module _ (d : Device) (words : ℕ) (area : List ℕ) (id : ℕ) (p : Part) where
-  pub call-area : length area ≢ 4096 → partChange d words area id p ≡ arrival 1 0 d area
+module _ (d : Device) (words : ℕ) (area : List ℕ) (m id : ℕ) (p : Part) where
+  pub call-area : length area ≢ 4096 → partChange d words area m id p ≡ arrival 1 0 d area
   unfolding partChange
   call-area h = rw (ne-eqb (length area) 4096 h, and-false (seenIn d words (placeOf (d .settings) id) .sound))
 
   module _ (l : length area ≡ 4096) where
-    pub call-refused : (n : ℕ) → whereIs d words id ≡ Refused n → partChange d words area id p ≡ arrival n 0 d area
+    pub call-refused : (n : ℕ) → whereBy d words m id ≡ Refused n → partChange d words area m id p ≡ arrival n 0 d area
     unfolding partChange
     call-refused n e =
         let v = seenIn d words (placeOf (d .settings) id) in
         rw (eq-eqb (length area) 4096 l, and-true (v .sound))
-        (whereIs-refused d words id n e ((record { ok = v .suspended; number = 13; place = 0 }) ∷ partTests (arrivingIn (d .sequence) area id) p) (partDone d area id p) (λ n j. arrival n 0 d area))
+        (whereBy-tests d words m id n e (drop 3 (partOrder (d .settings) m v (arrivingIn (d .sequence) area id) p)) (partDone d area id p) (λ n j. arrival n 0 d area))
 
-    module _ (i : ℕ) (e : whereIs d words id ≡ At i) where
-      m : Located d words id i
-      m = whereIs-at d words id i e
+    module _ (i : ℕ) (e : whereBy d words m id ≡ At i) where
+      found : Located d words id i
+      found = whereIs-at d words id i (whereBy-at d words m id i e .1)
 
-      pub call-running : getD (d .controllers) i noController .suspended ≡ false → partChange d words area id p ≡ arrival 13 0 d area
+      by : isManager (d .settings) m ≡ true
+      by = whereBy-at d words m id i e .0
+
+      pub call-running : getD (d .controllers) i noController .suspended ≡ false → partChange d words area m id p ≡ arrival 13 0 d area
       unfolding partChange
-      call-running f = rw (m .place, m .seen, eq-eqb (length area) 4096 l, f)
+      call-running f = rw (found .place, found .seen, by, eq-eqb (length area) 4096 l, f)
 
       module _ (f : getD (d .controllers) i noController .suspended ≡ true) (k : ℕ) (s : k ≡ refusal (partTests (arrivingIn (d .sequence) area id) p)) where
-        to-tests : partChange d words area id p ≡ verdict (partTests (arrivingIn (d .sequence) area id) p) (partDone d area id p) (λ n j. arrival n 0 d area)
+        to-tests : partChange d words area m id p ≡ verdict (partTests (arrivingIn (d .sequence) area id) p) (partDone d area id p) (λ n j. arrival n 0 d area)
         unfolding partChange
-        to-tests = rw (m .place, m .seen, eq-eqb (length area) 4096 l, f)
+        to-tests = rw (found .place, found .seen, by, eq-eqb (length area) 4096 l, f)
 
-        pub call-number : k ≢ 0 → partChange d words area id p ≡ arrival k 0 d area
+        pub call-number : k ≢ 0 → partChange d words area m id p ≡ arrival k 0 d area
         call-number h =
             to-tests ∙ verdict-refused (partTests (arrivingIn (d .sequence) area id) p) _ (λ n j. arrival n 0 d area) (λ z. h (s ∙ z)) ∙ ap (λ n. arrival n 0 d area) (sym s)
 
@@ -272,7 +275,7 @@ module _ (d : Device) (words : ℕ) (area : List ℕ) (id : ℕ) (p : Part) wher
           pub call-fits : p .low + length (p .bytes) ≤ 4096
           call-fits = let h : length (joinedWith (frontIn id (d .sequence) area) p) ≤ 4096 = leb-true _ 4096 (and-left _ _ (tests .1 .1 .1 .1 .0)) in omega (arith, h, joined-length)
 
-          pub call-done : partChange d words area id p ≡ record { answer = endedAt d id (p .indicator) (p .low + length (p .bytes)); area = put area (p .low) (p .bytes) }
+          pub call-done : partChange d words area m id p ≡ record { answer = endedAt d id (p .indicator) (p .low + length (p .bytes)); area = put area (p .low) (p .bytes) }
           call-done = to-tests ∙ verdict-passed (partTests (arrivingIn (d .sequence) area id) p) _ (λ n j. arrival n 0 d area) tests ∙ rw (joined-length, call-low) (go (isLast p))
             where
               end : ℕ

@@ -178,6 +178,7 @@ pub fn set_state_on(
     d: Device,
     words: usize,
     area: &mut [u8],
+    manager: u16,
     id: u16,
     indicator: u8,
     low: u32,
@@ -186,9 +187,9 @@ pub fn set_state_on(
     data: &[u8],
 ) -> StateSet
     ensures { λ r. ⌜ (r
-        ≡ partChange d words (now (area .entry)) id (record { indicator = indicator; low = low; high = high; count = count; bytes = now («data» .entry) }) .answer)
+        ≡ partChange d words (now (area .entry)) manager id (record { indicator = indicator; low = low; high = high; count = count; bytes = now («data» .entry) }) .answer)
         × (now (area .exit)
-        ≡ partChange d words (now (area .entry)) id (record { indicator = indicator; low = low; high = high; count = count; bytes = now («data» .entry) }) .area) ⌝ }
+        ≡ partChange d words (now (area .entry)) manager id (record { indicator = indicator; low = low; high = high; count = count; bytes = now («data» .entry) }) .area) ⌝ }
 {
     if area.len() != STATE_BYTES {
         return StateSet {
@@ -197,7 +198,7 @@ pub fn set_state_on(
             device: d,
         };
     }
-    let place = record::locate(d, words, id);
+    let place = record::locate_by(d, words, manager, id);
     let Place::At(i) = place else {
         let number = calls::number_of(place);
         return StateSet {
@@ -228,13 +229,14 @@ pub fn set_state_on(
     accepted(d, id, indicator, offset + data.len())
 }
 
-// Takes a part of a controller's state: its data go into the area at their offset. The last or only part of a sequence ends it, and answers how many bytes the state
-// has: the area's first so many. Refused, in this order: 1 (also an area of another size), 2, 13 running, 23 another controller's sequence, 24 offset, 25 indicator,
+// Takes a part of a controller's state, whichever manager sends it: its data go into the area at their offset. The last or only part of a sequence ends it, and answers how many bytes the state
+// has: the area's first so many. Refused, in this order: 1 (also an area of another size), 2 (also an unknown manager), 13 running, 23 another controller's sequence, 24 offset, 25 indicator,
 // count or data, 26 out of sequence, 27 past the area or no finished state.
 pub fn set_state(
     d: Device,
     marks: &[u64],
     area: &mut [u8],
+    manager: u16,
     id: u16,
     indicator: u8,
     low: u32,
@@ -243,9 +245,20 @@ pub fn set_state(
     data: &[u8],
 ) -> StateSet
     ensures { λ r. ⌜ (r
-        ≡ partChange d (length (now (marks .entry))) (now (area .entry)) id (record { indicator = indicator; low = low; high = high; count = count; bytes = now («data» .entry) }) .answer)
+        ≡ partChange d (length (now (marks .entry))) (now (area .entry)) manager id (record { indicator = indicator; low = low; high = high; count = count; bytes = now («data» .entry) }) .answer)
         × (now (area .exit)
-        ≡ partChange d (length (now (marks .entry))) (now (area .entry)) id (record { indicator = indicator; low = low; high = high; count = count; bytes = now («data» .entry) }) .area) ⌝ }
+        ≡ partChange d (length (now (marks .entry))) (now (area .entry)) manager id (record { indicator = indicator; low = low; high = high; count = count; bytes = now («data» .entry) }) .area) ⌝ }
 {
-    set_state_on(d, marks.len(), area, id, indicator, low, high, count, data)
+    set_state_on(
+        d,
+        marks.len(),
+        area,
+        manager,
+        id,
+        indicator,
+        low,
+        high,
+        count,
+        data,
+    )
 }

@@ -43,23 +43,23 @@ answers A number was ts end refuse z e w =
     same (t ∷ us) = ap₂ (λ (a b : ℕ). cond (t .ok) a b) (same us) (e (t .number) (t .place))
 
 -- a done start has zeros in number and row
-pub start-zero : (en : Engine) (d : Device) (ws x : List ℕ) (p : Option ℕ) → startDone en d ws x p .answer .number ≡ 0
-start-zero en d ws x none = refl
-start-zero en d ws x (some i) = refl
+pub start-zero : (en : Engine) (d : Device) (ws : List ℕ) (m : ℕ) (x : List ℕ) (p : Option ℕ) → startDone en d ws m x p .answer .number ≡ 0
+start-zero en d ws m x none = refl
+start-zero en d ws m x (some i) = refl
 
-start-row : (en : Engine) (d : Device) (ws x : List ℕ) (p : Option ℕ) → startDone en d ws x p .answer .row ≡ 0
-start-row en d ws x none = refl
-start-row en d ws x (some i) = refl
+start-row : (en : Engine) (d : Device) (ws : List ℕ) (m : ℕ) (x : List ℕ) (p : Option ℕ) → startDone en d ws m x p .answer .row ≡ 0
+start-row en d ws m x none = refl
+start-row en d ws m x (some i) = refl
 
 -- a start's row is its table's
-pub row-is : (en : Engine) (d : Device) (ws : List ℕ) (id : ℕ) (x : List ℕ)
-    → startBy en d ws id x .answer .row ≡ placeIn (startOrder (d .settings) (seenIn d (en .words ws) (placeOf (d .settings) id)) x)
+pub row-is : (en : Engine) (d : Device) (ws : List ℕ) (m id : ℕ) (x : List ℕ)
+    → startBy en d ws m id x .answer .row ≡ placeIn (startOrder (d .settings) m (seenIn d (en .words ws) (placeOf (d .settings) id)) x)
 unfolding startBy
-row-is en d ws id x =
+row-is en d ws m id x =
     let p = placeOf (d .settings) id in
-    let ts = startOrder (d .settings) (seenIn d (en .words ws) p) x in
-    verdict-map (λ (c : Change Started). c .answer .row) ts (startDone en d ws x p) (λ n i. startedWith n i d ws)
-    ∙ ap (λ k. verdict ts k (λ n i. i)) (start-row en d ws x p)
+    let ts = startOrder (d .settings) m (seenIn d (en .words ws) p) x in
+    verdict-map (λ (c : Change Started). c .answer .row) ts (startDone en d ws m x p) (λ n i. startedWith n i d ws)
+    ∙ ap (λ k. verdict ts k (λ n i. i)) (start-row en d ws m x p)
 
 pub stop-zero : (en : Engine) (d : Device) (ws : List ℕ) (p : Option ℕ) → stopDone en d ws p .answer .number ≡ 0
 stop-zero en d ws none = refl
@@ -114,10 +114,10 @@ SaidBy r =
     r .answer
     ≡ record { number = r .answer .number; suspended = r .report .suspended; more = r .report .more; granularity = r .report .granularity; runs = length (r .report .descriptors); groups = r .report .groups }
 
-pub receive-says : (en : Engine) (d : Device) (ws : List ℕ) (id : ℕ) (x : List ℕ) → SaidBy (receiveBy en d ws id x)
+pub receive-says : (en : Engine) (d : Device) (ws : List ℕ) (m id : ℕ) (x : List ℕ) → SaidBy (receiveBy en d ws m id x)
 unfolding receiveBy
-receive-says en d ws id x =
-    verdict-has SaidBy (λ n j. received n noReport ws x) (λ n j. refl) (receiveOrder (seenIn d (en .words ws) (placeOf (d .settings) id)) x) (receiveDone en d ws id x (placeOf (d .settings) id)) (λ p. done (placeOf (d .settings) id))
+receive-says en d ws m id x =
+    verdict-has SaidBy (λ n j. received n noReport ws x) (λ n j. refl) (receiveOrder (d .settings) m (seenIn d (en .words ws) (placeOf (d .settings) id)) x) (receiveDone en d ws id x (placeOf (d .settings) id)) (λ p. done (placeOf (d .settings) id))
   where
     go : (base : ℕ) (b : Bool) (t : Tracking) (rs : List Range) → SaidBy (receiveIn en ws base id b t rs x)
     go base b Off rs = refl

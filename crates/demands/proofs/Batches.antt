@@ -18,7 +18,7 @@ use Rattle.rules.specs.Refusals.{Test, refusal}
 use Rattle.rules.proofs.RefusalLaws.{Passed, verdict-has, verdict-done}
 use Rattle.rules.specs.Settings.{mostNotes, placeOf}
 use Rattle.rules.specs.Order.{writeOrder, batchOrder}
-use Rattle.rules.specs.Machine.{refused, wrote, Call, Event, countsIn, unitsIn}
+use Rattle.rules.specs.Machine.{refused, wrote, Call, Event, managedIn, countsIn, unitsIn}
 use Rattle.rules.specs.Demands.{sessionEnd}
 use Rattle.rules.specs.declared.Settings.{Settings}
 use Rattle.rules.specs.declared.Device.{Device}
@@ -261,7 +261,8 @@ pub batches-stand : BatchesStand
 batches-stand =
     record {
       stands = λ s m xs sized e a.
-          subst (λ (l : Left). Stands s l (historyIn inWords s m (callsIn inWords s m xs) a) (countsIn (sessionEnd s (length (m .marks)) (callsIn inWords s m xs))) (unitsIn (sessionEnd s (length (m .marks)) (callsIn inWords s m xs))) a)
+          let st = sessionEnd s (length (m .marks)) (callsIn inWords s m xs) in
+          subst (λ (l : Left). Stands s l (historyIn inWords s m (callsIn inWords s m xs) a) (unitsIn st) (managedIn st) (countsIn st) a)
           (sym (left-by inWords words-kept xs (begun inWords s m)))
           (demand-2 .stands s m (callsIn inWords s m xs) sized e a);
     }

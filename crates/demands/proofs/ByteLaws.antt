@@ -101,10 +101,10 @@ fresh-bytes s bs =
 
 module _ (d : Device) (bs : List ℕ) (id : ℕ) where
   -- a stop
-  pub stop-each : (i : ℕ) → Cleared (getD (stopBy inBytes d bs id .marks) i 0) (getD bs i 0)
+  pub stop-each : (b i : ℕ) → Cleared (getD (stopBy inBytes d bs b id .marks) i 0) (getD bs i 0)
   unfolding stopBy clearedBytes
-  stop-each i =
-      verdict-has (λ (c : Change Changed). Cleared (getD (c .marks) i 0) (getD bs i 0)) (λ n j. changed n d bs) (λ n j. inl refl) (stopOrder (seenIn d (inBytes .words bs) (placeOf (d .settings) id)))
+  stop-each b i =
+      verdict-has (λ (c : Change Changed). Cleared (getD (c .marks) i 0) (getD bs i 0)) (λ n j. changed n d bs) (λ n j. inl refl) (stopOrder (d .settings) b (seenIn d (inBytes .words bs) (placeOf (d .settings) id)))
       (stopDone inBytes d bs (placeOf (d .settings) id)) (λ p. done (placeOf (d .settings) id))
     where
       done : (p : Option ℕ) → Cleared (getD (stopDone inBytes d bs p .marks) i 0) (getD bs i 0)
@@ -145,7 +145,7 @@ module _ (d : Device) (bs : List ℕ) (id : ℕ) where
         done (some j) = noted-length (controllerAt d (some j) .base) (controllerAt d (some j) .tracking) (controllerAt d (some j) .ranges)
 
   -- a receive
-  module _ (x : List ℕ) where
+  module _ (m : ℕ) (x : List ℕ) where
     -- how many units are reported
     abbrev listed : ℕ → ℕ → List Range → ℕ → ℕ
     listed base g rs n = length (join (reportedRuns (room (length x)) (units g (take n rs)) (marksOf bs base (length (units g (take n rs))))))
@@ -158,20 +158,20 @@ module _ (d : Device) (bs : List ℕ) (id : ℕ) where
     reported-length base b Off rs = refl
     reported-length base b (On g n) rs = anew-length (clearBytes (listed base g rs n)) (clearBytes-length (listed base g rs n)) base bs
 
-    pub receive-each : (i : ℕ) → Cleared (getD (receiveBy inBytes d bs id x .marks) i 0) (getD bs i 0)
+    pub receive-each : (i : ℕ) → Cleared (getD (receiveBy inBytes d bs m id x .marks) i 0) (getD bs i 0)
     unfolding receiveBy
     receive-each i =
-        verdict-has (λ (c : Receipt). Cleared (getD (c .marks) i 0) (getD bs i 0)) (λ n j. received n noReport bs x) (λ n j. inl refl) (receiveOrder (seenIn d (inBytes .words bs) (placeOf (d .settings) id)) x)
+        verdict-has (λ (c : Receipt). Cleared (getD (c .marks) i 0) (getD bs i 0)) (λ n j. received n noReport bs x) (λ n j. inl refl) (receiveOrder (d .settings) m (seenIn d (inBytes .words bs) (placeOf (d .settings) id)) x)
         (receiveDone inBytes d bs id x (placeOf (d .settings) id)) (λ p. done (placeOf (d .settings) id))
       where
         done : (p : Option ℕ) → Cleared (getD (receiveDone inBytes d bs id x p .marks) i 0) (getD bs i 0)
         done none = inl refl
         done (some j) = reported-each i (controllerAt d (some j) .base) (controllerAt d (some j) .suspended) (controllerAt d (some j) .tracking) (controllerAt d (some j) .ranges)
 
-    pub receive-bytes : length (receiveBy inBytes d bs id x .marks) ≡ length bs
+    pub receive-bytes : length (receiveBy inBytes d bs m id x .marks) ≡ length bs
     unfolding receiveBy
     receive-bytes =
-        verdict-has (λ (c : Receipt). length (c .marks) ≡ length bs) (λ n j. received n noReport bs x) (λ n j. refl) (receiveOrder (seenIn d (inBytes .words bs) (placeOf (d .settings) id)) x)
+        verdict-has (λ (c : Receipt). length (c .marks) ≡ length bs) (λ n j. received n noReport bs x) (λ n j. refl) (receiveOrder (d .settings) m (seenIn d (inBytes .words bs) (placeOf (d .settings) id)) x)
         (receiveDone inBytes d bs id x (placeOf (d .settings) id)) (λ p. done (placeOf (d .settings) id))
       where
         done : (p : Option ℕ) → length (receiveDone inBytes d bs id x p .marks) ≡ length bs

@@ -10,7 +10,8 @@ use lib.Dec.{leb, eqb}
 use lib.ListN.{length, take, getD}
 use borrow.Author.Tests.{le-leb, lt-leb, eq-eqb, ne-eqb}
 use Rattle.rules.specs.Refusals.{_else_, refusal}
-use Rattle.rules.specs.Settings.{placeOf, granularityOk}
+use Rattle.rules.specs.Settings.{isManager, placeOf, granularityOk}
+use Rattle.rules.specs.Lists.{isSome}
 use Rattle.rules.specs.StartData.{granularityOf, countOf, headerTests, readTests, startData}
 use Rattle.rules.specs.Order.{start, stop, write, receive, suspend, resume, part, Part, Seen, startOrder, stopOrder, writeOrder, receiveOrder, suspendOrder, resumeOrder, partOrder, queueOrder}
 use Rattle.rules.specs.Order as order
@@ -22,7 +23,7 @@ use Rattle.rules.specs.ReportReader.{reportTests, reportRefusal}
 use Rattle.rules.specs.declared.Settings.{Settings}
 use Rattle.rules.specs.declared.Header.the-variants.{Is, Refused}
 use Rattle.rules.specs.declared.Device.{Device}
-use Rattle.record.specs.Record.{isOn, soundWith, controllerAt, placesOf, hasStopped, seenIn, arrivingIn}
+use Rattle.record.specs.Record.{trackedBy, soundWith, controllerAt, placesOf, hasStopped, seenIn, arrivingIn}
 use Rattle.start_data.specs.Answer.{Said}
 use Rattle.start_data.proofs.Answers.{headerOf-says, startData-says, startData-none, startWritten-refused}
 use Rattle.report_reader.proofs.AnswerLaws.{refused-answer, index-zero}
@@ -30,17 +31,18 @@ use Rattle.calls.specs.Calls.{Engine, inWords, receiveBy, startBy, stopBy, writ
 use Rattle.calls.specs.declared.Changed.{Changed}
 use Rattle.calls.specs.declared.Started.{Started}
 use Rattle.demands.specs.Demand1.{MarkCalls, Answers, Demand1}
+use Rattle.demands.proofs.ManagerLaws.{manager-named, named-manager, limit-named}
 use Rattle.demands.proofs.AnswerLaws.{answers, fresh-answers, start-zero, row-is, stop-zero, flag-zero, resume-zero, write-zero, receive-zero, receive-says, part-zero, make-zero, post-zero, take-zero}
 
 -- a start answers by its table
-start-number : (en : Engine) (d : Device) (ws : List ℕ) (id : ℕ) (x : List ℕ)
-    → Answers (startBy en d ws id x .answer .number) (startOrder (d .settings) (seenIn d (en .words ws) (placeOf (d .settings) id)) x)
-    ((startBy en d ws id x .answer .device ≡ d) × (startBy en d ws id x .marks ≡ ws))
+start-number : (en : Engine) (d : Device) (ws : List ℕ) (m id : ℕ) (x : List ℕ)
+    → Answers (startBy en d ws m id x .answer .number) (startOrder (d .settings) m (seenIn d (en .words ws) (placeOf (d .settings) id)) x)
+    ((startBy en d ws m id x .answer .device ≡ d) × (startBy en d ws m id x .marks ≡ ws))
 unfolding startBy
-start-number en d ws id x =
+start-number en d ws m id x =
     answers (Change Started) (λ c. c .answer .number) (λ c. (c .answer .device ≡ d) × (c .marks ≡ ws))
-    (startOrder (d .settings) (seenIn d (en .words ws) (placeOf (d .settings) id)) x) (startDone en d ws x (placeOf (d .settings) id)) (λ n i. startedWith n i d ws)
-    (start-zero en d ws x (placeOf (d .settings) id)) (λ n i. refl) (λ n i. (refl, refl))
+    (startOrder (d .settings) m (seenIn d (en .words ws) (placeOf (d .settings) id)) x) (startDone en d ws m x (placeOf (d .settings) id)) (λ n i. startedWith n i d ws)
+    (start-zero en d ws m x (placeOf (d .settings) id)) (λ n i. refl) (λ n i. (refl, refl))
 
 -- a count over 16, and a smaller one, to the structure's reader
 many-said : (x : List ℕ) → 8 ≤ length x → getD x 0 0 ≡ 0 → 16 < countOf x → startData x .header ≡ Refused 18 4
@@ -56,34 +58,35 @@ none-said : (x : List ℕ) → 16 ≤ length x → getD x 0 0 ≡ 0 → numberAt
 unfolding reportTests
 none-said x l v g m n = rw (le-leb 16 (length x) l, eq-eqb (getD x 0 0) 0 v, le-leb (numberAt x 8 2) 20 g, eq-eqb (getD x 1 0 % 2) 1 m, eq-eqb (numberAt x 4 4) 0 n)
 
--- a start's first eight tests
-eight : (s : Settings) (v : Seen) (x : List ℕ)
-    → take 8 (startOrder s v x)
+-- a start's first nine tests
+nine : (s : Settings) (m : ℕ) (v : Seen) (x : List ℕ)
+    → take 9 (startOrder s m v x)
     ≡ (v .sound else 1)
+    ∷ (isManager s m else 2)
     ∷ (v .known else 2)
     ∷ (not (v .suspended) else 4)
-    ∷ (not (v .tracked) else 3)
+    ∷ (not (isSome (v .tracker)) else 3)
     ∷ (leb 8 (length x) else 8)
     ∷ (eqb (getD x 0 0) 0 else 6)
     ∷ (leb (s .least) (getD x 3 0) && leb (getD x 3 0) (s .greatest) else 7)
     ∷ (leb (8 + 12 * numberAt x 4 4) (length x) else 8)
     ∷ []
 unfolding granularityOk
-eight s v x = refl
+nine s m v x = refl
 
 -- W6: a part on marks or an area of another size
-lent : (d : Device) (words : ℕ) (area : List ℕ) (id : ℕ) (p : Part) → (words ≢ 256) ⊎ (length area ≢ 4096) → partChange d words area id p .answer .number ≡ 1
+lent : (d : Device) (words : ℕ) (area : List ℕ) (m id : ℕ) (p : Part) → (words ≢ 256) ⊎ (length area ≢ 4096) → partChange d words area m id p .answer .number ≡ 1
 unfolding partChange soundWith
-lent d words area id p (inl h) = rw (ne-eqb words 256 h, and-false (soundDevice d))
-lent d words area id p (inr h) = rw (ne-eqb (length area) 4096 h, and-false (soundDevice d && eqb words 256))
+lent d words area m id p (inl h) = rw (ne-eqb words 256 h, and-false (soundDevice d))
+lent d words area m id p (inr h) = rw (ne-eqb (length area) 4096 h, and-false (soundDevice d && eqb words 256))
 
 -- a suspend leaves an open sequence
-leaves : (d : Device) (words id kind : ℕ) → suspendChange d words id kind .device .sequence ≡ d .sequence
+leaves : (d : Device) (words m id kind : ℕ) → suspendChange d words m id kind .device .sequence ≡ d .sequence
 unfolding suspendChange
-leaves d words id kind =
+leaves d words m id kind =
     let p = placeOf (d .settings) id in
     verdict-has (λ (c : Changed). c .device .sequence ≡ d .sequence) (λ n i. record { number = n; device = d }) (λ n i. refl)
-    (suspendOrder (seenIn d words p) kind) (flagDone d p (controllerAt d p .suspended || eqb kind 1)) (λ q. at p)
+    (suspendOrder (d .settings) m (seenIn d words p) kind) (flagDone d p (controllerAt d p .suspended || eqb kind 1)) (λ q. at p)
   where
     at : (p : Option ℕ) → flagDone d p (controllerAt d p .suspended || eqb kind 1) .device .sequence ≡ d .sequence
     at none = refl
@@ -101,21 +104,21 @@ mark-calls en =
       fresh = fresh-answers en;
       start = start-number en;
       row = row-is en;
-      names = λ d ws id x.
+      names = λ d ws m id x.
           let v = seenIn d (en .words ws) (placeOf (d .settings) id) in
-          rw (start-number en d ws id x .first, row-is en d ws id x) (names (d .settings) v x, early (d .settings) v x);
-      stop = λ d ws id.
+          rw (start-number en d ws m id x .first, row-is en d ws m id x) (names (d .settings) m v x, early (d .settings) m v x);
+      stop = λ d ws m id.
           answers (Change Changed) (λ c. c .answer .number) (λ c. (c .answer .device ≡ d) × (c .marks ≡ ws))
-          (stopOrder (seenIn d (en .words ws) (placeOf (d .settings) id))) (stopDone en d ws (placeOf (d .settings) id)) (λ n i. changed n d ws)
+          (stopOrder (d .settings) m (seenIn d (en .words ws) (placeOf (d .settings) id))) (stopDone en d ws (placeOf (d .settings) id)) (λ n i. changed n d ws)
           (stop-zero en d ws (placeOf (d .settings) id)) (λ n i. refl) (λ n i. (refl, refl));
       write = λ d ws id w.
           answers Note (λ c. c .answer .number) (λ c. (c .answer .count ≡ 0) × (c .marks ≡ ws))
           (writeOrder (seenIn d (en .words ws) (placeOf (d .settings) id)) w) (writeDone en d ws w (placeOf (d .settings) id)) (λ n i. noted n 0 ws)
           (write-zero en d ws w (placeOf (d .settings) id)) (λ n i. refl) (λ n i. (refl, refl));
-      receive = λ d ws id x.
+      receive = λ d ws m id x.
           answers Receipt (λ r. r .answer .number)
           (λ r. (r .answer ≡ record { number = r .answer .number; suspended = false; more = false; granularity = 0; runs = 0; groups = 0 }) × (r .marks ≡ ws) × (r .buffer ≡ x))
-          (receiveOrder (seenIn d (en .words ws) (placeOf (d .settings) id)) x) (receiveDone en d ws id x (placeOf (d .settings) id)) (λ n i. received n noReport ws x)
+          (receiveOrder (d .settings) m (seenIn d (en .words ws) (placeOf (d .settings) id)) x) (receiveDone en d ws id x (placeOf (d .settings) id)) (λ n i. received n noReport ws x)
           (receive-zero en d ws id x (placeOf (d .settings) id)) (λ n i. refl) (λ n i. (refl, refl, refl));
       says = receive-says en;
     }
@@ -128,26 +131,29 @@ demand-1 =
       fresh-order = λ s words. refl;
       sees = λ d words i. (sees-sound d words, refl, refl);
       sees-nobody = λ d words. (sees-sound d words, refl);
-      sees-off = λ d words i e. ap isOn e;
-      sees-on = λ d words i g n e. ap isOn e;
-      stop-order = λ v. refl;
+      sees-off = λ d words i e. ap (λ t. trackedBy t (controllerAt d (some i) .manager)) e;
+      sees-on = λ d words i g n e. ap (λ t. trackedBy t (controllerAt d (some i) .manager)) e;
+      tracks = λ m t. (refl, refl);
+      managers = λ s m. (manager-named s m, named-manager s m);
+      limits = λ s m limit ok n. limit-named s ok m limit n;
+      stop-order = λ s m v. refl;
       write-order = λ v w. refl;
-      receive-order = λ v x. refl;
-      suspend-order = λ v kind. refl;
-      resume-order = λ v. refl;
-      before = eight;
-      suspend = λ d words id kind.
+      receive-order = λ s m v x. refl;
+      suspend-order = λ s m v kind. refl;
+      resume-order = λ s m v. refl;
+      before = nine;
+      suspend = λ d words m id kind.
           answers Changed (λ c. c .number) (λ c. c .device ≡ d)
-          (suspendOrder (seenIn d words (placeOf (d .settings) id)) kind)
+          (suspendOrder (d .settings) m (seenIn d words (placeOf (d .settings) id)) kind)
           (flagDone d (placeOf (d .settings) id) (controllerAt d (placeOf (d .settings) id) .suspended || eqb kind 1)) (λ n i. record { number = n; device = d })
           (flag-zero d (placeOf (d .settings) id) (controllerAt d (placeOf (d .settings) id) .suspended || eqb kind 1)) (λ n i. refl) (λ n i. refl);
-      resume = λ d words id.
+      resume = λ d words m id.
           answers Changed (λ c. c .number) (λ c. c .device ≡ d)
-          (resumeOrder (seenIn d words (placeOf (d .settings) id))) (resumeDone d id (placeOf (d .settings) id)) (λ n i. record { number = n; device = d })
+          (resumeOrder (d .settings) m (seenIn d words (placeOf (d .settings) id))) (resumeDone d id (placeOf (d .settings) id)) (λ n i. record { number = n; device = d })
           (resume-zero d id (placeOf (d .settings) id)) (λ n i. refl) (λ n i. refl);
-      part = λ d words area id p.
+      part = λ d words area m id p.
           answers Arrival (λ a. a .answer .number) (λ a. (a .answer .whole ≡ 0) × (a .answer .device ≡ d) × (a .area ≡ area))
-          (partOrder (seenIn d words (placeOf (d .settings) id)) (arrivingIn (d .sequence) area id) p) (partDone d area id p) (λ n j. arrival n 0 d area)
+          (partOrder (d .settings) m (seenIn d words (placeOf (d .settings) id)) (arrivingIn (d .sequence) area id) p) (partDone d area id p) (λ n j. arrival n 0 d area)
           (part-zero d area id p) (λ n j. refl) (λ n j. (refl, refl, refl));
       make = λ d words id bytes.
           answers Changed (λ c. c .number) (λ c. c .device ≡ d) (queueOrder (seenIn d words (placeOf (d .settings) id)) bytes order.make) (makeDone d bytes (placeOf (d .settings) id))
@@ -167,7 +173,7 @@ demand-1 =
       sees-none = λ d words i e. (ap placesOf e, ap hasStopped e);
       sees-queue = λ d words i r e. (ap placesOf e, ap hasStopped e);
       part-lent = lent;
-      part-order = λ v a p. refl;
+      part-order = λ s m v a p. refl;
       part-next = λ f p. (refl, refl);
       part-others = λ area id owner end. (refl, refl);
       suspend-leaves = leaves;

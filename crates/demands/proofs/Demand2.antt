@@ -17,15 +17,15 @@ use Rattle.little.specs.Little.{put}
 use Rattle.little.proofs.Put.{put-take-front}
 use Rattle.rules.specs.Lists.{join, placeFrom}
 use Rattle.rules.specs.Refusals.{Test, passes}
-use Rattle.rules.specs.Settings.{markWords, mostUnits, identifiersOf, placeOf, granularityOk}
+use Rattle.rules.specs.Settings.{markWords, mostUnits, identifiersOf, isManager, limitOf, placeOf, granularityOk}
 use Rattle.rules.specs.Units.{Unit, Write, units, touches, mark, newly}
 use Rattle.rules.specs.Ranges.{powersOk}
 use Rattle.rules.specs.StartData.{granularityOf, countOf, rangesOf, headerTests}
 use Rattle.rules.specs.Report.{descriptor, room, reportOn, marksLeft, reportedRuns, reportBytes}
 use Rattle.rules.specs.Order.{Op, start, stop, write, receive, Part, Seen, order, startWho, startListed, startOwn, startShared, startOrder, stopOrder, writeOrder, receiveOrder, suspendOrder, resumeOrder, partOrder, isLast, joinedWith, offsetOf}
 use Rattle.rules.specs.Device.{cleaned, freshDevice, freshOf, soundDevice}
-use Rattle.rules.specs.Machine.{off, on, Slot, isSuspended, refused, noReport, State, pendingIn, countsIn, unitsIn, seenAt, slotOf, slotAt, Call, step, fresh, lent}
-use Rattle.rules.specs.History.{Did, pendingBy, PendingBy, tracksBy, suspendedBy, marksBy, slotBy}
+use Rattle.rules.specs.Machine.{off, on, Slot, isSuspended, refused, noReport, State, pendingIn, managedIn, countsIn, unitsIn, seenAt, slotOf, slotAt, Call, step, fresh, lent}
+use Rattle.rules.specs.History.{Did, pendingBy, PendingBy, tracksBy, managerBy, suspendedBy, marksBy, slotBy}
 use Rattle.rules.specs.Demands.{sessionEnd, UnitsListed}
 use Rattle.rules.specs.declared.Range.{Range}
 use Rattle.rules.specs.declared.Settings.{Settings}
@@ -55,11 +55,14 @@ use Rattle.calls.specs.declared.Changed.{Changed}
 use Rattle.calls.specs.declared.Started.{Started as StartAnswer}
 use Rattle.calls.specs.declared.StateSet.{StateSet}
 use Rattle.calls.specs.Calls.{freshBy, inWords, receiveBy, startBy, stopBy, writeBy, marksAt, withMarks, freshChange, Change, changed, startedWith, startDone, startChange, stopDone, stopChange, flagDone, suspendChange, dropped, resumeDone, resumeChange, Note, noted, noteIn, writeDone, writeNote, Receipt, received, receiveIn, receiveDone, receiveReceipt, Arrival, partChange, partDone, arrival}
-use Rattle.demands.specs.View.{marksOf, slotOf as slotSeen, frontAt, view, run}
+use Rattle.demands.specs.View.{marksOf, managerIn, slotOf as slotSeen, frontAt, view, run}
 use Rattle.demands.specs.Sessions.{Left, Given, Sized, begun, outcome, next, endOf, historyIn}
 use Rattle.demands.specs.Parts.{wholeBy, IsFinal, arriving, Arrives}
 use Rattle.demands.specs.Soundness.{baseAt}
-use Rattle.demands.specs.Demand2.{pendingOf, Shaped, Steps, bitOf, sizeAt, toldOf, Elsewhere, Kept, flaggedAt, Resumed, Started, Stopped, Wrote, Received, Tracked, Moves, starts, stops, writes, Stands, Keeps, Demand2}
+use Rattle.demands.specs.Demand2.{pendingOf, Shaped, Steps, bitOf, sizeAt, toldOf, Elsewhere, Kept, flaggedAt, Resumed, Started, Stopped, Wrote, Received, Tracked, refusedOn, Moves, starts, stops, writes, Stands, Keeps, Demand2}
+use Rattle.demands.specs.Managers.{Manages, IsManager, CallOf}
+use Rattle.demands.specs.Managers as by
+use Rattle.demands.proofs.ManagerLaws.{tracker-known, named-manager, not-named, limit-named}
 use Rattle.demands.proofs.MarkLaws.{put-bit, put-elsewhere}
 use Rattle.demands.proofs.ViewLaws.{Listed, Totalled, Fits, slot-at, seen-same, placeOf-used, front-own}
 use Rattle.demands.proofs.StepLaws.{not-on, is-on, listed-some, order-numbers, call-step}
@@ -139,25 +142,25 @@ module _ (l : Left) (fits : Fits (l .device) (l .marks) (l .area)) (a i : ℕ) (
   unfolding soundWith
   sound-from e = and-left (soundDevice dev) _ e
 
-  starts-so : (x : List ℕ)
-      → let r = startChange dev ws a x in
-      r .answer .number ≡ 0 → Started dev ws i (granularityOf x) (countOf x) (rangesOf x) (r .answer .device) (r .marks)
+  starts-so : (b : ℕ) (x : List ℕ)
+      → let r = startChange dev ws b a x in
+      r .answer .number ≡ 0 → Started dev ws b i (granularityOf x) (countOf x) (rangesOf x) (r .answer .device) (r .marks)
   unfolding startBy order
-  starts-so x e =
-      let r = verdict-done (λ (k : Change StartAnswer). k .answer .number) (startOrder (dev .settings) (seenIn dev (length ws) (some i)) x) (startDone inWords dev ws x (some i)) (λ n j. startedWith n j dev ws)
-      (λ n j. refl) (order-numbers (dev .settings) (seenIn dev (length ws) (some i)) (arrivingIn (dev .sequence) (l .area) a) (start x)) (rw at at e) in
-      let running : own .suspended ≡ false = not-true (own .suspended) (r .1 .1 .1 .0) in
-      let p = startOrder-passed (dev .settings) (seenIn dev (length ws) (some i)) x (r .1) in
-      rw at (subst (λ (k : Change StartAnswer). Started dev ws i (granularityOf x) (countOf x) (rangesOf x) (k .answer .device) (k .marks)) (sym (r .0))
-      (packs-start dev ws (l .area) fits (sound-from (r .1 .0)) i in-use x running (not-on (own .tracking) (p .untracked)) p))
+  starts-so b x e =
+      let r = verdict-done (λ (k : Change StartAnswer). k .answer .number) (startOrder (dev .settings) b (seenIn dev (length ws) (some i)) x) (startDone inWords dev ws b x (some i)) (λ n j. startedWith n j dev ws)
+      (λ n j. refl) (order-numbers (dev .settings) (seenIn dev (length ws) (some i)) (arrivingIn (dev .sequence) (l .area) a) (start b x)) (rw at at e) in
+      let running : own .suspended ≡ false = not-true (own .suspended) (r .1 .1 .1 .1 .0) in
+      let p = startOrder-passed (dev .settings) b (seenIn dev (length ws) (some i)) x (r .1) in
+      rw at (subst (λ (k : Change StartAnswer). Started dev ws b i (granularityOf x) (countOf x) (rangesOf x) (k .answer .device) (k .marks)) (sym (r .0))
+      (packs-start dev ws (l .area) fits (sound-from (r .1 .0)) i in-use b x running (not-on (own .tracking) (own .manager) (p .untracked)) p))
 
-  stops-so : let r = stopChange dev ws a in r .answer .number ≡ 0 → Stopped dev ws i (r .answer .device) (r .marks)
+  stops-so : (b : ℕ) → let r = stopChange dev ws b a in r .answer .number ≡ 0 → Stopped dev ws i (r .answer .device) (r .marks)
   unfolding stopBy order
-  stops-so e =
-      let r = verdict-done (λ (k : Change Changed). k .answer .number) (stopOrder (seenIn dev (length ws) (some i))) (stopDone inWords dev ws (some i)) (λ n j. changed n dev ws)
-      (λ n j. refl) (order-numbers (dev .settings) (seenIn dev (length ws) (some i)) (arrivingIn (dev .sequence) (l .area) a) stop) (rw at at e) in
-      let running : own .suspended ≡ false = not-true (own .suspended) (r .1 .1 .1 .0) in
-      let o = is-on (own .tracking) (r .1 .1 .1 .1 .0) in
+  stops-so b e =
+      let r = verdict-done (λ (k : Change Changed). k .answer .number) (stopOrder (dev .settings) b (seenIn dev (length ws) (some i))) (stopDone inWords dev ws (some i)) (λ n j. changed n dev ws)
+      (λ n j. refl) (order-numbers (dev .settings) (seenIn dev (length ws) (some i)) (arrivingIn (dev .sequence) (l .area) a) (stop b)) (rw at at e) in
+      let running : own .suspended ≡ false = not-true (own .suspended) (r .1 .1 .1 .1 .0) in
+      let o = is-on (own .tracking) (own .manager) b (r .1 .1 .1 .1 .1 .0) in
       let sure = sound-from (r .1 .0) in
       rw at (subst (λ (k : Change Changed). Stopped dev ws i (k .answer .device) (k .marks)) (sym (r .0))
       (clears-stop dev ws (l .area) fits sure i in-use (o .0) (o .1) (o .2) (listed-some dev ws (l .area) fits sure i in-use (o .0) (o .1) (o .2)) running))
@@ -199,11 +202,11 @@ module _ (l : Left) (fits : Fits (l .device) (l .marks) (l .area)) (a i : ℕ) (
       go sure Off e = as-were
       go sure (On g n) e = put-so sure g n e (mark w (mine sure g n e) (marksAt ws (own .base) (length (mine sure g n e)))) (mark-length w (mine sure g n e) _ (as-many sure g n e))
 
-  receives-so : (x : List ℕ) → Elsewhere (baseAt dev i) (sizeAt dev i) ws (receiveReceipt dev ws a x .marks)
+  receives-so : (b : ℕ) (x : List ℕ) → Elsewhere (baseAt dev i) (sizeAt dev i) ws (receiveReceipt dev ws b a x .marks)
   unfolding receiveBy
-  receives-so x =
+  receives-so b x =
       rw at (verdict-has (λ (k : Receipt). Elsewhere (baseAt dev i) (sizeAt dev i) ws (k .marks)) (λ n j. received n noReport ws x) (λ n j. as-were)
-      (receiveOrder (seenIn dev (length ws) (some i)) x) (receiveDone inWords dev ws a x (some i)) (λ p. go (sound-from (p .0)) (own .tracking) refl))
+      (receiveOrder (dev .settings) b (seenIn dev (length ws) (some i)) x) (receiveDone inWords dev ws a x (some i)) (λ p. go (sound-from (p .0)) (own .tracking) refl))
     where
       go : soundDevice dev ≡ true → (t : Tracking) → own .tracking ≡ t → Elsewhere (baseAt dev i) (sizeAt dev i) ws (receiveIn inWords ws (own .base) a (own .suspended) t (own .ranges) x .marks)
       go sure Off e = as-were
@@ -253,7 +256,19 @@ module _ (s : Settings) (m : Given) (ks : List Call) (sizes : Sized s m) (made :
   settings-kept : Kept s (d .settings)
   settings-kept =
       subst (Kept s) (sym settings-are)
-      (record { manager = refl; least = refl; greatest = refl; powers = refl; limit = refl; count = refl; identifiers = rw (sizes .places) })
+      (record { manager = refl; least = refl; greatest = refl; powers = refl; limit = refl; second = refl; shelf = refl; count = refl; identifiers = rw (sizes .places) })
+
+  -- W12: its managers are those that it was made with
+  known-same : (b : ℕ) → isManager (d .settings) b ≡ isManager s b
+  unfolding isManager
+  known-same b = ap (λ (t : Settings). isManager t b) settings-are
+
+  known-from : (b : ℕ) → IsManager s b → isManager (d .settings) b ≡ true
+  known-from b n = known-same b ∙ named-manager s b n
+
+  limit-same : (b : ℕ) → limitOf (d .settings) b ≡ limitOf s b
+  unfolding limitOf
+  limit-same b = ap (λ (t : Settings). limitOf t b) settings-are
 
   module _ (a : ℕ) where
     abbrev h : List Did
@@ -286,6 +301,9 @@ module _ (s : Settings) (m : Given) (ks : List Call) (sizes : Sized s m) (made :
       flag-is : c .suspended ≡ suspendedBy false h
       flag-is = ap isSuspended is-slot
 
+      manager-is : managerIn (c .tracking) (c .manager) ≡ managerBy h
+      manager-is = ap (λ (z : Slot). z .manager) is-slot
+
       marks-are : marksOf inWords l (c .base) (c .tracking) (c .ranges) ≡ marksBy h (tracksBy none h)
       marks-are = ap (λ (z : Slot). z .marks) is-slot
 
@@ -307,11 +325,11 @@ module _ (s : Settings) (m : Given) (ks : List Call) (sizes : Sized s m) (made :
 
       -- ---- suspend and resume
 
-      is-suspend : (kind : ℕ)
-          → let r = suspendChange d (length l) a kind in
+      is-suspend : (b kind : ℕ) → IsManager s b
+          → let r = suspendChange d (length l) b a kind in
           ((r .number ≡ 0) ↔ (kind ≤ 1)) × (r .number ≡ 0 → r .device ≡ flaggedAt d i (suspendedBy false h || eqb kind 1))
       unfolding suspendChange
-      is-suspend kind = rw (place, sure) (go (leb kind 1) refl)
+      is-suspend b kind known = rw (place, sure, known-from b known) (go (leb kind 1) refl)
         where
           go : (b : Bool) → leb kind 1 ≡ b
               → let r = cond b (flagDone d (some i) (c .suspended || eqb kind 1)) (record { number = 15; device = d }) in
@@ -319,9 +337,9 @@ module _ (s : Settings) (m : Given) (ks : List Call) (sizes : Sized s m) (made :
           go true e = (((λ z. leb-true kind 1 e), (λ z. refl)), (λ z. rw flag-is))
           go false e = (((λ z. absurd (omega (arith, z))), (λ k. absurd (omega (arith, leb-false kind 1 e)))), (λ z. absurd (omega (arith, z))))
 
-      is-resume : let r = resumeChange d (length l) a in ((r .number ≡ 0) ↔ (suspendedBy false h ≡ true)) × (r .number ≡ 0 → Resumed d a i (r .device))
+      is-resume : (b : ℕ) → IsManager s b → let r = resumeChange d (length l) b a in ((r .number ≡ 0) ↔ (suspendedBy false h ≡ true)) × (r .number ≡ 0 → Resumed d a i (r .device))
       unfolding resumeChange
-      is-resume = rw (place, sure) (go (c .suspended) flag-is)
+      is-resume b known = rw (place, sure, known-from b known) (go (c .suspended) flag-is)
         where
           resumed : Resumed d a i (resumeDone d a (some i) .device)
           resumed = record { flag = refl; drops = λ end e. rw (e, eq-eqb a a refl); keeps = dropped-other a (d .sequence) }
@@ -358,34 +376,39 @@ module _ (s : Settings) (m : Given) (ks : List Call) (sizes : Sized s m) (made :
       unfolding granularityOk powersOk
       listed-same x = ap (λ (t : Settings). startListed t x) settings-are
 
-      may-start : (x : List ℕ) → suspendedBy false h ≡ false → tracksBy none h ≡ none → passes (headerTests x ++ startListed s x) ≡ true
+      may-start : (b limit : ℕ) (x : List ℕ) → Manages s b limit → suspendedBy false h ≡ false → tracksBy none h ≡ none → passes (headerTests x ++ startListed s x) ≡ true
           → length (units (granularityOf x) (rangesOf x)) + unitsIn (sessionEnd s (length (m .marks)) ks) ≤ 16384
-          → countOf x + countsIn (sessionEnd s (length (m .marks)) ks) ≤ s .limit → startChange d l a x .answer .number ≡ 0
+          → countOf x + managedIn (sessionEnd s (length (m .marks)) ks) b ≤ limit → countOf x + countsIn (sessionEnd s (length (m .marks)) ks) ≤ s .shelf → startChange d l b a x .answer .number ≡ 0
       unfolding startBy
-      may-start x e idle ok fit few =
+      may-start b limit x named e idle ok fit few all =
           let v = seenIn d (length l) (some i) in
           let seen = subst (λ q. seenIn d (length l) q ≡ seenAt (view inWords d l area qs) q) place (seen-same d l area qs fits a) in
+          let managed : v .managed b ≡ managedIn (sessionEnd s (length (m .marks)) ks) b = ap (λ (z : Seen). z .managed b) seen ∙ ap (λ (st : State). managedIn st b) (session s m ks sizes .state) in
           let counts : v .counts ≡ countsIn (sessionEnd s (length (m .marks)) ks) = ap (λ (z : Seen). z .counts) seen ∙ ap countsIn (session s m ks sizes .state) in
           let units-held : v .units ≡ unitsIn (sessionEnd s (length (m .marks)) ks) = ap (λ (z : Seen). z .units) seen ∙ ap unitsIn (session s m ks sizes .state) in
           let structure : Passed (headerTests x ++ startListed (d .settings) x) = subst (λ (ts : List Test). Passed (headerTests x ++ ts)) (sym (listed-same x)) (passes-Passed (headerTests x ++ startListed s x) ok) in
-          let who : Passed (startWho v) = (sure, (refl, (not-intro (c .suspended) (flag-is ∙ e), (rw (is-off idle) refl, tt)))) in
-          let limit : d .settings .limit ≡ s .limit = ap (λ (t : Settings). t .limit) settings-are in
-          let shared : Passed (startShared (d .settings) (v .counts) (v .units) x) = (
+          let who : Passed (startWho (d .settings) b v) = (sure, (known-from b (limit, named), (refl, (not-intro (c .suspended) (flag-is ∙ e), (rw (is-off idle) refl, tt))))) in
+          let its : limitOf (d .settings) b ≡ limit = limit-same b ∙ limit-named s (fresh-done s (m .marks) made .0) b limit named in
+          let shelf : d .settings .shelf ≡ s .shelf = ap (λ (t : Settings). t .shelf) settings-are in
+          let shared : Passed (startShared (d .settings) b (v .units) (v .managed b) (v .counts) x) = (
             le-leb (length (units (granularityOf x) (rangesOf x)) + v .units) mostUnits (omega (arith, fit, units-held)),
-            (le-leb (countOf x + v .counts) (d .settings .limit) (omega (arith, few, counts, limit)), tt),
+            (
+              le-leb (countOf x + v .managed b) (limitOf (d .settings) b) (omega (arith, few, managed, its)),
+              (le-leb (countOf x + v .counts) (d .settings .shelf) (omega (arith, all, counts, shelf)), tt),
+            ),
           ) in
           rw place
           (ap (λ (k : Change StartAnswer). k .answer .number)
-          (verdict-passed (startOrder (d .settings) v x) (startDone inWords d l x (some i)) (λ n j. startedWith n j d l)
-          (All-append (λ (t : Test). t .ok ≡ true) (startOwn (d .settings) v x) (startShared (d .settings) (v .counts) (v .units) x)
-          (All-append (λ (t : Test). t .ok ≡ true) (startWho v) (headerTests x ++ startListed (d .settings) x) who structure) shared)))
+          (verdict-passed (startOrder (d .settings) b v x) (startDone inWords d l b x (some i)) (λ n j. startedWith n j d l)
+          (All-append (λ (t : Test). t .ok ≡ true) (startOwn (d .settings) b v x) (startShared (d .settings) b (v .units) (v .managed b) (v .counts) x)
+          (All-append (λ (t : Test). t .ok ≡ true) (startWho (d .settings) b v) (headerTests x ++ startListed (d .settings) x) who structure) shared)))
 
       -- ---- suspended, as its calls and answers tell
 
-      is-refused : suspendedBy false h ≡ true → (o : Op) → Moves o → outcome inWords (endOf inWords s m ks) (record { id = a; op = o }) ≡ record { answer = refused 4 0; device = d; marks = l; area = area; queues = qs; bytes = lent o }
+      is-refused : suspendedBy false h ≡ true → (o : Op) → Moves s o → outcome inWords (endOf inWords s m ks) (record { id = a; op = o }) ≡ refusedOn (endOf inWords s m ks) o 4
       unfolding run startBy stopBy writeBy
-      is-refused e o (starts x) = rw (place, sure, flag-is, e)
-      is-refused e o stops = rw (place, sure, flag-is, e)
+      is-refused e o (starts b x known) = rw (place, sure, known-from b known, flag-is, e)
+      is-refused e o (stops b known) = rw (place, sure, known-from b known, flag-is, e)
       is-refused e o (writes w) = rw (place, sure, flag-is, e)
 
       -- ---- tracked, as its calls and answers tell
@@ -503,22 +526,44 @@ module _ (s : Settings) (m : Given) (ks : List Call) (sizes : Sized s m) (made :
               elsewhere = subst (λ j. Elsewhere (c .base) j l (withMarks l (c .base) q)) n (put-elsewhere l (fits .words) (c .base) q share);
             }
 
-        is-received : (x : List ℕ) → receiveReceipt d l a x .answer .number ≡ 0 → Received h a (c .base) g us x l (receiveReceipt d l a x)
+        is-received : (b : ℕ) (x : List ℕ) → receiveReceipt d l b a x .answer .number ≡ 0 → Received h a (c .base) g us x l (receiveReceipt d l b a x)
         unfolding receiveBy order
-        is-received x e =
-            let r = verdict-done (λ (k : Receipt). k .answer .number) (receiveOrder (seenIn d (length l) (some i)) x) (receiveDone inWords d l a x (some i)) (λ n j. received n noReport l x)
-            (λ n j. refl) (order-numbers (d .settings) (seenIn d (length l) (some i)) (arrivingIn (d .sequence) area a) (receive x)) (rw place at e) in
-            rw place (subst (Received h a (c .base) g us x l) (sym (r .0 ∙ rw (held .tracking, held .ranges, held .marks, flag-is))) (stored x (leb-true 32 (length x) (r .1 .1 .1 .1 .0))))
+        is-received b x e =
+            let r = verdict-done (λ (k : Receipt). k .answer .number) (receiveOrder (d .settings) b (seenIn d (length l) (some i)) x) (receiveDone inWords d l a x (some i)) (λ n j. received n noReport l x)
+            (λ n j. refl) (order-numbers (d .settings) (seenIn d (length l) (some i)) (arrivingIn (d .sequence) area a) (receive b x)) (rw place at e) in
+            rw place (subst (Received h a (c .base) g us x l) (sym (r .0 ∙ rw (held .tracking, held .ranges, held .marks, flag-is))) (stored x (leb-true 32 (length x) (r .1 .1 .1 .1 .1 .0))))
 
         -- ---- what is not refused
 
-        may-stop : suspendedBy false h ≡ false → stopChange d l a .answer .number ≡ 0
-        unfolding stopBy
-        may-stop e = rw (place, sure, flag-is, e, held .tracking)
+        -- W12: the manager that tracks it is the one that started it
+        who : c .manager ≡ managerBy h
+        who = sym (ap (λ (t : Tracking). managerIn t (c .manager)) (held .tracking)) ∙ manager-is
 
-        may-receive : (x : List ℕ) → 32 ≤ length x → receiveReceipt d l a x .answer .number ≡ 0
+        known : isManager (d .settings) (managerBy h) ≡ true
+        known = sym (ap (isManager (d .settings)) who) ∙ tracker-known d i g (held .n) sound used (omega (arith, inside, fits .controllers)) (held .tracking)
+
+        may-stop : suspendedBy false h ≡ false → stopChange d l (managerBy h) a .answer .number ≡ 0
+        unfolding stopBy
+        may-stop e = rw (place, sure, known, flag-is, e, held .tracking, eq-eqb (c .manager) (managerBy h) who)
+
+        may-receive : (x : List ℕ) → 32 ≤ length x → receiveReceipt d l (managerBy h) a x .answer .number ≡ 0
         unfolding receiveBy
-        may-receive x k = rw (place, sure, held .tracking, le-leb 32 (length x) k)
+        may-receive x k = rw (place, sure, known, held .tracking, eq-eqb (c .manager) (managerBy h) who, le-leb 32 (length x) k)
+
+        -- ---- what is refused
+
+        again : (b : ℕ) (x : List ℕ) → IsManager (d .settings) b → suspendedBy false h ≡ false → outcome inWords (endOf inWords s m ks) (record { id = a; op = start b x }) ≡ refusedOn (endOf inWords s m ks) (start b x) 3
+        unfolding run startBy
+        again b x n e = rw (place, sure, named-manager (d .settings) b n, flag-is, e, held .tracking)
+
+        other-stops : (b : ℕ) → IsManager (d .settings) b → b ≢ managerBy h → suspendedBy false h ≡ false
+            → outcome inWords (endOf inWords s m ks) (record { id = a; op = stop b }) ≡ refusedOn (endOf inWords s m ks) (stop b) 5
+        unfolding run stopBy
+        other-stops b n other e = rw (place, sure, named-manager (d .settings) b n, flag-is, e, held .tracking, ne-eqb (c .manager) b (λ z. other (sym z ∙ who)))
+
+        other-receives : (b : ℕ) (x : List ℕ) → IsManager (d .settings) b → b ≢ managerBy h → outcome inWords (endOf inWords s m ks) (record { id = a; op = receive b x }) ≡ refusedOn (endOf inWords s m ks) (receive b x) 5
+        unfolding run receiveBy
+        other-receives b x n other = rw (place, sure, named-manager (d .settings) b n, held .tracking, ne-eqb (c .manager) b (λ z. other (sym z ∙ who)))
 
         is-tracked : Tracked (endOf inWords s m ks) h a i g rs
         is-tracked =
@@ -530,6 +575,9 @@ module _ (s : Settings) (m : Given) (ks : List Call) (sizes : Sized s m) (made :
               size = size-is;
               may-stop = may-stop;
               may-receive = may-receive;
+              again = again;
+              other-stops = other-stops;
+              other-receives = other-receives;
             }
 
     -- ---- any controller
@@ -546,14 +594,24 @@ module _ (s : Settings) (m : Given) (ks : List Call) (sizes : Sized s m) (made :
         go (some i) k =
             rw (place i k) (verdict-has Idle (λ n i. noted n 0 l) (λ n i. (refl, refl)) (writeOrder (seenIn d (length l) (some i)) w) (writeDone inWords d l w (some i)) (λ t. rw (is-off i k e) (refl, refl)))
 
-    is-suspended : suspendedBy false h ≡ true → (o : Op) → Moves o → outcome inWords (endOf inWords s m ks) (record { id = a; op = o }) ≡ record { answer = refused 4 0; device = d; marks = l; area = area; queues = qs; bytes = lent o }
+    is-suspended : suspendedBy false h ≡ true → (o : Op) → Moves s o → outcome inWords (endOf inWords s m ks) (record { id = a; op = o }) ≡ refusedOn (endOf inWords s m ks) o 4
     is-suspended e = go (placeOf s a) refl
       where
-        go : (q : Option ℕ) → placeOf s a ≡ q → (o : Op) → Moves o → outcome inWords (endOf inWords s m ks) (record { id = a; op = o }) ≡ record { answer = refused 4 0; device = d; marks = l; area = area; queues = qs; bytes = lent o }
+        go : (q : Option ℕ) → placeOf s a ≡ q → (o : Op) → Moves s o → outcome inWords (endOf inWords s m ks) (record { id = a; op = o }) ≡ refusedOn (endOf inWords s m ks) o 4
         go none k = absurd (true≢false (sym e ∙ ap isSuspended (sym is-told ∙ ap (slotAt (view inWords d l area qs)) (place-of ∙ k))))
         go (some i) k = is-refused i k e
 
-    pub is-standing : Stands s (endOf inWords s m ks) h (countsIn (sessionEnd s (length (m .marks)) ks)) (unitsIn (sessionEnd s (length (m .marks)) ks)) a
+    -- W12: a manager that the settings do not name
+    is-unknown : (b : ℕ) (o : Op) → CallOf b o → (IsManager s b → ⊥) → outcome inWords (endOf inWords s m ks) (record { id = a; op = o }) ≡ refusedOn (endOf inWords s m ks) o 2
+    unfolding run startBy stopBy receiveBy suspendChange resumeChange partChange
+    is-unknown b o (by.starts x) h = rw (sure, known-same b ∙ not-named s b h)
+    is-unknown b o by.stops h = rw (sure, known-same b ∙ not-named s b h)
+    is-unknown b o (by.receives x) h = rw (sure, known-same b ∙ not-named s b h)
+    is-unknown b o (by.suspends kind) h = rw (sure, known-same b ∙ not-named s b h)
+    is-unknown b o by.resumes h = rw (sure, known-same b ∙ not-named s b h)
+    is-unknown b o (by.sends p) h = rw (sure, eq-eqb (length area) 4096 (fits .bytes), known-same b ∙ not-named s b h)
+
+    pub is-standing : let st = sessionEnd s (length (m .marks)) ks in Stands s (endOf inWords s m ks) h (unitsIn st) (managedIn st) (countsIn st) a
     is-standing =
         record {
           told = is-told;
@@ -561,11 +619,12 @@ module _ (s : Settings) (m : Given) (ks : List Call) (sizes : Sized s m) (made :
           untracked = is-idle;
           suspended = is-suspended;
           may-write = λ i w at. may-write i at w;
-          may-start = λ i x at. may-start i at x;
-          started = λ i x at. starts-so (endOf inWords s m ks) fits a i (place i at) x;
-          stopped = λ i at. stops-so (endOf inWords s m ks) fits a i (place i at);
-          suspends = λ i kind at. is-suspend i at kind;
-          resumes = λ i at. is-resume i at;
+          unknown = is-unknown;
+          may-start = λ b limit i x n at. may-start i at b limit x n;
+          started = λ b i x at. starts-so (endOf inWords s m ks) fits a i (place i at) b x;
+          stopped = λ b i at. stops-so (endOf inWords s m ks) fits a i (place i at) b;
+          suspends = λ b i kind n at. is-suspend i at b kind n;
+          resumes = λ b i n at. is-resume i at b n;
           parts = λ i at. is-arriving i at;
           queues = λ i at. is-logging i at;
         }
@@ -604,29 +663,29 @@ undisturbed s m ks sized k b other =
 unmoved : (l : Left) → Shaped inWords l → (k : Call) (b : ℕ) → k .id ≢ b → pendingOf inWords (next inWords l k) b ≡ pendingOf inWords l b
 unmoved l shaped k b other = apart l (next inWords l k) (view inWords (l .device) (l .marks) (l .area) (l .queues)) k b refl (is-step l shaped k .device) other
 
-suspends-so : (d : Device) (words a i : ℕ) → placeOf (d .settings) a ≡ some i → (kind : ℕ)
-    → let c = suspendChange d words a kind in
+suspends-so : (d : Device) (words a i : ℕ) → placeOf (d .settings) a ≡ some i → (b kind : ℕ)
+    → let c = suspendChange d words b a kind in
     c .number ≡ 0 → c .device ≡ flaggedAt d i (controllerAt d (some i) .suspended || eqb kind 1)
 unfolding suspendChange
-suspends-so d words a i place kind z =
-    let r = verdict-done (λ (c : Changed). c .number) (suspendOrder (seenIn d words (some i)) kind) (flagDone d (some i) (controllerAt d (some i) .suspended || eqb kind 1)) (λ n j. record { number = n; device = d })
-    (λ n j. refl) (omega arith, (omega arith, (omega arith, tt))) (rw place at z) in
+suspends-so d words a i place b kind z =
+    let r = verdict-done (λ (c : Changed). c .number) (suspendOrder (d .settings) b (seenIn d words (some i)) kind) (flagDone d (some i) (controllerAt d (some i) .suspended || eqb kind 1)) (λ n j. record { number = n; device = d })
+    (λ n j. refl) (omega arith, (omega arith, (omega arith, (omega arith, tt)))) (rw place at z) in
     rw place (ap (λ (c : Changed). c .device) (r .0))
 
-resumes-so : (d : Device) (words a i : ℕ) → placeOf (d .settings) a ≡ some i → let c = resumeChange d words a in c .number ≡ 0 → Resumed d a i (c .device)
+resumes-so : (d : Device) (words a i : ℕ) → placeOf (d .settings) a ≡ some i → (b : ℕ) → let c = resumeChange d words b a in c .number ≡ 0 → Resumed d a i (c .device)
 unfolding resumeChange
-resumes-so d words a i place z =
-    let r = verdict-done (λ (c : Changed). c .number) (resumeOrder (seenIn d words (some i))) (resumeDone d a (some i)) (λ n j. record { number = n; device = d })
-    (λ n j. refl) (omega arith, (omega arith, (omega arith, tt))) (rw place at z) in
+resumes-so d words a i place b z =
+    let r = verdict-done (λ (c : Changed). c .number) (resumeOrder (d .settings) b (seenIn d words (some i))) (resumeDone d a (some i)) (λ n j. record { number = n; device = d })
+    (λ n j. refl) (omega arith, (omega arith, (omega arith, (omega arith, tt)))) (rw place at z) in
     rw (place, r .0) (record { flag = refl; drops = λ end e. rw (e, eq-eqb a a refl); keeps = dropped-other a (d .sequence) })
 
-arrives-so : (d : Device) (words : ℕ) (area : List ℕ) (a i : ℕ) → placeOf (d .settings) a ≡ some i → (p : Part)
-    → let r = partChange d words area a p in
+arrives-so : (d : Device) (words : ℕ) (area : List ℕ) (a i : ℕ) → placeOf (d .settings) a ≡ some i → (m : ℕ) (p : Part)
+    → let r = partChange d words area m a p in
     r .answer .number ≡ 0 → r .answer .device ≡ arriving d (r .answer .device .sequence)
 unfolding partChange
-arrives-so d words area a i place p z =
+arrives-so d words area a i place m p z =
     verdict-has (λ (r : Arrival). r .answer .device ≡ arriving d (r .answer .device .sequence)) (λ n j. arrival n 0 d area) (λ n j. refl)
-    (partOrder (seenIn d words (placeOf (d .settings) a)) (arrivingIn (d .sequence) area a) p) (partDone d area a p) (λ q. by (isLast p))
+    (partOrder (d .settings) m (seenIn d words (placeOf (d .settings) a)) (arrivingIn (d .sequence) area a) p) (partDone d area a p) (λ q. by (isLast p))
   where
     by : (b : Bool)
         → let joined = joinedWith (frontIn a (d .sequence) area) p in
@@ -652,12 +711,12 @@ keeps l s a i e =
 -- ---- two divisions
 
 -- what a finishing part yields
-yielded : (s : Settings) (m : Given) (ks : List Call) → Sized s m → freshChange s (m .marks) .answer .number ≡ 0 → (a : ℕ) (p : Part)
+yielded : (s : Settings) (m : Given) (ks : List Call) → Sized s m → freshChange s (m .marks) .answer .number ≡ 0 → (b a : ℕ) (p : Part)
     → let l = endOf inWords s m ks in
-    let r = partChange (l .device) (length (l .marks)) (l .area) a p in
+    let r = partChange (l .device) (length (l .marks)) (l .area) b a p in
     let x = wholeBy (historyIn inWords s m ks a) p in
     r .answer .number ≡ 0 → IsFinal p → (r .answer .whole ≡ length x) × (take (r .answer .whole) (r .area) ≡ x)
-yielded s m ks ok e a p z f = go (placeOf s a) refl
+yielded s m ks ok e b a p z f = go (placeOf s a) refl
   where
     l : Left
     l = endOf inWords s m ks
@@ -666,26 +725,26 @@ yielded s m ks ok e a p z f = go (placeOf s a) refl
     x = wholeBy (historyIn inWords s m ks a) p
 
     r : Arrival
-    r = partChange (l .device) (length (l .marks)) (l .area) a p
+    r = partChange (l .device) (length (l .marks)) (l .area) b a p
 
     go : (q : Option ℕ) → placeOf s a ≡ q → (r .answer .whole ≡ length x) × (take (r .answer .whole) (r .area) ≡ x)
-    go none k = absurd (part-unknown (l .device) (length (l .marks)) (l .area) a p (place-of s m ks ok e a ∙ k) z)
+    go none k = absurd (part-unknown (l .device) (length (l .marks)) (l .area) b a p (place-of s m ks ok e a ∙ k) z)
     go (some i) k =
-        let y = is-arriving s m ks ok e a i k .yields p z f in
+        let y = is-arriving s m ks ok e a i k .yields b p z f in
         let n : r .answer .whole ≡ length x = ap (λ (q : StateSet). q .whole) (y .0) in
         (n, ap (λ t. take t (r .area)) n ∙ y .1)
 
-divided : (s : Settings) (m : Given) (ks : List Call) → Sized s m → freshChange s (m .marks) .answer .number ≡ 0 → (a : ℕ) (p : Part)
-    → (s′ : Settings) (m′ : Given) (ks′ : List Call) → Sized s′ m′ → freshChange s′ (m′ .marks) .answer .number ≡ 0 → (a′ : ℕ) (p′ : Part)
+divided : (s : Settings) (m : Given) (ks : List Call) → Sized s m → freshChange s (m .marks) .answer .number ≡ 0 → (b a : ℕ) (p : Part)
+    → (s′ : Settings) (m′ : Given) (ks′ : List Call) → Sized s′ m′ → freshChange s′ (m′ .marks) .answer .number ≡ 0 → (b′ a′ : ℕ) (p′ : Part)
     → let l = endOf inWords s m ks in
     let l′ = endOf inWords s′ m′ ks′ in
-    let r = partChange (l .device) (length (l .marks)) (l .area) a p in
-    let r′ = partChange (l′ .device) (length (l′ .marks)) (l′ .area) a′ p′ in
+    let r = partChange (l .device) (length (l .marks)) (l .area) b a p in
+    let r′ = partChange (l′ .device) (length (l′ .marks)) (l′ .area) b′ a′ p′ in
     r .answer .number ≡ 0 → r′ .answer .number ≡ 0 → IsFinal p → IsFinal p′ → wholeBy (historyIn inWords s m ks a) p ≡ wholeBy (historyIn inWords s′ m′ ks′ a′) p′
     → (r .answer .whole ≡ r′ .answer .whole) × (take (r .answer .whole) (r .area) ≡ take (r′ .answer .whole) (r′ .area))
-divided s m ks ok e a p s′ m′ ks′ ok′ e′ a′ p′ z z′ f f′ same =
-    let y = yielded s m ks ok e a p z f in
-    let y′ = yielded s′ m′ ks′ ok′ e′ a′ p′ z′ f′ in
+divided s m ks ok e b a p s′ m′ ks′ ok′ e′ b′ a′ p′ z z′ f f′ same =
+    let y = yielded s m ks ok e b a p z f in
+    let y′ = yielded s′ m′ ks′ ok′ e′ b′ a′ p′ z′ f′ in
     (y .0 ∙ ap length same ∙ sym (y′ .0), y .1 ∙ same ∙ sym (y′ .1))
 
 -- ---- all of it
@@ -698,6 +757,9 @@ demand-2 =
       steps = is-step;
       fresh = fresh-is;
       zeros = λ s. (refl, refl, refl);
+      cleaned = λ s e. record { manager = refl; least = refl; greatest = refl; powers = refl; limit = refl; second = refl; shelf = refl; count = refl; identifiers = rw e };
+      closed-settings = refl;
+      controller = λ d i c e. getElem?-at (d .controllers) i c noController e .1;
       bits = bit-at;
       place = is-place;
       settings = settings-kept;
@@ -707,7 +769,7 @@ demand-2 =
       found = is-found;
       keeps = keeps;
       queue-calls = λ l shaped a i at. queue-calls (l .device) (length (l .marks)) a i (shaped .controllers) at;
-      divided = λ s s′ m m′ ks ks′ ok ok′ e e′ a a′ p p′. divided s m ks ok e a p s′ m′ ks′ ok′ e′ a′ p′;
+      divided = λ s s′ m m′ ks ks′ ok ok′ e e′ b b′ a a′ p p′. divided s m ks ok e b a p s′ m′ ks′ ok′ e′ b′ a′ p′;
       runs = rules.demand-2 .runs;
       touches = rules.demand-2 .touches;
     }

@@ -18,7 +18,7 @@ use Rattle.rules.proofs.Theorems as rules
 use Rattle.calls.specs.Calls.{inWords}
 use Rattle.demands.specs.Sessions.{Given, Sized, historyIn}
 use Rattle.demands.specs.Demand2.{Equals}
-use Rattle.demands.specs.Demand3.{Agree, Shared, pool, limit, sequence, Demand3}
+use Rattle.demands.specs.Demand3.{Agree, Shared, pool, limit, shelf, sequence, Demand3}
 use Rattle.demands.proofs.ClosedLaws.{history-same, equals}
 
 -- two sessions that equal one of the rules agree
@@ -38,16 +38,18 @@ is-alone s a m ks sized f =
 
 -- an answer that is not refused for what controllers share
 free : (o : Op) (n : ℕ) → (Shared o n → ⊥) → member n (sharedRefusals o) ≡ false
-free (start x) n f =
+free (start m x) n f =
     false-intro _ (λ e.
-    or-cases (eqb 11 n) (eqb 12 n || false) ⊥ e (λ q. f (subst (Shared (start x)) (eqb-true 11 n q) (pool x)))
-    (λ r. or-cases (eqb 12 n) false ⊥ r (λ q. f (subst (Shared (start x)) (eqb-true 12 n q) (limit x))) (λ z. true≢false (sym z))))
-free stop n f = refl
+    or-cases (eqb 11 n) (eqb 12 n || (eqb 34 n || false)) ⊥ e (λ q. f (subst (Shared (start m x)) (eqb-true 11 n q) (pool m x)))
+    (λ r.
+    or-cases (eqb 12 n) (eqb 34 n || false) ⊥ r (λ q. f (subst (Shared (start m x)) (eqb-true 12 n q) (limit m x)))
+    (λ t. or-cases (eqb 34 n) false ⊥ t (λ q. f (subst (Shared (start m x)) (eqb-true 34 n q) (shelf m x))) (λ z. true≢false (sym z)))))
+free (stop m) n f = refl
 free (write w) n f = refl
-free (receive x) n f = refl
-free (suspend kind) n f = refl
-free resume n f = refl
-free (part p) n f = false-intro _ (λ e. or-cases (eqb 23 n) false ⊥ e (λ q. f (subst (Shared (part p)) (eqb-true 23 n q) (sequence p))) (λ z. true≢false (sym z)))
+free (receive m x) n f = refl
+free (suspend m kind) n f = refl
+free (resume m) n f = refl
+free (part m p) n f = false-intro _ (λ e. or-cases (eqb 23 n) false ⊥ e (λ q. f (subst (Shared (part m p)) (eqb-true 23 n q) (sequence m p))) (λ z. true≢false (sym z)))
 free (queue bytes k) n f = refl
 
 premise : (h : List Did) → ((i : ℕ) (d : Did) → getElem? h i ≡ some d → Shared (d .op) (numberOf (d .answer)) → ⊥) → unhindered h ≡ true

@@ -1,3 +1,4 @@
+pub mod ManagerLaws
 pub mod MarkLaws
 pub mod AlikeLaws
 pub mod ByteLaws

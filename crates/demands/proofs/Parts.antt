@@ -11,7 +11,7 @@ use lib.ListN.{length, take, drop, length-append}
 use borrow.Author.Tests.{leb-true, le-leb, ltb-true, lt-ltb, eqb-true, eq-eqb, eqb-false, not-true, not-false}
 use Rattle.little.specs.Little.{put}
 use Rattle.little.proofs.Put.{put-is}
-use Rattle.rules.specs.Settings.{markWords, placeOf}
+use Rattle.rules.specs.Settings.{markWords, isManager, placeOf}
 use Rattle.rules.specs.ControllerState.{stateMost, stateOk}
 use Rattle.rules.specs.Order.{Seen, Arriving, Part, offsetOf, isFirst, isLast, offsetOk, dataOk, followsOn, follows, joinedWith, joinedOk, partOrder}
 use Rattle.rules.specs.Device.{controllersOf, frontOk, suspendedAt, sequenceOk, soundDevice}
@@ -28,7 +28,9 @@ use Rattle.record.proofs.RecordLaws.{frontOf-length, frontOf-take, soundDevice-
 use Rattle.state_bytes.proofs.StateLaws.{stateOk-true, stateOk-is}
 use Rattle.controller_state.proofs.ArrivalLaws.{joined-stored}
 use Rattle.calls.specs.Calls.{Arrival, arrival, partDone, partChange}
+use Rattle.demands.specs.Managers.{IsManager}
 use Rattle.demands.specs.Parts.{beginsAt, wholeBy, StartsAnew, GoesBehind, IsFinal, IsMore, Fitting, Arrives}
+use Rattle.demands.proofs.ManagerLaws.{manager-named, named-manager}
 use Rattle.demands.proofs.ViewLaws.{Fits}
 use Rattle.demands.proofs.AnswerLaws.{part-zero}
 
@@ -70,13 +72,14 @@ first-behind p h e = go (eqb (p .indicator) 0) refl (eqb (p .indicator) 1) refl 
         inr (omega (arith, h, a, b, c))
 
 -- a part to a controller that the settings lack is refused
-pub part-unknown : (d : Device) (words : ℕ) (area : List ℕ) (id : ℕ) (p : Part) → placeOf (d .settings) id ≡ none → partChange d words area id p .answer .number ≢ 0
+pub part-unknown : (d : Device) (words : ℕ) (area : List ℕ) (b id : ℕ) (p : Part) → placeOf (d .settings) id ≡ none → partChange d words area b id p .answer .number ≢ 0
 unfolding partChange
-part-unknown d words area id p e = λ z. go (soundWith d words && eqb (length area) stateMost) (rw e at z)
+part-unknown d words area b id p e = λ z. go (soundWith d words && eqb (length area) stateMost) (isManager (d .settings) b) (rw e at z)
   where
-    go : (b : Bool) → (cond b (arrival 2 0 d area) (arrival 1 0 d area)) .answer .number ≢ 0
-    go true = λ z. absurd (omega (arith, z))
-    go false = λ z. absurd (omega (arith, z))
+    go : (x y : Bool) → (cond x (cond y (arrival 2 0 d area) (arrival 2 0 d area)) (arrival 1 0 d area)) .answer .number ≢ 0
+    go true true = λ z. absurd (omega (arith, z))
+    go true false = λ z. absurd (omega (arith, z))
+    go false y = λ z. absurd (omega (arith, z))
 
 module _ (d : Device) (ws area : List ℕ) (qs : ℕ → List ℕ) (fits : Fits d ws area) (a i : ℕ) (h : List Did) (place : placeOf (d .settings) a ≡ some i) (sure : soundDevice d ≡ true)
     (flag-is : controllerAt d (some i) .suspended ≡ suspendedBy false h) (front-is : frontIn a (d .sequence) area ≡ frontBy h) where
@@ -120,7 +123,7 @@ module _ (d : Device) (ws area : List ℕ) (qs : ℕ → List ℕ) (fits : Fits 
 
   -- ---- a part
 
-  module _ (p : Part) where
+  module _ (b : ℕ) (p : Part) where
     abbrev seen : Seen
     seen = seenIn d (length ws) (some i)
 
@@ -137,12 +140,13 @@ module _ (d : Device) (ws area : List ℕ) (qs : ℕ → List ℕ) (fits : Fits 
     unfolding soundWith
     sound = and-intro (soundDevice d) _ sure (eq-eqb (length ws) markWords (fits .words))
 
-    is-done : partChange d (length ws) area a p .answer .number ≡ 0 → (partChange d (length ws) area a p ≡ partDone d area a p) × PartPassed seen arriving p
+    is-done : partChange d (length ws) area b a p .answer .number ≡ 0
+        → (partChange d (length ws) area b a p ≡ partDone d area a p) × PartPassed seen arriving p × (isManager (d .settings) b ≡ true)
     unfolding partChange
     is-done e =
-        let r = verdict-done (λ (x : Arrival). x .answer .number) (partOrder seen arriving p) (partDone d area a p) (λ n j. arrival n 0 d area) (λ n j. refl)
-        (omega arith, (omega arith, (omega arith, (omega arith, (omega arith, (omega arith, (omega arith, (omega arith, tt)))))))) (rw place at e) in
-        rw place (r .0, partOrder-passed seen arriving p (r .1))
+        let r = verdict-done (λ (x : Arrival). x .answer .number) (partOrder (d .settings) b seen arriving p) (partDone d area a p) (λ n j. arrival n 0 d area) (λ n j. refl)
+        (omega arith, (omega arith, (omega arith, (omega arith, (omega arith, (omega arith, (omega arith, (omega arith, (omega arith, tt))))))))) (rw place at e) in
+        rw place (r .0, partOrder-passed (d .settings) b seen arriving p (r .1), r .1 .1 .0)
 
     -- ---- what it is asked
 
@@ -228,12 +232,12 @@ module _ (d : Device) (ws area : List ℕ) (qs : ℕ → List ℕ) (fits : Fits 
           extent true e n = omega (arith, n, f .anew (first-anew p e))
           extent false e n = omega (arith, n, f .behind (first-behind p (f .indicator) e) .1, length-append so-far (p .bytes))
 
-      may : suspendedBy false h ≡ true → ((owner end : ℕ) → d .sequence ≡ Open owner end → owner ≡ a) → partChange d (length ws) area a p .answer .number ≡ 0
+      may : IsManager (d .settings) b → suspendedBy false h ≡ true → ((owner end : ℕ) → d .sequence ≡ Open owner end → owner ≡ a) → partChange d (length ws) area b a p .answer .number ≡ 0
       unfolding partChange
-      may s own =
-          let passed : Passed (partOrder seen arriving p) =
-          (and-intro (soundWith d (length ws)) _ sound (eq-eqb (length area) stateMost (fits .bytes)), (refl, (flag-is ∙ s, (alone (d .sequence) refl, (offset-ok, (data-ok, (follow, (joined-ok, tt)))))))) in
-          rw place (ap (λ (x : Arrival). x .answer .number) (verdict-passed (partOrder seen arriving p) (partDone d area a p) (λ n j. arrival n 0 d area) passed) ∙ part-zero d area a p)
+      may known s own =
+          let passed : Passed (partOrder (d .settings) b seen arriving p) =
+          (and-intro (soundWith d (length ws)) _ sound (eq-eqb (length area) stateMost (fits .bytes)), (named-manager (d .settings) b known, (refl, (flag-is ∙ s, (alone (d .sequence) refl, (offset-ok, (data-ok, (follow, (joined-ok, tt))))))))) in
+          rw place (ap (λ (x : Arrival). x .answer .number) (verdict-passed (partOrder (d .settings) b seen arriving p) (partDone d area a p) (λ n j. arrival n 0 d area) passed) ∙ part-zero d area a p)
         where
           alone : (q : Sequence) → d .sequence ≡ q → not (othersIn a q) ≡ true
           alone Nothing e = refl
@@ -241,14 +245,14 @@ module _ (d : Device) (ws area : List ℕ) (qs : ℕ → List ℕ) (fits : Fits 
 
     -- ---- what an accepted one leaves
 
-    module _ (e : partChange d (length ws) area a p .answer .number ≡ 0) where
+    module _ (e : partChange d (length ws) area b a p .answer .number ≡ 0) where
       passed : PartPassed seen arriving p
       passed = is-done e .1
 
       told : whole ≡ wholeBy h p
       told = whole-told (passed .follow)
 
-      area-is : partChange d (length ws) area a p .area ≡ put area (offsetOf p) (p .bytes)
+      area-is : partChange d (length ws) area b a p .area ≡ put area (offsetOf p) (p .bytes)
       area-is = ap (λ (x : Arrival). x .area) (is-done e .0) ∙ go (isLast p)
         where
           go : (b : Bool) → (cond b (arrival 0 (length whole) (withSequence d Nothing) (put area (offsetOf p) (p .bytes))) (arrival 0 0 (withSequence d (Open a (length whole))) (put area (offsetOf p) (p .bytes)))) .area
@@ -256,15 +260,15 @@ module _ (d : Device) (ws area : List ℕ) (qs : ℕ → List ℕ) (fits : Fits 
           go true = refl
           go false = refl
 
-      own : partChange d (length ws) area a p .area ≡ (take (beginsAt p) area ++ p .bytes) ++ drop (beginsAt p + length (p .bytes)) area
+      own : partChange d (length ws) area b a p .area ≡ (take (beginsAt p) area ++ p .bytes) ++ drop (beginsAt p + length (p .bytes)) area
       own = area-is ∙ put-is area (offsetOf p) (p .bytes) (inside (fitting passed))
 
-      goes-on : IsMore p → partChange d (length ws) area a p .answer ≡ record { number = 0; whole = 0; device = withSequence d (Open a (length (wholeBy h p))) }
+      goes-on : IsMore p → partChange d (length ws) area b a p .answer ≡ record { number = 0; whole = 0; device = withSequence d (Open a (length (wholeBy h p))) }
       goes-on m = ap (λ (x : Arrival). x .answer) (is-done e .0) ∙ rw (more-last p m) (ap (λ x. record { number = 0; whole = 0; device = withSequence d (Open a (length x)) }) told)
 
       yields : IsFinal p
-          → (partChange d (length ws) area a p .answer ≡ record { number = 0; whole = length (wholeBy h p); device = withSequence d Nothing })
-          × (take (length (wholeBy h p)) (partChange d (length ws) area a p .area) ≡ wholeBy h p)
+          → (partChange d (length ws) area b a p .answer ≡ record { number = 0; whole = length (wholeBy h p); device = withSequence d Nothing })
+          × (take (length (wholeBy h p)) (partChange d (length ws) area b a p .area) ≡ wholeBy h p)
       yields f = (
         ap (λ (x : Arrival). x .answer) (is-done e .0) ∙ rw (final-last p f) (ap (λ x. record { number = 0; whole = length x; device = withSequence d Nothing }) told),
         ap (take (length (wholeBy h p))) area-is
@@ -273,8 +277,9 @@ module _ (d : Device) (ws area : List ℕ) (qs : ℕ → List ℕ) (fits : Fits 
             (leb-true (length whole) stateMost (and-left (leb (length whole) stateMost) _ (passed .within)))),
       )
 
-      asked : (suspendedBy false h ≡ true) × ((owner end : ℕ) → d .sequence ≡ Open owner end → owner ≡ a) × Fitting h p
+      asked : IsManager (d .settings) b × (suspendedBy false h ≡ true) × ((owner end : ℕ) → d .sequence ≡ Open owner end → owner ≡ a) × Fitting h p
       asked = (
+        manager-named (d .settings) b (is-done e .2),
         sym flag-is ∙ passed .suspended,
         (λ owner end q. eqb-true owner a (not-false (eqb owner a) (sym (ap (othersIn a) q) ∙ not-true (othersIn a (d .sequence)) (passed .alone)))),
         fitting passed,
@@ -285,8 +290,8 @@ module _ (d : Device) (ws area : List ℕ) (qs : ℕ → List ℕ) (fits : Fits 
       record {
         under-way = (open-told, open-said);
         bytes = bytes-told;
-        accepted = λ p. ((λ e. asked p e), (λ f. may p (f .2) (f .0) (f .1)));
-        own = λ p e. own p e;
-        goes-on = λ p e f. goes-on p e f;
-        yields = λ p e f. yields p e f;
+        accepted = λ b p. ((λ e. asked b p e), (λ f. may b p (f .3) (f .0) (f .1) (f .2)));
+        own = λ b p e. own b p e;
+        goes-on = λ b p e f. goes-on b p e f;
+        yields = λ b p e f. yields b p e f;
       }

@@ -17,7 +17,7 @@ use Rattle.rules.specs.Settings.{markWords, mostUnits, placeOf}
 use Rattle.rules.specs.Units.{Unit, Write, units}
 use Rattle.rules.specs.Device.{soundDevice}
 use Rattle.rules.specs.Order.{start, startOrder, order}
-use Rattle.rules.specs.Machine.{Answer, Call, State, slotOf, pendingIn, entriesIn, countsIn, unitsIn, step, lent, stored}
+use Rattle.rules.specs.Machine.{Answer, Call, State, slotOf, pendingIn, entriesIn, managedIn, countsIn, unitsIn, step, lent, stored}
 use Rattle.rules.specs.History.{Did, historyOf, only, PendingBy, tracksBy, slotBy}
 use Rattle.rules.specs.Demands.{sessionEnd, sessionHistory, lentBytes, unhindered}
 use Rattle.rules.specs.declared.Range.{Range}
@@ -133,7 +133,7 @@ module _ (s : Settings) (m : Given) (ks : List Call) (sized : Sized s m) where
     unfolding end
     end-is = calls-end s (twin m) (m .marks) (twin-sized s m sized) (as-many m) twin-done ks
 
-    stands : (a : ℕ) → demand.Stands s l (historyIn inWords s (twin m) ks a) (countsIn (sessionEnd s (length (twin m .marks)) ks)) (unitsIn (sessionEnd s (length (twin m .marks)) ks)) a
+    stands : (a : ℕ) → let st = sessionEnd s (length (twin m .marks)) ks in demand.Stands s l (historyIn inWords s (twin m) ks a) (unitsIn st) (managedIn st) (countsIn st) a
     stands a = demand-2 .stands s (twin m) ks (twin-sized s m sized) twin-done a
 
     is-told : (a : ℕ)
@@ -217,24 +217,24 @@ is-rules : (s : Settings) (a : ℕ) (m : Given) (ks : List Call) → Sized s m �
 is-rules s a m ks sized = equals s m ks sized a ks (demand-2 .rules s a (twin m) ks (twin-sized s m sized))
 
 -- a start moves the others' bytes as they are
-is-moved : (l : Left) → Shaped inBytes l → (a i : ℕ) (x : List ℕ) → placeOf (l .device .settings) a ≡ some i
-    → let c = startBy inBytes (l .device) (l .marks) a x in
+is-moved : (l : Left) → Shaped inBytes l → (b a i : ℕ) (x : List ℕ) → placeOf (l .device .settings) a ≡ some i
+    → let c = startBy inBytes (l .device) (l .marks) b a x in
     c .answer .number ≡ 0 → (j m : ℕ) → j < 8 → j ≢ i → m < demand.sizeAt (l .device) j
     → getD (c .marks) (baseAt (c .answer .device) j + m) 0 ≡ getD (l .marks) (baseAt (l .device) j + m) 0
 unfolding startBy order
-is-moved l shaped a i x at e j m h n k =
+is-moved l shaped b a i x at e j m h n k =
     let d = l .device in
     let bs = l .marks in
     let fits = shaped-fits (holding l (pack 256 (map markOf bs))) (shaped° l shaped) in
     let long : length bs ≡ mostUnits = area-whole (length bs) (shaped .words) in
     let v = seenIn d (inBytes .words bs) (some i) in
-    let r = verdict-done (λ (c : Change Started). c .answer .number) (startOrder (d .settings) v x) (startDone inBytes d bs x (some i)) (λ n j. startedWith n j d bs)
-    (λ n j. refl) (order-numbers (d .settings) v (arrivingIn (d .sequence) (l .area) a) (start x)) (rw at at e) in
-    let running : controllerAt d (some i) .suspended ≡ false = not-true (controllerAt d (some i) .suspended) (r .1 .1 .1 .0) in
-    let p = startOrder-passed (d .settings) v x (r .1) in
-    let as-words = subst (λ n. StartPassed (d .settings) (seenIn d n (some i)) x) (shaped .words ∙ sym (pack-length 256 (map markOf bs))) p in
+    let r = verdict-done (λ (c : Change Started). c .answer .number) (startOrder (d .settings) b v x) (startDone inBytes d bs b x (some i)) (λ n j. startedWith n j d bs)
+    (λ n j. refl) (order-numbers (d .settings) v (arrivingIn (d .sequence) (l .area) a) (start b x)) (rw at at e) in
+    let running : controllerAt d (some i) .suspended ≡ false = not-true (controllerAt d (some i) .suspended) (r .1 .1 .1 .1 .0) in
+    let p = startOrder-passed (d .settings) b v x (r .1) in
+    let as-words = subst (λ n. StartPassed (d .settings) b (seenIn d n (some i)) x) (shaped .words ∙ sym (pack-length 256 (map markOf bs))) p in
     rw at (subst (λ (c : Change Started). getD (c .marks) (baseAt (c .answer .device) j + m) 0 ≡ getD bs (baseAt d j + m) 0) (sym (r .0))
-    (moved-byte d (pack 256 (map markOf bs)) (l .area) fits (sound-from d (inBytes .words bs) (r .1 .0)) i (placeOf-used d a i at) x running (not-on (controllerAt d (some i) .tracking) (p .untracked)) as-words bs long j m h n k))
+    (moved-byte d (pack 256 (map markOf bs)) (l .area) fits (sound-from d (inBytes .words bs) (r .1 .0)) i (placeOf-used d a i at) b x running (not-on (controllerAt d (some i) .tracking) (controllerAt d (some i) .manager) (p .untracked)) as-words bs long j m h n k))
 
 pub plain-demands : plain.Plain
 plain-demands =
@@ -252,11 +252,11 @@ plain-demands =
           record {
             fresh = fresh-zeros;
             written = λ d bs id w i. write-each d bs id w i;
-            received = λ d bs id x i. receive-each d bs id x i;
-            stopped = λ d bs id i. stop-each d bs id i;
+            received = λ d bs b id x i. receive-each d bs id b x i;
+            stopped = λ d bs b id i. stop-each d bs id b i;
             moved = is-moved;
             fresh-bytes = fresh-bytes;
             written-bytes = write-bytes;
-            received-bytes = receive-bytes;
+            received-bytes = λ d bs b id x. receive-bytes d bs id b x;
           };
     }

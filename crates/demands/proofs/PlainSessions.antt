@@ -82,7 +82,7 @@ module _ (ws bs : List ℕ) (alike : Alike ws bs) where
   slots-same : (f : ℕ → Option (List ℕ)) (qs : ℕ → List ℕ) (i : ℕ) (cs : List Controller) → slotsFrom inWords ws f qs i cs ≡ slotsFrom inBytes bs f qs i cs
   slots-same f qs i [] = refl
   slots-same f qs i (c ∷ cs) =
-      ap₂ {A = Marks} (λ m l. record { suspended = c .suspended; marks = m; front = f i; queue = slotOf inWords ws c (f i) (qs i) .queue } ∷ l) (marks-same (c .base) (c .tracking) (c .ranges)) (slots-same f qs (suc i) cs)
+      ap₂ {A = Marks} (λ m l. record { suspended = c .suspended; manager = slotOf inWords ws c (f i) (qs i) .manager; marks = m; front = f i; queue = slotOf inWords ws c (f i) (qs i) .queue } ∷ l) (marks-same (c .base) (c .tracking) (c .ranges)) (slots-same f qs (suc i) cs)
 
   pub view-same : (d : Device) (area : List ℕ) (qs : ℕ → List ℕ) → view inWords d ws area qs ≡ view inBytes d bs area qs
   view-same d area qs =

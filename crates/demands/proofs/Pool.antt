@@ -65,9 +65,9 @@ module _ (d : Device) (ws area : List ℕ) (fits : Fits d ws area) (sound : soun
 -- ---- an accepted start
 
 -- a controller that agrees with another in all but where its share begins
-but-base : (k c : Controller) → k .suspended ≡ c .suspended → k .tracking ≡ c .tracking → k .ranges ≡ c .ranges → k .queue ≡ c .queue
-    → k ≡ record { tracking = c .tracking; base = k .base; suspended = c .suspended; ranges = c .ranges; queue = c .queue }
-but-base k c s t r q = rw (sym s, sym t, sym r, sym q)
+but-base : (k c : Controller) → k .suspended ≡ c .suspended → k .tracking ≡ c .tracking → k .ranges ≡ c .ranges → k .queue ≡ c .queue → k .manager ≡ c .manager
+    → k ≡ record { tracking = c .tracking; manager = c .manager; base = k .base; suspended = c .suspended; ranges = c .ranges; queue = c .queue }
+but-base k c s t r q m = rw (sym s, sym t, sym r, sym q, sym m)
 
 -- a share that has bits begins where its controller says
 own-base : (c : Controller) → 1 ≤ shareOf c .size → shareOf c .base ≡ c .base
@@ -77,10 +77,10 @@ own-base c = go (heldOf c)
     go none h = absurd (omega (arith, h))
     go (some x) h = refl
 
-module _ (d : Device) (ws area : List ℕ) (fits : Fits d ws area) (sound : soundDevice d ≡ true) (i : ℕ) (used : i < d .settings .count) (x : List ℕ)
-    (running : controllerAt d (some i) .suspended ≡ false) (idle : controllerAt d (some i) .tracking ≡ Off) (passed : StartPassed (d .settings) (seenIn d (length ws) (some i)) x) where
+module _ (d : Device) (ws area : List ℕ) (fits : Fits d ws area) (sound : soundDevice d ≡ true) (i : ℕ) (used : i < d .settings .count) (b : ℕ) (x : List ℕ)
+    (running : controllerAt d (some i) .suspended ≡ false) (idle : controllerAt d (some i) .tracking ≡ Off) (passed : StartPassed (d .settings) b (seenIn d (length ws) (some i)) x) where
   abbrev new : Controller
-  new = started (controllerAt d (some i)) x
+  new = started (controllerAt d (some i)) b x
 
   abbrev e : Device
   e = withController d i new
@@ -196,7 +196,7 @@ module _ (d : Device) (ws area : List ℕ) (fits : Fits d ws area) (sound : soun
       ∙ ap sum (take-all sizes 8 (omega (arith, length-map (sharesOf e) (λ (a : Share). a .size), sharesOf-length e eight few)))
       ∙ ap sum (sym all-sizes)
 
-  pub packs-start : Started d ws i (granularityOf x) (countOf x) (rangesOf x) (startDone inWords d ws x (some i) .answer .device) (startDone inWords d ws x (some i) .marks)
+  pub packs-start : Started d ws b i (granularityOf x) (countOf x) (rangesOf x) (startDone inWords d ws b x (some i) .answer .device) (startDone inWords d ws b x (some i) .marks)
   packs-start =
       record {
         settings = refl;
@@ -205,18 +205,20 @@ module _ (d : Device) (ws area : List ℕ) (fits : Fits d ws area) (sound : soun
         own =
             let h : i < 8 = omega (arith, used, few) in
             let a = packed-alike e eight few i (getD (e .controllers) i noController) in
-            but-base (controllerAt d′ (some i)) (record { tracking = On (granularityOf x) (countOf x); base = 0; suspended = false; ranges = placed (rangesOf x); queue = controllerAt d (some i) .queue })
+            but-base (controllerAt d′ (some i)) (record { tracking = On (granularityOf x) (countOf x); manager = b; base = 0; suspended = false; ranges = placed (rangesOf x); queue = controllerAt d (some i) .queue })
             (ap (λ (k : Controller). k .suspended) (packed-is i h) ∙ a .0 ∙ ap (λ (k : Controller). k .suspended) before-own ∙ running)
             (ap (λ (k : Controller). k .tracking) (packed-is i h) ∙ a .1 ∙ ap (λ (k : Controller). k .tracking) before-own)
             (ap (λ (k : Controller). k .ranges) (packed-is i h) ∙ a .2 ∙ ap (λ (k : Controller). k .ranges) before-own)
-            (ap (λ (k : Controller). k .queue) (packed-is i h) ∙ a .3 ∙ ap (λ (k : Controller). k .queue) before-own);
+            (ap (λ (k : Controller). k .queue) (packed-is i h) ∙ a .3 ∙ ap (λ (k : Controller). k .queue) before-own)
+            (ap (λ (k : Controller). k .manager) (packed-is i h) ∙ a .4 ∙ ap (λ (k : Controller). k .manager) before-own);
         other = λ j h n.
             let a = packed-alike e eight few j (getD (e .controllers) j noController) in
             but-base (controllerAt d′ (some j)) (controllerAt d (some j))
             (ap (λ (k : Controller). k .suspended) (packed-is j h) ∙ a .0 ∙ ap (λ (k : Controller). k .suspended) (before-other j n))
             (ap (λ (k : Controller). k .tracking) (packed-is j h) ∙ a .1 ∙ ap (λ (k : Controller). k .tracking) (before-other j n))
             (ap (λ (k : Controller). k .ranges) (packed-is j h) ∙ a .2 ∙ ap (λ (k : Controller). k .ranges) (before-other j n))
-            (ap (λ (k : Controller). k .queue) (packed-is j h) ∙ a .3 ∙ ap (λ (k : Controller). k .queue) (before-other j n));
+            (ap (λ (k : Controller). k .queue) (packed-is j h) ∙ a .3 ∙ ap (λ (k : Controller). k .queue) (before-other j n))
+            (ap (λ (k : Controller). k .manager) (packed-is j h) ∙ a .4 ∙ ap (λ (k : Controller). k .manager) (before-other j n));
         size = own-size;
         sizes = other-size;
         begins = λ j h k. new-base j h k ∙ newBase-sum sizes j ∙ ap (λ l. sum (take j l)) (sym all-sizes);

@@ -1,7 +1,7 @@
 -- The settings file's contracts, tied to what is stated of it. Assumes nothing.
 use mathlib.Core.Path.{_≡_, refl, sym, _∙_}
 use borrow.Author.Needs.{needs}
-use Rattle.settings_file.proofs.Refused.{rule, readers, writer}
+use Rattle.settings_file.proofs.Refused.{readers, writer}
 use Rattle.settings_file.proofs.RoundTrip.{begins, layout, one-encoding}
 use Rattle.settings_file.proofs.Theorems.{worked}
 use Rattle.settings_updater.proofs.Theorems as updater-laws
@@ -107,7 +107,6 @@ settings-file =
       begins = begins;
       layout = layout;
       worked = worked;
-      rule = rule;
       readers = readers;
       writer = writer;
       encoding = one-encoding;

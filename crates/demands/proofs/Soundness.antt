@@ -1,7 +1,7 @@
 -- Refusal 1, proved: a record is sound exactly if it is so in plain words, and no calls from a fresh device lead to an unsound one. Assumes nothing.
 use mathlib.Core.Path.{_≡_, refl, sym, ap, ap₂, subst, _∙_}
 use mathlib.Core.Logic.{_≢_, _⊎_, inl, inr}
-use mathlib.Core.Bool.{Bool, true, false, not, _&&_, _||_, and-false, true≢false}
+use mathlib.Core.Bool.{Bool, true, false, not, cond, _&&_, _||_, and-false, true≢false}
 use mathlib.Core.List.{List, [], _∷_, map}
 use mathlib.Core.Option.{Option, none, some}
 use Prim.Native.Nat.{ℕ, zero, suc, _+_, _%_, _≤_, _<_}
@@ -10,14 +10,14 @@ use lib.Dec.{leb, ltb, eqb}
 use lib.ListN.{length, take, getD, length-take}
 use lib.Seq.{getD-take, length-take-le}
 use borrow.Author.Tests.{le-leb, leb-true, leb-false, ltb-false, eq-eqb, ne-eqb, eqb-true}
-use Rattle.rules.specs.Settings.{identifiersOf, settingsOk, placeOf}
+use Rattle.rules.specs.Settings.{identifiersOf, secondRules, settingsOk, isManager, placeOf}
 use Rattle.rules.specs.Units.{units}
 use Rattle.rules.specs.Queue.{fillOf, queueOk}
 use Rattle.rules.specs.Order as order
 use Rattle.rules.specs.Order.{Op, start, stop, write, receive, suspend, resume, part}
 use Rattle.rules.specs.Machine.{refused, soundState, Call}
-use Rattle.rules.specs.Lists.{all, member, different, sum}
-use Rattle.rules.specs.Device.{heldCount, heldIn, heldOf, heldOk, noShare, shareIn, shareOf, sharesOf, sharesOk, frontOk, freshController, controllersOf, suspendedAt, sequenceOk, queuesOk, soundDevice}
+use Rattle.rules.specs.Lists.{all, every, member, different, sum}
+use Rattle.rules.specs.Device.{heldCount, heldCountBy, countsBy, heldIn, heldOf, heldOk, noShare, shareIn, shareOf, sharesOf, sharesOk, frontOk, freshController, controllersOf, suspendedAt, sequenceOk, queuesOk, soundDevice}
 use Rattle.rules.specs.Demands.{Lawful}
 use Rattle.rules.specs.declared.Share.{Share}
 use Rattle.rules.specs.declared.Tracking.{Tracking}
@@ -27,23 +27,26 @@ use Rattle.rules.specs.declared.Sequence.the-variants.{Nothing, Open}
 use Rattle.rules.specs.declared.Ring.{Ring}
 use Rattle.rules.specs.declared.Queue.{Queue}
 use Rattle.rules.specs.declared.Queue.the-variants as made
+use Rattle.rules.specs.declared.Second.{Second}
+use Rattle.rules.specs.declared.Second.the-variants as second
 use Rattle.rules.specs.declared.Settings.{Settings}
 use Rattle.rules.specs.declared.Controller.{Controller}
 use Rattle.rules.specs.declared.Device.{Device}
 use Rattle.rules.proofs.ListLaws.{and-left, and-right, and-intro, not-intro, member-not, all-at, all-from, all-map, getD-any}
 use Rattle.rules.proofs.LoopLaws.{all-front}
 use Rattle.rules.proofs.HeldLaws.{held, lie}
-use Rattle.rules.proofs.SoundLaws.{sound-intro}
+use Rattle.rules.proofs.SoundLaws.{sound-managed, sound-intro}
 use Rattle.rules.proofs.Theorems as rules
-use Rattle.settings.proofs.SettingsLaws.{settingsOk-at, settingsOk-some, settingsOk-count, settingsOk-greatest, settingsOk-limit}
-use Rattle.record.specs.Record.{soundWith, noController, controllerAt}
+use Rattle.settings.proofs.SettingsLaws.{settingsOk-at, settingsOk-some, settingsOk-count, settingsOk-greatest, settingsOk-limit, settingsOk-shelf, settingsOk-other}
+use Rattle.record.specs.Record.{soundWith, noController, managedOf, controllerAt}
 use Rattle.record.proofs.RecordLaws.{sharesOf-at, sharesOf-sizes, soundDevice-facts, soundDevice-sequence, soundDevice-all, soundDevice-inside, soundDevice-apart, soundDevice-queue}
 use Rattle.record.proofs.QueueLaws.{RingFacts, ring-facts, ring-intro}
 use Rattle.calls.specs.Calls.{inWords, receiveBy, startBy, stopBy, writeBy, startChange, stopChange, suspendChange, resumeChange, writeNote, receiveReceipt, partChange, fillIn, makeChange, postChange, takeChange}
 use Rattle.calls.proofs.PoolLaws.{sharesOf-none, sharesOf-length}
 use Rattle.demands.specs.View.{run, runAs}
 use Rattle.demands.specs.Sessions.{Left, outcome, begun, endOf}
-use Rattle.demands.specs.Soundness.{Settled, Whole, LawfulSequence, LawfulRing, TracksAt, Sound, rangesIn, Shares, Soundness}
+use Rattle.demands.specs.Soundness.{Settled, Whole, LawfulSequence, LawfulRing, TracksAt, Sound, rangesIn, rangesFor, Shares, Soundness}
+use Rattle.demands.proofs.ManagerLaws.{manager-named, named-manager, within-named, named-within}
 use Rattle.demands.proofs.ViewLaws.{sound-same, placeOf-used}
 use Rattle.demands.proofs.SessionLaws.{begins, fits-after}
 use Rattle.demands.proofs.ClosedLaws.{fresh-done, closed-session, closed-answer, session}
@@ -97,28 +100,33 @@ lawful d owner end eight q e = go (placeOf (d .settings) owner) refl
 
 module _ (d : Device) (whole : Whole d) where
   -- a controller holds what it may: by the rules, and in plain words
-  to-lawful : (c : Controller) (g n : ℕ) → c .tracking ≡ On g n → heldOk (d .settings) (heldOf c) ≡ true → Lawful (d .settings) g n (take n (c .ranges))
-  to-lawful c g n t e = held (d .settings) g n (take n (c .ranges)) .0 (sym (ap (λ (x : Tracking). heldOk (d .settings) (heldIn x (c .ranges))) t) ∙ e)
+  to-lawful : (c : Controller) (g n : ℕ) → c .tracking ≡ On g n → heldOk (d .settings) (heldOf c) ≡ true → (isManager (d .settings) (c .manager) ≡ true) × Lawful (d .settings) g n (take n (c .ranges))
+  to-lawful c g n t e = held (d .settings) (c .manager) g n (take n (c .ranges)) .0 (sym (ap (λ (x : Tracking). heldOk (d .settings) (heldIn x (c .manager) (c .ranges))) t) ∙ e)
 
-  from-lawful : (c : Controller) → ((g n : ℕ) → c .tracking ≡ On g n → Lawful (d .settings) g n (take n (c .ranges))) → heldOk (d .settings) (heldOf c) ≡ true
+  from-lawful : (c : Controller) → ((g n : ℕ) → c .tracking ≡ On g n → (isManager (d .settings) (c .manager) ≡ true) × Lawful (d .settings) g n (take n (c .ranges))) → heldOk (d .settings) (heldOf c) ≡ true
   unfolding heldOk
   from-lawful c f = go (c .tracking) f
     where
-      go : (t : Tracking) → ((g n : ℕ) → t ≡ On g n → Lawful (d .settings) g n (take n (c .ranges))) → heldOk (d .settings) (heldIn t (c .ranges)) ≡ true
+      go : (t : Tracking) → ((g n : ℕ) → t ≡ On g n → (isManager (d .settings) (c .manager) ≡ true) × Lawful (d .settings) g n (take n (c .ranges))) → heldOk (d .settings) (heldIn t (c .manager) (c .ranges)) ≡ true
       go Off f = refl
-      go (On g n) f = held (d .settings) g n (take n (c .ranges)) .1 (f g n refl)
+      go (On g n) f = held (d .settings) (c .manager) g n (take n (c .ranges)) .1 (f g n refl)
 
   forward : soundDevice d ≡ true → Sound d
   forward e =
       let facts = soundDevice-facts d e in
       let there : (i : ℕ) → i < d .settings .count → i < length (d .controllers) = λ i h. omega (arith, h, facts .count, whole .controllers) in
       let listed : (i : ℕ) → i < d .settings .count → 1 ≤ length (controllerAt d (some i) .ranges) = λ i h. omega (arith, whole .ranges i (omega (arith, h, facts .count))) in
+      let lawful-at : (i g n : ℕ) → TracksAt d i g n
+      → (isManager (d .settings) (controllerAt d (some i) .manager) ≡ true) × Lawful (d .settings) g n (take n (controllerAt d (some i) .ranges)) =
+      λ i g n t.
+      to-lawful (controllerAt d (some i)) g n (t .1)
+      (all-front (λ c. heldOk (d .settings) (heldOf c)) (d .controllers) (d .settings .count) i noController (t .0) (there i (t .0)) (soundDevice-all d e)) in
       record {
         settings = facts .settings;
-        held = λ i g n t.
-            to-lawful (controllerAt d (some i)) g n (t .1)
-            (all-front (λ c. heldOk (d .settings) (heldOf c)) (d .controllers) (d .settings .count) i noController (t .0) (there i (t .0)) (soundDevice-all d e));
-        limit = facts .counts;
+        held = λ i g n t. lawful-at i g n t .1;
+        manager = λ i g n t. manager-named (d .settings) (controllerAt d (some i) .manager) (lawful-at i g n t .0);
+        limit = within-named (d .settings) (facts .settings) (managedOf d) (sound-managed (d .settings) (map heldOf (controllersOf d)) _ e);
+        shelf = facts .counts;
         inside = λ i g n t. soundDevice-inside d i g n e (t .0) (there i (t .0)) (t .1) (listed i (t .0));
         apart = λ i g n j f m z t u.
             soundDevice-apart d i g n j f m e z (t .0) (u .0) (there i (t .0)) (there j (u .0)) (t .1) (u .1) (listed i (t .0)) (listed j (u .0));
@@ -144,15 +152,15 @@ module _ (d : Device) (whole : Whole d) where
         ∙ all-from (λ c. heldOk (d .settings) (heldOf c)) (controllersOf d) noController
         (λ i h.
         ap (λ c. heldOk (d .settings) (heldOf c)) (used-at i noController (in-use i h))
-        ∙ from-lawful (controllerAt d (some i)) (λ g n t. s .held i g n (in-use i h, t)))
+        ∙ from-lawful (controllerAt d (some i)) (λ g n t. (named-manager (d .settings) (controllerAt d (some i) .manager) (s .manager i g n (in-use i h, t)), s .held i g n (in-use i h, t))))
 
     -- a share that has bits is that of a tracked controller at a place in use
     shared-by : (i : ℕ) → i < length (sharesOf d) → 1 ≤ getD (sharesOf d) i noShare .size
         → (g : ℕ) × (n : ℕ) × TracksAt d i g n × (getD (sharesOf d) i noShare ≡ record { base = controllerAt d (some i) .base; size = length (units g (take n (controllerAt d (some i) .ranges))) })
     shared-by i h k = go (leb (d .settings .count) i) refl
       where
-        by : (c : Controller) (t : Tracking) → c .tracking ≡ t → 1 ≤ shareIn (c .base) (heldIn t (c .ranges)) .size
-            → (g : ℕ) × (n : ℕ) × (c .tracking ≡ On g n) × (shareIn (c .base) (heldIn t (c .ranges)) ≡ record { base = c .base; size = length (units g (take n (c .ranges))) })
+        by : (c : Controller) (t : Tracking) → c .tracking ≡ t → 1 ≤ shareIn (c .base) (heldIn t (c .manager) (c .ranges)) .size
+            → (g : ℕ) × (n : ℕ) × (c .tracking ≡ On g n) × (shareIn (c .base) (heldIn t (c .manager) (c .ranges)) ≡ record { base = c .base; size = length (units g (take n (c .ranges))) })
         by c Off e l = absurd (omega (arith, l))
         by c (On g n) e l = (g, n, e, refl)
 
@@ -197,7 +205,7 @@ module _ (d : Device) (whole : Whole d) where
 
     back : soundDevice d ≡ true
     back =
-        sound-intro (d .settings) (map heldOf (controllersOf d)) _ (s .settings) all-held (s .limit) (s .units)
+        sound-intro (d .settings) (map heldOf (controllersOf d)) _ (s .settings) all-held (named-within (d .settings) (s .settings) (managedOf d) (s .limit)) (s .shelf) (s .units)
         (and-intro (sequenceOk (d .settings) (controllersOf d) (d .sequence)) _ sequence-ok (and-intro (sharesOk (sharesOf d)) (queuesOk d) all-apart queues-ok))
 
 -- ---- an unsound one
@@ -205,13 +213,13 @@ module _ (d : Device) (whole : Whole d) where
 -- an unsound record, or marks of another number of words
 unsound-run : (d : Device) (ws area : List ℕ) (qs : ℕ → List ℕ) (id : ℕ) (o : Op) → soundWith d (length ws) ≡ false → runAs inWords d ws area qs id o .answer ≡ refused 1 0
 unfolding startBy stopBy writeBy receiveBy suspendChange resumeChange partChange makeChange postChange takeChange
-unsound-run d ws area qs id (start x) e = rw e
-unsound-run d ws area qs id stop e = rw e
+unsound-run d ws area qs id (start m x) e = rw e
+unsound-run d ws area qs id (stop m) e = rw e
 unsound-run d ws area qs id (write w) e = rw e
-unsound-run d ws area qs id (receive x) e = rw e
-unsound-run d ws area qs id (suspend kind) e = rw e
-unsound-run d ws area qs id resume e = rw e
-unsound-run d ws area qs id (part p) e = rw e
+unsound-run d ws area qs id (receive m x) e = rw e
+unsound-run d ws area qs id (suspend m kind) e = rw e
+unsound-run d ws area qs id (resume m) e = rw e
+unsound-run d ws area qs id (part m p) e = rw e
 unsound-run d ws area qs id (order.queue bytes order.make) e = rw e
 unsound-run d ws area qs id (order.queue bytes (order.post x)) e = rw e
 unsound-run d ws area qs id (order.queue bytes (order.take asked x)) e = rw e
@@ -256,15 +264,20 @@ settled : (s : Settings) → length (s .identifiers) ≡ 8 → settingsOk s ≡ 
 settled s eight e =
     let l : length (identifiersOf s) ≡ s .count = length-take-le (s .count) (s .identifiers) (omega (arith, eight, settingsOk-count s e)) in
     let at : (i : ℕ) → i < s .count → getD (identifiersOf s) i 0 ≡ getD (s .identifiers) i 0 = λ i h. getD-take (s .count) (s .identifiers) i 0 h in
+    let nobody : (m : ℕ) → not (member m (identifiersOf s)) ≡ true → (i : ℕ) → i < s .count → getD (s .identifiers) i 0 ≢ m =
+    λ m f i h z.
+    differ m (getD (identifiersOf s) i 0) (all-at (λ y. not (eqb m y)) (identifiersOf s) i 0 (member-not m (identifiersOf s) ∙ f) (omega (arith, h, l))) (sym (at i h ∙ z)) in
     record {
       count = (settingsOk-some s e, settingsOk-count s e);
       different = λ i j h k z.
           apart-from (identifiersOf s) (settingsOk-at s 2 e) i j (omega (arith, h, l)) (omega (arith, k, l)) (at i h ∙ z ∙ sym (at j k));
-      manager = λ i h z.
-          differ (s .manager) (getD (identifiersOf s) i 0)
-          (all-at (λ y. not (eqb (s .manager) y)) (identifiersOf s) i 0 (member-not (s .manager) (identifiersOf s) ∙ settingsOk-at s 3 e) (omega (arith, h, l))) (sym (at i h ∙ z));
+      manager = nobody (s .manager) (settingsOk-at s 3 e);
       granularities = (leb-true (s .least) (s .greatest) (settingsOk-at s 4 e), settingsOk-greatest s e);
       limit = settingsOk-limit s e;
+      second = λ id limit q.
+          let o = settingsOk-other s id limit e q in
+          (o .0, (λ i h z. nobody id (not-intro (member id (identifiersOf s)) (o .1)) i h z), o .2);
+      shelf = settingsOk-shelf s e;
     }
 
 settled-ok : (s : Settings) → length (s .identifiers) ≡ 8 → Settled s → settingsOk s ≡ true
@@ -274,11 +287,19 @@ settled-ok s eight r =
     let at : (i : ℕ) → i < s .count → getD (identifiersOf s) i 0 ≡ getD (s .identifiers) i 0 = λ i h. getD-take (s .count) (s .identifiers) i 0 h in
     let apart : different (identifiersOf s) ≡ true =
     from-apart (identifiersOf s) (λ i j h k z. r .different i j (omega (arith, h, l)) (omega (arith, k, l)) (sym (at i (omega (arith, h, l))) ∙ z ∙ at j (omega (arith, k, l)))) in
-    let other : not (member (s .manager) (identifiersOf s)) ≡ true =
-    sym (member-not (s .manager) (identifiersOf s))
-    ∙ all-from (λ y. not (eqb (s .manager) y)) (identifiersOf s) 0
-    (λ m h. not-intro (eqb (s .manager) (getD (identifiersOf s) m 0)) (ne-eqb (s .manager) (getD (identifiersOf s) m 0) (λ z. r .manager m (omega (arith, h, l)) (sym (at m (omega (arith, h, l))) ∙ sym z)))) in
-    rw (le-leb 1 (s .count) (r .count .0), le-leb (s .count) 8 (r .count .1), apart, other, le-leb (s .least) (s .greatest) (r .granularities .0), le-leb (s .greatest) 20 (r .granularities .1), le-leb (s .limit) 128 (r .limit))
+    let other : (b : ℕ) → ((i : ℕ) → i < s .count → getD (s .identifiers) i 0 ≢ b) → not (member b (identifiersOf s)) ≡ true =
+    λ b f.
+    sym (member-not b (identifiersOf s))
+    ∙ all-from (λ y. not (eqb b y)) (identifiersOf s) 0
+    (λ m h. not-intro (eqb b (getD (identifiersOf s) m 0)) (ne-eqb b (getD (identifiersOf s) m 0) (λ z. f m (omega (arith, h, l)) (sym (at m (omega (arith, h, l))) ∙ sym z)))) in
+    rw (le-leb 1 (s .count) (r .count .0), le-leb (s .count) 8 (r .count .1), apart, other (s .manager) (r .manager), le-leb (s .least) (s .greatest) (r .granularities .0), le-leb (s .greatest) 20 (r .granularities .1), le-leb (s .limit) 128 (r .limit), le-leb (s .shelf) 128 (r .shelf))
+    (go other (s .second) refl)
+  where
+    go : ((b : ℕ) → ((i : ℕ) → i < s .count → getD (s .identifiers) i 0 ≢ b) → not (member b (identifiersOf s)) ≡ true) → (x : Second) → s .second ≡ x → every (secondRules s x) ≡ true
+    go other second.Nothing q = refl
+    go other (second.Is id limit) q =
+        let o = r .second id limit q in
+        rw (ne-eqb id (s .manager) (o .0), other id (o .1), le-leb limit 128 (o .2))
 
 -- ---- its shares
 
@@ -287,8 +308,21 @@ ranges-sum : (cs : List Controller) → sum (map heldCount (map heldOf cs)) ≡ 
 ranges-sum [] = refl
 ranges-sum (c ∷ cs) = ap₂ (λ x y. x + y) (go (c .tracking)) (ranges-sum cs)
   where
-    go : (t : Tracking) → heldCount (heldIn t (c .ranges)) ≡ rangesIn t
+    go : (t : Tracking) → heldCount (heldIn t (c .manager) (c .ranges)) ≡ rangesIn t
     go Off = refl
+    go (On g n) = refl
+
+-- and those that they hold for a manager
+managed-sum : (m : ℕ) (cs : List Controller) → countsBy m (map heldOf cs) ≡ sum (map (rangesFor m) cs)
+managed-sum m [] = refl
+managed-sum m (c ∷ cs) = ap₂ (λ x y. x + y) (go (c .tracking)) (managed-sum m cs)
+  where
+    go : (t : Tracking) → heldCountBy m (heldIn t (c .manager) (c .ranges)) ≡ cond (eqb (c .manager) m) (rangesIn t) 0
+    go Off = sym (nothing (eqb (c .manager) m))
+      where
+        nothing : (b : Bool) → _≡_ {A = ℕ} (cond b 0 0) 0
+        nothing true = refl
+        nothing false = refl
     go (On g n) = refl
 
 shares-are : (d : Device) → length (d .controllers) ≡ 8 → d .settings .count ≤ 8 → Shares d
@@ -300,6 +334,7 @@ shares-are d eight most =
       unused = λ i h. ap (λ (a : Share). a .size) (sharesOf-none d eight most i h);
       units = sym (sharesOf-sizes d);
       counts = ranges-sum (controllersOf d);
+      managed = λ m. managed-sum m (controllersOf d);
     }
   where
     at : (i : ℕ) → i < d .settings .count → getD (sharesOf d) i noShare ≡ shareOf (getD (d .controllers) i noController)

@@ -18,17 +18,17 @@ use Rattle.bits.proofs.Flat.{flat-length}
 use Rattle.little.proofs.Put.{put-take-front, put-length}
 use Rattle.rules.specs.Lists.{all, join, isSome}
 use Rattle.rules.specs.Refusals.{Test, verdict}
-use Rattle.rules.specs.Settings.{markWords, mostUnits, placeOf}
+use Rattle.rules.specs.Settings.{markWords, mostUnits, isManager, placeOf}
 use Rattle.rules.specs.Units.{Unit, Write, units, clear, mark}
 use Rattle.rules.specs.StartData.{granularityOf, countOf, rangesOf, noRange, placed}
 use Rattle.rules.specs.Report.{room, marksLeft, reportedRuns}
 use Rattle.rules.specs.Queue.{entryBytes, placesOk, closingEntry, joined, totalAfter, queueOk, Queued, closesAt, takenOf}
 use Rattle.rules.specs.Order as order
-use Rattle.rules.specs.Order.{Op, start, stop, write, receive, suspend, resume, part, queue, make, post, sizeMade, queueOrder, Seen, Arriving, Part, startShared, offsetOf, isLast, joinedWith, partOrder, order}
+use Rattle.rules.specs.Order.{Op, start, stop, write, receive, suspend, resume, part, queue, make, post, isTracker, sizeMade, queueOrder, Seen, Arriving, Part, startShared, offsetOf, isLast, joinedWith, partOrder, order}
 use Rattle.rules.specs.Device.{heldUnits, heldOf, noShare, shareOf, sharesOf, sharesOk, controllersOf, queuesOk, soundDevice}
 use Rattle.rules.specs.Ranges.{listTests}
 use Rattle.rules.specs.ControllerState.{stateMost, stateOk}
-use Rattle.rules.specs.Machine.{Answer, refused, done, assembled, posted, taken, Marks, on, Slot, withMarksOf, withFront, withQueued, wroteIn, reportedIn, postedIn, takenIn, accepted, slotStep, State, slotAt, withSlot, seenAt, arrivingAt, stepAt, Call, step, lent, stored, noReport}
+use Rattle.rules.specs.Machine.{Answer, refused, done, assembled, posted, taken, Marks, on, Slot, trackedWith, withMarksOf, withFront, withQueued, wroteIn, reportedIn, postedIn, takenIn, accepted, slotStep, State, slotAt, withSlot, seenAt, arrivingAt, stepAt, Call, step, lent, stored, noReport}
 use Rattle.rules.specs.declared.Settings.{Settings}
 use Rattle.rules.specs.declared.Tracking.{Tracking}
 use Rattle.rules.specs.declared.Tracking.the-variants.{Off, On}
@@ -46,7 +46,7 @@ use Rattle.rules.proofs.RunLaws.{clearFirst-length}
 use Rattle.rules.proofs.OrderLaws.{StartPassed, startOrder-passed, PartPassed, partOrder-passed}
 use Rattle.rules.proofs.StartLaws.{rangesOf-length}
 use Rattle.rules.proofs.Isolation.{withSlot-slotAt}
-use Rattle.record.specs.Record.{soundWith, noController, controllerAt, withController, withSequence, unitsOf, isOn, placesOf, hasStopped, seenIn, othersIn, frontOf, frontIn, arrivingIn}
+use Rattle.record.specs.Record.{soundWith, noController, controllerAt, withController, withSequence, unitsOf, trackedBy, trackerOf, placesOf, hasStopped, seenIn, othersIn, frontOf, frontIn, arrivingIn}
 use Rattle.ranges.proofs.RangeLaws.{HeldFacts, listTests-numbers, listTests-facts}
 use Rattle.record.proofs.RecordLaws.{soundDevice-facts, soundDevice-held, sequence-within, frontOf-length, frontOf-take, sharesOf-at, soundDevice-shares, soundDevice-inside, soundDevice-apart, soundDevice-queues, soundDevice-queue}
 use Rattle.record.proofs.QueueLaws.{RingFacts, ring-facts}
@@ -59,7 +59,7 @@ use Rattle.controller_state.proofs.ArrivalLaws.{joined-stored}
 use Rattle.calls.specs.Calls.{inWords, receiveBy, startBy, stopBy, writeBy, marksAt, withMarks, withClear, basesOf, sizesOf, withBase, packedFrom, packedDevice, packedWords, Change, changed, started, startedWith, startDone, startChange, stopped, stopDone, stopChange, flagged, flagDone, suspendChange, dropped, resumeDone, resumeChange, Note, noted, noteIn, writeDone, writeNote, Receipt, received, receiveIn, receiveDone, receiveReceipt, Arrival, arrival, partDone, partAt, partChange, queuing, withQueue, madeRing, makeDone, makeChange, fillIn, queuedIn, ringPosted, ringTaken, Posting, posting, postIn, postDone, postAt, postChange, Taking, taking, takeIn, takeDone, takeAt, takeChange}
 use Rattle.calls.specs.declared.Changed.{Changed}
 use Rattle.calls.specs.declared.Started.{Started}
-use Rattle.demands.specs.View.{marksOf, queueOf, slotOf, frontAt, strayIn, amissIn, view, Outcome, answered, starts, stops, flags, notes, receipts, arrives, lentAt, handedOn, posts, takes, runAs, run}
+use Rattle.demands.specs.View.{marksOf, queueOf, managerIn, slotOf, frontAt, strayIn, amissIn, view, Outcome, answered, starts, stops, flags, notes, receipts, arrives, lentAt, handedOn, posts, takes, runAs, run}
 use Rattle.demands.proofs.MarkLaws.{Away, clear-length, clear-other, put-length as marks-length, put-own, put-other, packs-length, packs-kept, packs-clear}
 use Rattle.demands.proofs.QueueLaws.{Counted, made-ok, made-queue, posted-ok, posted-counted, posted-queue, posted-answer, taken-ok, taken-counted, taken-queue, taken-entries, taken-closing}
 use Rattle.demands.proofs.ViewLaws.{Listed, Totalled, Fits, slot-at, seen-same, placeOf-used, view-with, front-own, front-others, stray-own, front-dropped, front-undropped, stray-dropped, arriving-same}
@@ -69,7 +69,7 @@ use Rattle.demands.proofs.ViewLaws.{Listed, Totalled, Fits, slot-at, se
 -- no test of a call has the number 0
 pub order-numbers : (s : Settings) (v : Seen) (a : Arriving) (o : Op) → All (λ (t : Test). 1 ≤ t .number) (order s v a o)
 unfolding order
-order-numbers s v a (start x) = (
+order-numbers s v a (start m x) = (
   omega arith,
   (
     omega arith,
@@ -85,8 +85,11 @@ order-numbers s v a (start x) = (
               omega arith,
               (
                 omega arith,
-                All-append (λ (t : Test). 1 ≤ t .number) (listTests s (granularityOf x) (countOf x) (rangesOf x)) (startShared s (v .counts) (v .units) x)
-                    (listTests-numbers s (granularityOf x) (countOf x) (rangesOf x)) (omega arith, (omega arith, tt)),
+                (
+                  omega arith,
+                  All-append (λ (t : Test). 1 ≤ t .number) (listTests s (granularityOf x) (countOf x) (rangesOf x)) (startShared s m (v .units) (v .managed m) (v .counts) x)
+                      (listTests-numbers s (granularityOf x) (countOf x) (rangesOf x)) (omega arith, (omega arith, (omega arith, tt))),
+                ),
               ),
             ),
           ),
@@ -95,26 +98,26 @@ order-numbers s v a (start x) = (
     ),
   ),
 )
-order-numbers s v a stop = (omega arith, (omega arith, (omega arith, (omega arith, tt))))
+order-numbers s v a (stop m) = (omega arith, (omega arith, (omega arith, (omega arith, (omega arith, tt)))))
 order-numbers s v a (write w) = (omega arith, (omega arith, (omega arith, (omega arith, tt))))
-order-numbers s v a (receive x) = (omega arith, (omega arith, (omega arith, (omega arith, tt))))
-order-numbers s v a (suspend kind) = (omega arith, (omega arith, (omega arith, tt)))
-order-numbers s v a resume = (omega arith, (omega arith, (omega arith, tt)))
-order-numbers s v a (part p) = (omega arith, (omega arith, (omega arith, (omega arith, (omega arith, (omega arith, (omega arith, (omega arith, tt))))))))
+order-numbers s v a (receive m x) = (omega arith, (omega arith, (omega arith, (omega arith, (omega arith, tt)))))
+order-numbers s v a (suspend m kind) = (omega arith, (omega arith, (omega arith, (omega arith, tt))))
+order-numbers s v a (resume m) = (omega arith, (omega arith, (omega arith, (omega arith, tt))))
+order-numbers s v a (part m p) = (omega arith, (omega arith, (omega arith, (omega arith, (omega arith, (omega arith, (omega arith, (omega arith, (omega arith, tt)))))))))
 order-numbers s v a (queue bytes make) = (omega arith, (omega arith, (omega arith, tt)))
 order-numbers s v a (queue bytes (post e)) = (omega arith, (omega arith, (omega arith, (omega arith, (omega arith, (omega arith, tt))))))
 order-numbers s v a (queue bytes (order.take asked x)) = (omega arith, (omega arith, (omega arith, (omega arith, tt))))
 
--- the first two tests of every call: a sound record with its marks, and a known controller
+-- among the first tests of every call: a sound record with its marks, and a known controller
 order-known : (s : Settings) (v : Seen) (a : Arriving) (o : Op) → Passed (order s v a o) → (v .sound ≡ true) × (v .known ≡ true)
 unfolding order
-order-known s v a (start x) q = (q .0, q .1 .0)
-order-known s v a stop q = (q .0, q .1 .0)
+order-known s v a (start m x) q = (q .0, q .1 .1 .0)
+order-known s v a (stop m) q = (q .0, q .1 .1 .0)
 order-known s v a (write w) q = (q .0, q .1 .0)
-order-known s v a (receive x) q = (q .0, q .1 .0)
-order-known s v a (suspend kind) q = (q .0, q .1 .0)
-order-known s v a resume q = (q .0, q .1 .0)
-order-known s v a (part p) q = (and-left (v .sound) (a .area) (q .0), q .1 .0)
+order-known s v a (receive m x) q = (q .0, q .1 .1 .0)
+order-known s v a (suspend m kind) q = (q .0, q .1 .1 .0)
+order-known s v a (resume m) q = (q .0, q .1 .1 .0)
+order-known s v a (part m p) q = (and-left (v .sound) (a .area) (q .0), q .1 .1 .0)
 order-known s v a (queue bytes k) q = (q .0, q .1 .0)
 
 answered-refused : (n i : ℕ) (a : Answer) → 1 ≤ n → answered n i a ≡ refused n i
@@ -138,13 +141,13 @@ clear-is (u ∷ us) = ap (λ l. false ∷ l) (clear-is us)
 
 -- ---- tracked or not
 
-pub not-on : (t : Tracking) → not (isOn t) ≡ true → t ≡ Off
-not-on Off e = refl
-not-on (On g n) e = absurd (true≢false (sym e))
+pub not-on : (t : Tracking) (m : ℕ) → not (isSome (trackedBy t m)) ≡ true → t ≡ Off
+not-on Off m e = refl
+not-on (On g n) m e = absurd (true≢false (sym e))
 
-pub is-on : (t : Tracking) → isOn t ≡ true → (g : ℕ) × (n : ℕ) × (t ≡ On g n)
-is-on Off e = absurd (true≢false (sym e))
-is-on (On g n) e = (g, n, refl)
+pub is-on : (t : Tracking) (m b : ℕ) → isTracker b (trackedBy t m) ≡ true → (g : ℕ) × (n : ℕ) × (t ≡ On g n)
+is-on Off m b e = absurd (true≢false (sym e))
+is-on (On g n) m b e = (g, n, refl)
 
 -- a tracked controller of a sound record has its ranges
 pub listed-some : (d : Device) (ws area : List ℕ) → Fits d ws area → soundDevice d ≡ true → (j : ℕ) → j < d .settings .count → (g n : ℕ) → getD (d .controllers) j noController .tracking ≡ On g n
@@ -293,7 +296,7 @@ module _ (d : Device) (ws area : List ℕ) (qs : ℕ → List ℕ) (fits : Fits 
             → slotOf inWords ws′ (getD (set (d .controllers) i e) j noController) (frontAt (d .settings) q area′ j) (qs′ j) ≡ slotOf inWords ws (at j) (front j) (qs j)
         other j n h =
             ap (λ x. slotOf inWords ws′ x (frontAt (d .settings) q area′ j) (qs′ j)) (getD-set-other (d .controllers) i j e noController n)
-            ∙ ap₂ (λ m f. record { suspended = at j .suspended; marks = m; front = f; queue = queueOf (qs′ j) (at j .queue) }) (kept-slot ws′ kept j n h) (fronts j n)
+            ∙ ap₂ (λ m f. record { suspended = at j .suspended; manager = managerIn (at j .tracking) (at j .manager); marks = m; front = f; queue = queueOf (qs′ j) (at j .queue) }) (kept-slot ws′ kept j n h) (fronts j n)
             ∙ ap (λ x. slotOf inWords ws (at j) (front j) x) (areas j n)
 
     -- the same without another sequence, and with its queue as it was
@@ -326,10 +329,10 @@ module _ (d : Device) (ws area : List ℕ) (qs : ℕ → List ℕ) (fits : Fits 
 
     -- ---- start
 
-    start-done : (x : List ℕ) → StartPassed (d .settings) (seenIn d (length ws) (some i)) x → c .tracking ≡ Off
-        → Does x (starts area qs x (startDone inWords d ws x (some i))) (some i) (start x)
+    start-done : (b : ℕ) (x : List ℕ) → StartPassed (d .settings) b (seenIn d (length ws) (some i)) x → c .tracking ≡ Off
+        → Does x (starts area qs x (startDone inWords d ws b x (some i))) (some i) (start b x)
     unfolding getShare
-    start-done x q idle =
+    start-done b x q idle =
         rw own (record { answer = refl; state = state; bytes = refl; fits = packed-fits })
       where
         f : HeldFacts (d .settings) (granularityOf x) (countOf x) (rangesOf x)
@@ -339,10 +342,10 @@ module _ (d : Device) (ws area : List ℕ) (qs : ℕ → List ℕ) (fits : Fits 
         first = put-take-front (replicate 16 noRange) (countOf x) (rangesOf x) (rangesOf-length x) (f .few)
 
         e : Device
-        e = withController d i (started c x)
+        e = withController d i (started c b x)
 
         eight-e : length (e .controllers) ≡ 8
-        eight-e = length-set (d .controllers) i (started c x) ∙ fits .controllers
+        eight-e = length-set (d .controllers) i (started c b x) ∙ fits .controllers
 
         sizes : List ℕ
         sizes = sizesOf e
@@ -353,14 +356,14 @@ module _ (d : Device) (ws area : List ℕ) (qs : ℕ → List ℕ) (fits : Fits 
         ws′ : List ℕ
         ws′ = packedWords ws (basesOf d) sizes i
 
-        room : heldUnits (heldOf (started c x)) + unitsOf d ≤ mostUnits
+        room : heldUnits (heldOf (started c b x)) + unitsOf d ≤ mostUnits
         room = rw first (q .room)
 
         packs : Packs (flat ws) (basesOf d) sizes i
-        packs = start-packs d (fits .controllers) sure i used idle (started c x) room ws (fits .words)
+        packs = start-packs d (fits .controllers) sure i used idle (started c b x) room ws (fits .words)
 
         fit : newBase sizes 8 ≤ 16384
-        fit = sizes-fit d (fits .controllers) sure i used idle (started c x) room
+        fit = sizes-fit d (fits .controllers) sure i used idle (started c b x) room
 
         -- how many bits the share at a place has
         size-at : (j : ℕ) → j < d .settings .count → getD sizes j 0 ≡ heldUnits (heldOf (getD (e .controllers) j noController))
@@ -383,21 +386,21 @@ module _ (d : Device) (ws area : List ℕ) (qs : ℕ → List ℕ) (fits : Fits 
             go false z = reads
 
         slot-is : (j : ℕ) (k : Controller) (m : Marks) (y : Option (List ℕ)) → marksOf inWords ws′ (packedAt sizes j k .base) (k .tracking) (k .ranges) ≡ m
-            → slotOf inWords ws′ (packedAt sizes j k) y (qs j) ≡ record { suspended = k .suspended; marks = m; front = y; queue = queueOf (qs j) (k .queue) }
+            → slotOf inWords ws′ (packedAt sizes j k) y (qs j) ≡ record { suspended = k .suspended; manager = managerIn (k .tracking) (k .manager); marks = m; front = y; queue = queueOf (qs j) (k .queue) }
         slot-is j k m y is =
             let a = packed-alike e eight-e most j k in
-            rw (a .0, a .1, a .2, a .3) (ap (λ z. record { suspended = k .suspended; marks = z; front = y; queue = queueOf (qs j) (k .queue) }) is)
+            rw (a .0, a .1, a .2, a .3, a .4) (ap (λ z. record { suspended = k .suspended; manager = managerIn (k .tracking) (k .manager); marks = z; front = y; queue = queueOf (qs j) (k .queue) }) is)
 
         words′ : length ws′ ≡ markWords
         words′ = packs-length ws (fits .words) (basesOf d) sizes i packs
 
         others : (j : ℕ) → j ≢ i → j < d .settings .count → slotOf inWords ws′ (getD (packedDevice e .controllers) j noController) (front j) (qs j) ≡ slotOf inWords ws (at j) (front j) (qs j)
         others j n h =
-            ap (λ k. slotOf inWords ws′ k (front j) (qs j)) (packed-at e j (omega (arith, h, most, eight-e)) ∙ ap (packedAt sizes j) (getD-set-other (d .controllers) i j (started c x) noController n))
+            ap (λ k. slotOf inWords ws′ k (front j) (qs j)) (packed-at e j (omega (arith, h, most, eight-e)) ∙ ap (packedAt sizes j) (getD-set-other (d .controllers) i j (started c b x) noController n))
             ∙ slot-is j (at j) (marksOf inWords ws (at j .base) (at j .tracking) (at j .ranges)) (front j) (go (at j .tracking) refl)
           where
             size : getD sizes j 0 ≡ heldUnits (heldOf (at j))
-            size = size-at j h ∙ ap (λ k. heldUnits (heldOf k)) (getD-set-other (d .controllers) i j (started c x) noController n)
+            size = size-at j h ∙ ap (λ k. heldUnits (heldOf k)) (getD-set-other (d .controllers) i j (started c b x) noController n)
 
             go : (t : Tracking) → at j .tracking ≡ t → marksOf inWords ws′ (packedAt sizes j (at j) .base) (at j .tracking) (at j .ranges) ≡ marksOf inWords ws (at j .base) (at j .tracking) (at j .ranges)
             go Off t = rw t
@@ -419,17 +422,17 @@ module _ (d : Device) (ws area : List ℕ) (qs : ℕ → List ℕ) (fits : Fits 
         queues-packed (y ∷ cs) k = let a = packed-alike e eight-e most k y in rw (a .3) (ap (λ b. queueOk (y .queue) && b) (queues-packed cs (suc k)))
 
         queues : queuesOk (packedDevice e) ≡ true
-        queues = rw (packed-take (d .settings .count) 0 (e .controllers)) (queues-packed (controllersOf e) 0 ∙ queues-with (started c x) queue-kept)
+        queues = rw (packed-take (d .settings .count) 0 (e .controllers)) (queues-packed (controllersOf e) 0 ∙ queues-with (started c b x) queue-kept)
 
-        state : view inWords (packedDevice e) ws′ area qs ≡ withSlot st (some i) (withMarksOf (slotOf inWords ws c (front i) (qs i)) (on (granularityOf x) (rangesOf x) (clear us)))
+        state : view inWords (packedDevice e) ws′ area qs ≡ withSlot st (some i) (trackedWith (slotOf inWords ws c (front i) (qs i)) b (on (granularityOf x) (rangesOf x) (clear us)))
         state =
-            let size : getD sizes i 0 ≡ length us = size-at i used ∙ ap (λ k. heldUnits (heldOf k)) (getD-set-same (d .controllers) i (started c x) noController (eight i used)) ∙ rw first in
+            let size : getD sizes i 0 ≡ length us = size-at i used ∙ ap (λ k. heldUnits (heldOf k)) (getD-set-same (d .controllers) i (started c b x) noController (eight i used)) ∙ rw first in
             view-with d (packedDevice e) ws ws′ area area qs qs i (fits .controllers) (packed-eight e eight-e most) refl most used
             (amiss-same (packedDevice e) refl refl (packed-ok e eight-e most fit) queues) others
             ∙ ap (withSlot st (some i))
-            (ap (λ k. slotOf inWords ws′ k (front i) (qs i)) (packed-at e i (omega (arith, used, most, eight-e)) ∙ ap (packedAt sizes i) (getD-set-same (d .controllers) i (started c x) noController (eight i used)))
-            ∙ slot-is i (started c x) (on (granularityOf x) (rangesOf x) (clear us)) (front i)
-            (based i (started c x) (granularityOf x) (countOf x) refl (size ∙ rw first) (replicate (getD sizes i 0) false) (length-replicate (getD sizes i 0) false)
+            (ap (λ k. slotOf inWords ws′ k (front i) (qs i)) (packed-at e i (omega (arith, used, most, eight-e)) ∙ ap (packedAt sizes i) (getD-set-same (d .controllers) i (started c b x) noController (eight i used)))
+            ∙ slot-is i (started c b x) (on (granularityOf x) (rangesOf x) (clear us)) (front i)
+            (based i (started c b x) (granularityOf x) (countOf x) refl (size ∙ rw first) (replicate (getD sizes i 0) false) (length-replicate (getD sizes i 0) false)
             (packs-clear ws (fits .words) (basesOf d) sizes i packs (omega (arith, used, most)))
             ∙ rw (first, size) (ap (on (granularityOf x) (rangesOf x)) (clear-is us))))
 
@@ -448,17 +451,17 @@ module _ (d : Device) (ws area : List ℕ) (qs : ℕ → List ℕ) (fits : Fits 
               identifiers = fits .identifiers;
               listed =
                   listed-packed (e .controllers) 0
-                  (All-set Listed (d .controllers) i (started c x) (fits .listed)
+                  (All-set Listed (d .controllers) i (started c b x) (fits .listed)
                   (λ g n t. let z : countOf x ≡ n = cc in omega (arith, f .few, put-length (replicate 16 noRange) 0 (rangesOf x), length-replicate 16 noRange)));
-              totals = totals-packed (e .controllers) 0 (All-set Totalled (d .controllers) i (started c x) (fits .totals) totalled);
+              totals = totals-packed (e .controllers) 0 (All-set Totalled (d .controllers) i (started c b x) (fits .totals) totalled);
               words = words′;
               bytes = fits .bytes;
             }
 
     -- ---- stop
 
-    stop-done : (g n : ℕ) → c .tracking ≡ On g n → Does [] (stops area qs (stopDone inWords d ws (some i))) (some i) stop
-    stop-done g n t =
+    stop-done : (b g n : ℕ) → c .tracking ≡ On g n → Does [] (stops area qs (stopDone inWords d ws (some i))) (some i) (stop b)
+    stop-done b g n t =
         let size : heldUnits (heldOf c) ≡ sizeOf i g n = rw t in
         let inside : c .base + heldUnits (heldOf c) ≤ 64 * markWords = omega (arith, size, within i g n used t) in
         rw own (record {
@@ -472,13 +475,13 @@ module _ (d : Device) (ws area : List ℕ) (qs : ℕ → List ℕ) (fits : Fits 
 
     -- ---- suspend and resume
 
-    suspend-done : (kind : ℕ) → Does [] (flags ws area qs (flagDone d (some i) (c .suspended || eqb kind 1))) (some i) (suspend kind)
-    suspend-done kind =
+    suspend-done : (b kind : ℕ) → Does [] (flags ws area qs (flagDone d (some i) (c .suspended || eqb kind 1))) (some i) (suspend b kind)
+    suspend-done b kind =
         let e = flagged c (c .suspended || eqb kind 1) in
         rw own (record { answer = refl; state = replaced e ws (same-share e refl) refl (λ j g n other h t. refl); bytes = refl; fits = still e ws listed totalled (fits .words) })
 
-    resume-done : Does [] (flags ws area qs (resumeDone d id (some i))) (some i) resume
-    resume-done =
+    resume-done : (b : ℕ) → Does [] (flags ws area qs (resumeDone d id (some i))) (some i) (resume b)
+    resume-done b =
         let e = flagged c false in
         let f = still e ws listed totalled (fits .words) in
         rw own (record {
@@ -547,10 +550,10 @@ module _ (d : Device) (ws area : List ℕ) (qs : ℕ → List ℕ) (fits : Fits 
 
     -- ---- receive
 
-    receive-done : (x : List ℕ) → isOn (c .tracking) ≡ true → Does x (receipts d area qs (receiveDone inWords d ws id x (some i))) (some i) (receive x)
-    receive-done x q = rw own (go (c .tracking) refl q)
+    receive-done : (b : ℕ) (x : List ℕ) → isTracker b (trackerOf c) ≡ true → Does x (receipts d area qs (receiveDone inWords d ws id x (some i))) (some i) (receive b x)
+    receive-done b x q = rw own (go (c .tracking) refl q)
       where
-        go : (t : Tracking) → c .tracking ≡ t → isOn t ≡ true
+        go : (t : Tracking) → c .tracking ≡ t → isTracker b (trackedBy t (c .manager)) ≡ true
             → let r = reportedIn (c .suspended) (length x) (marksOf inWords ws (c .base) t (c .ranges)) in
             Like id x (receipts d area qs (receiveIn inWords ws (c .base) id (c .suspended) t (c .ranges) x)) (r .0)
             (withSlot st (some i) (withMarksOf (slotOf inWords ws c (front i) (qs i)) (r .1)))
@@ -568,8 +571,8 @@ module _ (d : Device) (ws area : List ℕ) (qs : ℕ → List ℕ) (fits : Fits 
 
     -- ---- a part of a state
 
-    part-done : (p : Part) → PartPassed (seenIn d (length ws) (some i)) (arrivingAt st (some i)) p → Does (p .bytes) (arrives ws qs (p .bytes) (partDone d area id p)) (some i) (part p)
-    part-done p passed = rw (own, front-is) (go (isLast p) refl)
+    part-done : (b : ℕ) (p : Part) → PartPassed (seenIn d (length ws) (some i)) (arrivingAt st (some i)) p → Does (p .bytes) (arrives ws qs (p .bytes) (partDone d area id p)) (some i) (part b p)
+    part-done b p passed = rw (own, front-is) (go (isLast p) refl)
       where
         -- what it sees of the sequence
         so-far : Option (List ℕ)
@@ -766,25 +769,25 @@ module _ (d : Device) (ws area : List ℕ) (qs : ℕ → List ℕ) (fits : Fits 
       go (some i) k q = e i k (order-known (d .settings) (seenIn d (length ws) (some i)) (arrivingAt st (some i)) o q .0) q
 
   -- a start's refusals, with their rows
-  start-refuses : (x : List ℕ) (v : Seen) (a : Arriving) → Refuses (Change Started) x (starts area qs x) (λ n i. startedWith n i d ws) (order (d .settings) v a (start x))
-  start-refuses x v a =
-      All-map (λ (t : Test) h. ap (λ b. unchanged b x) (answered-refused (t .number) (t .place) done h)) (order (d .settings) v a (start x))
-      (order-numbers (d .settings) v a (start x))
+  start-refuses : (b : ℕ) (x : List ℕ) (v : Seen) (a : Arriving) → Refuses (Change Started) x (starts area qs x) (λ n i. startedWith n i d ws) (order (d .settings) v a (start b x))
+  start-refuses b x v a =
+      All-map (λ (t : Test) h. ap (λ y. unchanged y x) (answered-refused (t .number) (t .place) done h)) (order (d .settings) v a (start b x))
+      (order-numbers (d .settings) v a (start b x))
 
   -- a part is refused as if it saw what the rules see: before 23 it looks at no sequence
-  part-seen : (p : Part) → partChange d (length ws) area id p ≡ verdict (table (placeOf (d .settings) id) (part p)) (partDone d area id p) (λ n j. arrival n 0 d area)
+  part-seen : (m : ℕ) (p : Part) → partChange d (length ws) area m id p ≡ verdict (table (placeOf (d .settings) id) (part m p)) (partDone d area id p) (λ n j. arrival n 0 d area)
   unfolding order partChange
-  part-seen p = go (placeOf (d .settings) id) refl (soundWith d (length ws)) refl
+  part-seen m p = go (placeOf (d .settings) id) refl (soundWith d (length ws)) refl
     where
       refuse : ℕ → ℕ → Arrival
       refuse n j = arrival n 0 d area
 
       go : (q : Option ℕ) → placeOf (d .settings) id ≡ q → (b : Bool) → soundWith d (length ws) ≡ b
-          → partAt d (length ws) area id p q ≡ verdict (partOrder (seenIn d (length ws) q) (arrivingAt st q) p) (partDone d area id p) refuse
+          → partAt d (length ws) area m id p q ≡ verdict (partOrder (d .settings) m (seenIn d (length ws) q) (arrivingAt st q) p) (partDone d area id p) refuse
       go q e false s = rw s
       go none e true s = rw (s, eq-eqb (length area) stateMost (fits .bytes))
       go (some i) e true s =
-          ap (λ (a : Arriving). verdict (partOrder (seenIn d (length ws) (some i)) a p) (partDone d area id p) refuse)
+          ap (λ (a : Arriving). verdict (partOrder (d .settings) m (seenIn d (length ws) (some i)) a p) (partDone d area id p) refuse)
           (arriving-same d ws area qs fits id i e (sure i e s))
 
   -- a queue that a post or a take found was made
@@ -832,27 +835,28 @@ module _ (d : Device) (ws area : List ℕ) (qs : ℕ → List ℕ) (fits : Fits 
 
   every-call : (o : Op) → Like id (lent o) (runAs inWords d ws area qs id o) ((stepAt st (placeOf (d .settings) id) o) .0) ((stepAt st (placeOf (d .settings) id) o) .1)
   unfolding order startBy stopBy writeBy receiveBy suspendChange resumeChange makeChange
-  every-call (start x) =
-      at-place (start x) (Change Started) x (starts area qs x) (startDone inWords d ws x) (λ n i. startedWith n i d ws) (start-refuses x)
-      (λ i e s q. let p = startOrder-passed (d .settings) (seenIn d (length ws) (some i)) x q in start-done i e s x p (not-on (controllerAt d (some i) .tracking) (p .untracked)))
-  every-call stop =
-      at-place stop (Change Changed) [] (stops area qs) (stopDone inWords d ws) (λ n i. changed n d ws) (λ v a. (refl, (refl, (refl, (refl, tt))))) (λ i e s q. let o = is-on (controllerAt d (some i) .tracking) (q .1 .1 .1 .0) in stop-done i e s (o .0) (o .1) (o .2))
+  every-call (start b x) =
+      at-place (start b x) (Change Started) x (starts area qs x) (startDone inWords d ws b x) (λ n i. startedWith n i d ws) (start-refuses b x)
+      (λ i e s q. let p = startOrder-passed (d .settings) b (seenIn d (length ws) (some i)) x q in start-done i e s b x p (not-on (controllerAt d (some i) .tracking) (controllerAt d (some i) .manager) (p .untracked)))
+  every-call (stop b) =
+      at-place (stop b) (Change Changed) [] (stops area qs) (stopDone inWords d ws) (λ n i. changed n d ws) (λ v a. (refl, (refl, (refl, (refl, (refl, tt))))))
+      (λ i e s q. let o = is-on (controllerAt d (some i) .tracking) (controllerAt d (some i) .manager) b (q .1 .1 .1 .1 .0) in stop-done i e s b (o .0) (o .1) (o .2))
   every-call (write w) =
       at-place (write w) Note [] (notes d area qs) (writeDone inWords d ws w) (λ n i. noted n 0 ws) (λ v a. (refl, (refl, (refl, (refl, tt))))) (λ i e s q. write-done i e s w)
-  every-call (receive x) =
-      at-place (receive x) Receipt x (receipts d area qs) (receiveDone inWords d ws id x) (λ n i. received n noReport ws x) (λ v a. (refl, (refl, (refl, (refl, tt)))))
-      (λ i e s q. receive-done i e s x (q .1 .1 .0))
-  every-call (suspend kind) =
-      at-place (suspend kind) Changed [] (flags ws area qs) (λ p. flagDone d p (controllerAt d p .suspended || eqb kind 1)) (λ n i. record { number = n; device = d })
-      (λ v a. (refl, (refl, (refl, tt)))) (λ i e s q. suspend-done i e s kind)
-  every-call resume =
-      at-place resume Changed [] (flags ws area qs) (resumeDone d id) (λ n i. record { number = n; device = d }) (λ v a. (refl, (refl, (refl, tt))))
-      (λ i e s q. resume-done i e s)
-  every-call (part p) =
-      rw (part-seen p)
-      (at-place (part p) Arrival (p .bytes) (arrives ws qs (p .bytes)) (λ i. partDone d area id p) (λ n j. arrival n 0 d area)
-      (λ v a. (refl, (refl, (refl, (refl, (refl, (refl, (refl, (refl, tt)))))))))
-      (λ i e s q. part-done i e s p (partOrder-passed (seenIn d (length ws) (some i)) (arrivingAt st (some i)) p q)))
+  every-call (receive b x) =
+      at-place (receive b x) Receipt x (receipts d area qs) (receiveDone inWords d ws id x) (λ n i. received n noReport ws x) (λ v a. (refl, (refl, (refl, (refl, (refl, tt))))))
+      (λ i e s q. receive-done i e s b x (q .1 .1 .1 .0))
+  every-call (suspend b kind) =
+      at-place (suspend b kind) Changed [] (flags ws area qs) (λ p. flagDone d p (controllerAt d p .suspended || eqb kind 1)) (λ n i. record { number = n; device = d })
+      (λ v a. (refl, (refl, (refl, (refl, tt))))) (λ i e s q. suspend-done i e s b kind)
+  every-call (resume b) =
+      at-place (resume b) Changed [] (flags ws area qs) (resumeDone d id) (λ n i. record { number = n; device = d }) (λ v a. (refl, (refl, (refl, (refl, tt)))))
+      (λ i e s q. resume-done i e s b)
+  every-call (part b p) =
+      rw (part-seen b p)
+      (at-place (part b p) Arrival (p .bytes) (arrives ws qs (p .bytes)) (λ i. partDone d area id p) (λ n j. arrival n 0 d area)
+      (λ v a. (refl, (refl, (refl, (refl, (refl, (refl, (refl, (refl, (refl, tt))))))))))
+      (λ i e s q. part-done i e s b p (partOrder-passed (d .settings) b (seenIn d (length ws) (some i)) (arrivingAt st (some i)) p q)))
   every-call (queue bytes make) =
       at-place (queue bytes make) Changed [] (flags ws area qs) (makeDone d bytes) (λ n i. record { number = n; device = d }) (λ v a. (refl, (refl, (refl, tt))))
       (λ i e s q. make-done i e s bytes (q .1 .1 .0))

@@ -100,8 +100,8 @@ module _ (d : Device) (ws bs area : List ℕ) (fits : Fits d ws area) (alike : A
     inside : (g n : ℕ) → c .tracking ≡ On g n → c .base + length (units g (take n (c .ranges))) ≤ 64 * markWords
     inside g n t = soundDevice-inside d i g n sure used there t (listed-some d ws area fits sure i used g n t)
 
-    started-paired : (x : List ℕ) → StartPassed (d .settings) (seenIn d (length ws) (some i)) x → Paired (startDone inWords d ws x (some i)) (startDone inBytes d bs x (some i))
-    started-paired x q = record { answer = refl; marks = same-packed ws bs alike (fits .words) (basesOf d) (sizesOf (withController d i (started c x))) i packs }
+    started-paired : (b : ℕ) (x : List ℕ) → StartPassed (d .settings) b (seenIn d (length ws) (some i)) x → Paired (startDone inWords d ws b x (some i)) (startDone inBytes d bs b x (some i))
+    started-paired b x q = record { answer = refl; marks = same-packed ws bs alike (fits .words) (basesOf d) (sizesOf (withController d i (started c b x))) i packs }
       where
         f : HeldFacts (d .settings) (granularityOf x) (countOf x) (rangesOf x)
         f = listTests-facts (d .settings) (granularityOf x) (countOf x) (rangesOf x) (soundDevice-facts d sure .greatest) (q .granularity) (q .list)
@@ -109,11 +109,11 @@ module _ (d : Device) (ws bs area : List ℕ) (fits : Fits d ws area) (alike : A
         first : take (countOf x) (placed (rangesOf x)) ≡ rangesOf x
         first = put-take-front (replicate 16 noRange) (countOf x) (rangesOf x) (rangesOf-length x) (f .few)
 
-        room : heldUnits (heldOf (started c x)) + unitsOf d ≤ mostUnits
+        room : heldUnits (heldOf (started c b x)) + unitsOf d ≤ mostUnits
         room = rw first (q .room)
 
-        packs : Packs (flat ws) (basesOf d) (sizesOf (withController d i (started c x))) i
-        packs = start-packs d (fits .controllers) sure i used (not-on (c .tracking) (q .untracked)) (started c x) room ws (fits .words)
+        packs : Packs (flat ws) (basesOf d) (sizesOf (withController d i (started c b x))) i
+        packs = start-packs d (fits .controllers) sure i used (not-on (c .tracking) (c .manager) (q .untracked)) (started c b x) room ws (fits .words)
 
     stopped-paired : (g n : ℕ) → c .tracking ≡ On g n → Paired (stopDone inWords d ws (some i)) (stopDone inBytes d bs (some i))
     stopped-paired g n t =
@@ -151,33 +151,33 @@ module _ (d : Device) (ws bs area : List ℕ) (fits : Fits d ws area) (alike : A
 
   -- ---- the calls that touch marks
 
-  pub start-paired : (id : ℕ) (x : List ℕ) → Paired (startBy inWords d ws id x) (startBy inBytes d bs id x)
+  pub start-paired : (b id : ℕ) (x : List ℕ) → Paired (startBy inWords d ws b id x) (startBy inBytes d bs b id x)
   unfolding startBy
-  start-paired id x = go (placeOf (d .settings) id) refl
+  start-paired b id x = go (placeOf (d .settings) id) refl
     where
-      go : (p : Option ℕ) → placeOf (d .settings) id ≡ p → Paired (startAt inWords d ws x p) (startAt inBytes d bs x p)
+      go : (p : Option ℕ) → placeOf (d .settings) id ≡ p → Paired (startAt inWords d ws b x p) (startAt inBytes d bs b x p)
       go p e =
-          subst (λ n. Paired (startAt inWords d ws x p) (verdict (startOrder (d .settings) (seenIn d n p) x) (startDone inBytes d bs x p) (λ n i. startedWith n i d bs))) words
-          (verdict-both Paired (startOrder (d .settings) (seenIn d (length ws) p) x) (startDone inWords d ws x p) (startDone inBytes d bs x p) (λ n i. startedWith n i d ws) (λ n i. startedWith n i d bs)
-          (agree Paired (λ n i. startedWith n i d ws) (λ n i. startedWith n i d bs) (λ n i. record { answer = refl; marks = alike }) (startOrder (d .settings) (seenIn d (length ws) p) x)) (done p e))
+          subst (λ n. Paired (startAt inWords d ws b x p) (verdict (startOrder (d .settings) b (seenIn d n p) x) (startDone inBytes d bs b x p) (λ n i. startedWith n i d bs))) words
+          (verdict-both Paired (startOrder (d .settings) b (seenIn d (length ws) p) x) (startDone inWords d ws b x p) (startDone inBytes d bs b x p) (λ n i. startedWith n i d ws) (λ n i. startedWith n i d bs)
+          (agree Paired (λ n i. startedWith n i d ws) (λ n i. startedWith n i d bs) (λ n i. record { answer = refl; marks = alike }) (startOrder (d .settings) b (seenIn d (length ws) p) x)) (done p e))
         where
-          done : (p : Option ℕ) → placeOf (d .settings) id ≡ p → Passed (startOrder (d .settings) (seenIn d (length ws) p) x) → Paired (startDone inWords d ws x p) (startDone inBytes d bs x p)
+          done : (p : Option ℕ) → placeOf (d .settings) id ≡ p → Passed (startOrder (d .settings) b (seenIn d (length ws) p) x) → Paired (startDone inWords d ws b x p) (startDone inBytes d bs b x p)
           done none e q = record { answer = refl; marks = alike }
-          done (some i) e q = started-paired id i e (q .0) x (startOrder-passed (d .settings) (seenIn d (length ws) (some i)) x q)
+          done (some i) e q = started-paired id i e (q .0) b x (startOrder-passed (d .settings) b (seenIn d (length ws) (some i)) x q)
 
-  pub stop-paired : (id : ℕ) → Paired (stopBy inWords d ws id) (stopBy inBytes d bs id)
+  pub stop-paired : (b id : ℕ) → Paired (stopBy inWords d ws b id) (stopBy inBytes d bs b id)
   unfolding stopBy
-  stop-paired id = go (placeOf (d .settings) id) refl
+  stop-paired b id = go (placeOf (d .settings) id) refl
     where
-      go : (p : Option ℕ) → placeOf (d .settings) id ≡ p → Paired (stopAt inWords d ws p) (stopAt inBytes d bs p)
+      go : (p : Option ℕ) → placeOf (d .settings) id ≡ p → Paired (stopAt inWords d ws b p) (stopAt inBytes d bs b p)
       go p e =
-          subst (λ n. Paired (stopAt inWords d ws p) (verdict (stopOrder (seenIn d n p)) (stopDone inBytes d bs p) (λ n i. changed n d bs))) words
-          (verdict-both Paired (stopOrder (seenIn d (length ws) p)) (stopDone inWords d ws p) (stopDone inBytes d bs p) (λ n i. changed n d ws) (λ n i. changed n d bs)
-          (agree Paired (λ n i. changed n d ws) (λ n i. changed n d bs) (λ n i. record { answer = refl; marks = alike }) (stopOrder (seenIn d (length ws) p))) (done p e))
+          subst (λ n. Paired (stopAt inWords d ws b p) (verdict (stopOrder (d .settings) b (seenIn d n p)) (stopDone inBytes d bs p) (λ n i. changed n d bs))) words
+          (verdict-both Paired (stopOrder (d .settings) b (seenIn d (length ws) p)) (stopDone inWords d ws p) (stopDone inBytes d bs p) (λ n i. changed n d ws) (λ n i. changed n d bs)
+          (agree Paired (λ n i. changed n d ws) (λ n i. changed n d bs) (λ n i. record { answer = refl; marks = alike }) (stopOrder (d .settings) b (seenIn d (length ws) p))) (done p e))
         where
-          done : (p : Option ℕ) → placeOf (d .settings) id ≡ p → Passed (stopOrder (seenIn d (length ws) p)) → Paired (stopDone inWords d ws p) (stopDone inBytes d bs p)
+          done : (p : Option ℕ) → placeOf (d .settings) id ≡ p → Passed (stopOrder (d .settings) b (seenIn d (length ws) p)) → Paired (stopDone inWords d ws p) (stopDone inBytes d bs p)
           done none e q = record { answer = refl; marks = alike }
-          done (some i) e q = let o = is-on (controllerAt d (some i) .tracking) (q .1 .1 .1 .0) in stopped-paired id i e (q .0) (o .0) (o .1) (o .2)
+          done (some i) e q = let o = is-on (controllerAt d (some i) .tracking) (controllerAt d (some i) .manager) b (q .1 .1 .1 .1 .0) in stopped-paired id i e (q .0) (o .0) (o .1) (o .2)
 
   pub write-paired : (id : ℕ) (w : Write) → Paired (writeBy inWords d ws id w) (writeBy inBytes d bs id w)
   unfolding writeBy
@@ -193,17 +193,17 @@ module _ (d : Device) (ws bs area : List ℕ) (fits : Fits d ws area) (alike : A
           done none e q = record { answer = refl; marks = alike }
           done (some i) e q = written-paired id i e (q .0) w
 
-  receive-paired : (id : ℕ) (x : List ℕ) → Receipts (receiveBy inWords d ws id x) (receiveBy inBytes d bs id x)
+  receive-paired : (b id : ℕ) (x : List ℕ) → Receipts (receiveBy inWords d ws b id x) (receiveBy inBytes d bs b id x)
   unfolding receiveBy
-  receive-paired id x = go (placeOf (d .settings) id) refl
+  receive-paired b id x = go (placeOf (d .settings) id) refl
     where
-      go : (p : Option ℕ) → placeOf (d .settings) id ≡ p → Receipts (receiveAt inWords d ws id x p) (receiveAt inBytes d bs id x p)
+      go : (p : Option ℕ) → placeOf (d .settings) id ≡ p → Receipts (receiveAt inWords d ws b id x p) (receiveAt inBytes d bs b id x p)
       go p e =
-          subst (λ n. Receipts (receiveAt inWords d ws id x p) (verdict (receiveOrder (seenIn d n p) x) (receiveDone inBytes d bs id x p) (λ n i. received n noReport bs x))) words
-          (verdict-both Receipts (receiveOrder (seenIn d (length ws) p) x) (receiveDone inWords d ws id x p) (receiveDone inBytes d bs id x p) (λ n i. received n noReport ws x) (λ n i. received n noReport bs x)
-          (agree Receipts (λ n i. received n noReport ws x) (λ n i. received n noReport bs x) (λ n i. record { answer = refl; report = refl; marks = alike; buffer = refl }) (receiveOrder (seenIn d (length ws) p) x)) (done p e))
+          subst (λ n. Receipts (receiveAt inWords d ws b id x p) (verdict (receiveOrder (d .settings) b (seenIn d n p) x) (receiveDone inBytes d bs id x p) (λ n i. received n noReport bs x))) words
+          (verdict-both Receipts (receiveOrder (d .settings) b (seenIn d (length ws) p) x) (receiveDone inWords d ws id x p) (receiveDone inBytes d bs id x p) (λ n i. received n noReport ws x) (λ n i. received n noReport bs x)
+          (agree Receipts (λ n i. received n noReport ws x) (λ n i. received n noReport bs x) (λ n i. record { answer = refl; report = refl; marks = alike; buffer = refl }) (receiveOrder (d .settings) b (seenIn d (length ws) p) x)) (done p e))
         where
-          done : (p : Option ℕ) → placeOf (d .settings) id ≡ p → Passed (receiveOrder (seenIn d (length ws) p) x) → Receipts (receiveDone inWords d ws id x p) (receiveDone inBytes d bs id x p)
+          done : (p : Option ℕ) → placeOf (d .settings) id ≡ p → Passed (receiveOrder (d .settings) b (seenIn d (length ws) p) x) → Receipts (receiveDone inWords d ws id x p) (receiveDone inBytes d bs id x p)
           done none e q = record { answer = refl; report = refl; marks = alike; buffer = refl }
           done (some i) e q = received-paired id i e (q .0) x
 
@@ -215,8 +215,8 @@ module _ (d : Device) (ws bs area : List ℕ) (fits : Fits d ws area) (alike : A
     untouched f t = subst (λ n. Twins (f (length ws) ws) (f n bs)) words (t (length ws))
 
     twin-op : (id : ℕ) (o : Op) → Twins (runAs inWords d ws area qs id o) (runAs inBytes d bs area qs id o)
-    twin-op id (start x) =
-        let p = start-paired id x in
+    twin-op id (start b x) =
+        let p = start-paired b id x in
         record {
           answer = ap (λ (a : Started). starts area qs x (record { answer = a; marks = [] }) .answer) (p .answer);
           device = ap (λ (a : Started). a .device) (p .answer);
@@ -225,8 +225,8 @@ module _ (d : Device) (ws bs area : List ℕ) (fits : Fits d ws area) (alike : A
           queues = refl;
           bytes = refl;
         }
-    twin-op id stop =
-        let p = stop-paired id in
+    twin-op id (stop b) =
+        let p = stop-paired b id in
         record {
           answer = ap (λ (a : Changed). stops area qs (record { answer = a; marks = [] }) .answer) (p .answer);
           device = ap (λ (a : Changed). a .device) (p .answer);
@@ -245,23 +245,23 @@ module _ (d : Device) (ws bs area : List ℕ) (fits : Fits d ws area) (alike : A
           queues = refl;
           bytes = refl;
         }
-    twin-op id (receive x) =
-        let p = receive-paired id x in
+    twin-op id (receive b x) =
+        let p = receive-paired b id x in
         record {
           answer =
-              ap (λ (r : Report). receipts d area qs (record { answer = receiveBy inWords d ws id x .answer; report = r; marks = []; buffer = [] }) .answer) (p .report)
-              ∙ ap (λ a. receipts d area qs (record { answer = a; report = receiveBy inBytes d bs id x .report; marks = []; buffer = [] }) .answer) (p .answer);
+              ap (λ (r : Report). receipts d area qs (record { answer = receiveBy inWords d ws b id x .answer; report = r; marks = []; buffer = [] }) .answer) (p .report)
+              ∙ ap (λ a. receipts d area qs (record { answer = a; report = receiveBy inBytes d bs b id x .report; marks = []; buffer = [] }) .answer) (p .answer);
           device = refl;
           marks = p .marks;
           area = refl;
           queues = refl;
           bytes = p .buffer;
         }
-    twin-op id (suspend kind) =
-        untouched (λ n z. flags z area qs (suspendChange d n id kind)) (λ n. record { answer = refl; device = refl; marks = alike; area = refl; queues = refl; bytes = refl })
-    twin-op id resume = untouched (λ n z. flags z area qs (resumeChange d n id)) (λ n. record { answer = refl; device = refl; marks = alike; area = refl; queues = refl; bytes = refl })
-    twin-op id (part p) =
-        untouched (λ n z. arrives z qs (p .bytes) (partChange d n area id p)) (λ n. record { answer = refl; device = refl; marks = alike; area = refl; queues = refl; bytes = refl })
+    twin-op id (suspend b kind) =
+        untouched (λ n z. flags z area qs (suspendChange d n b id kind)) (λ n. record { answer = refl; device = refl; marks = alike; area = refl; queues = refl; bytes = refl })
+    twin-op id (resume b) = untouched (λ n z. flags z area qs (resumeChange d n b id)) (λ n. record { answer = refl; device = refl; marks = alike; area = refl; queues = refl; bytes = refl })
+    twin-op id (part b p) =
+        untouched (λ n z. arrives z qs (p .bytes) (partChange d n area b id p)) (λ n. record { answer = refl; device = refl; marks = alike; area = refl; queues = refl; bytes = refl })
     twin-op id (queue bytes make) =
         untouched (λ n z. flags z area qs (makeChange d n id bytes)) (λ n. record { answer = refl; device = refl; marks = alike; area = refl; queues = refl; bytes = refl })
     twin-op id (queue bytes (post e)) =

@@ -14,8 +14,8 @@ use borrow.Author.Tests.{eq-eqb, ne-eqb, eqb-true, eqb-false, not-false}
 use Rattle.rules.specs.Lists.{all, any, sum, isSome}
 use Rattle.rules.specs.Settings.{markWords, placeOf}
 use Rattle.rules.specs.ControllerState.{stateMost}
-use Rattle.rules.specs.Device.{heldCount, heldUnits, heldIn, heldOf, frontOk, freshController, controllersOf, suspendedAt, sequenceOk, sharesOf, sharesOk, queuesOk, sound, soundDevice}
-use Rattle.rules.specs.Machine.{Slot, freshSlot, areOn, heldOn, heldBy, isOpen, openOk, placesIn, stoppedIn, slotAt, withSlot, soundState, countsIn, unitsIn, seenAt, arrivingAt}
+use Rattle.rules.specs.Device.{heldCount, countsBy, heldUnits, heldIn, heldOf, frontOk, freshController, controllersOf, suspendedAt, sequenceOk, sharesOf, sharesOk, queuesOk, sound, soundDevice}
+use Rattle.rules.specs.Machine.{Slot, freshSlot, trackerOn, heldOn, heldBy, isOpen, openOk, placesIn, stoppedIn, slotAt, withSlot, soundState, managedIn, countsIn, unitsIn, seenAt, arrivingAt}
 use Rattle.rules.specs.declared.Range.{Range}
 use Rattle.rules.specs.declared.Tracking.{Tracking}
 use Rattle.rules.specs.declared.Tracking.the-variants.{Off, On}
@@ -29,10 +29,10 @@ use Rattle.rules.specs.declared.Device.{Device}
 use Rattle.rules.specs.declared.Settings.{Settings}
 use Rattle.rules.proofs.ListLaws.{All, All-take, getD-any, any-from, any-nowhere}
 use Rattle.rules.proofs.StateLaws.{placeOf-is, placeOf-apart}
-use Rattle.record.specs.Record.{soundWith, noController, isOn, placesOf, hasStopped, countsOf, unitsOf, seenIn, othersIn, frontOf, frontIn, arrivingIn}
+use Rattle.record.specs.Record.{soundWith, noController, trackedBy, placesOf, hasStopped, managedOf, countsOf, unitsOf, seenIn, othersIn, frontOf, frontIn, arrivingIn}
 use Rattle.record.proofs.RecordLaws.{frontOf-length, soundDevice-sequence}
 use Rattle.calls.specs.Calls.{inWords, dropped}
-use Rattle.demands.specs.View.{marksOf, queueOf, slotOf, isAt, frontAt, slotsFrom, strayIn, amissIn, view}
+use Rattle.demands.specs.View.{marksOf, queueOf, managerIn, slotOf, isAt, frontAt, slotsFrom, strayIn, amissIn, view}
 
 -- ---- what holds of each record and its marks in a session
 
@@ -75,17 +75,18 @@ module _ (ws : List ℕ) (f : ℕ → Option (List ℕ)) (qs : ℕ → List ℕ)
   held-by : (c : Controller) (k : ℕ) → Listed c → heldBy (slotOf inWords ws c (f k) (qs k)) ≡ heldOf c
   held-by c k h = go (c .tracking) refl
     where
-      go : (t : Tracking) → c .tracking ≡ t → heldOn (marksOf inWords ws (c .base) t (c .ranges)) ≡ heldIn t (c .ranges)
+      go : (t : Tracking) → c .tracking ≡ t → heldOn (managerIn t (c .manager)) (marksOf inWords ws (c .base) t (c .ranges)) ≡ heldIn t (c .manager) (c .ranges)
       go Off e = refl
-      go (On g n) e = ap (λ m. some (record { granularity = g; count = m; ranges = take n (c .ranges) })) (length-take-le n (c .ranges) (h g n e))
+      go (On g n) e = ap (λ m. some (record { manager = c .manager; granularity = g; count = m; ranges = take n (c .ranges) })) (length-take-le n (c .ranges) (h g n e))
 
   pub slots-held : (cs : List Controller) (k : ℕ) → All Listed cs → map heldBy (slotsFrom inWords ws f qs k cs) ≡ map heldOf cs
   slots-held [] k h = refl
   slots-held (c ∷ cs) k h = ap₂ (λ x xs. x ∷ xs) (held-by c k (h .0)) (slots-held cs (suc k) (h .1))
 
-  tracked-same : (base : ℕ) (t : Tracking) (rs : List Range) → areOn (marksOf inWords ws base t rs) ≡ isOn t
-  tracked-same base Off rs = refl
-  tracked-same base (On g n) rs = refl
+  -- and is tracked by the same manager
+  tracked-same : (m base : ℕ) (t : Tracking) (rs : List Range) → trackerOn (managerIn t m) (marksOf inWords ws base t rs) ≡ trackedBy t m
+  tracked-same m base Off rs = refl
+  tracked-same m base (On g n) rs = refl
 
   -- where no state is under way from a place on
   all-shut : (cs : List Controller) (k : ℕ) → ((i : ℕ) → k ≤ i → f i ≡ none) → all openOk (slotsFrom inWords ws f qs k cs) ≡ true
@@ -160,6 +161,9 @@ module _ (d : Device) (ws area : List ℕ) (qs : ℕ → List ℕ) (fits : Fits 
   unfolding soundWith
   sound-with = rw (eq-eqb (length ws) markWords (fits .words)) (and-true (soundDevice d) ∙ sym sound-same)
 
+  managed-same : managedOf d ≡ managedIn (view inWords d ws area qs)
+  managed-same = ap (λ hs. λ m. countsBy m hs) (sym held-same)
+
   counts-same : countsOf d ≡ countsIn (view inWords d ws area qs)
   counts-same = ap (λ hs. sum (map heldCount hs)) (sym held-same)
 
@@ -174,10 +178,10 @@ module _ (d : Device) (ws area : List ℕ) (qs : ℕ → List ℕ) (fits : Fits 
   seen-same id = go (placeOf (d .settings) id) (λ i e. placeOf-used d id i e) (λ i e. placeOf-there d id i (fits .identifiers) e)
     where
       go : (p : Option ℕ) → ((i : ℕ) → p ≡ some i → i < d .settings .count) → ((i : ℕ) → p ≡ some i → i < 8) → seenIn d (length ws) p ≡ seenAt (view inWords d ws area qs) p
-      go none h k = rw (sound-with, counts-same, units-same)
+      go none h k = rw (sound-with, managed-same, counts-same, units-same)
       go (some i) h k =
           let c = getD (d .controllers) i noController in
-          rw (sound-with, counts-same, units-same, slot-at i (h i refl) (k i refl), tracked-same ws (frontAt (d .settings) (d .sequence) area) qs (c .base) (c .tracking) (c .ranges), places-same (qs i) (c .queue), stopped-same (qs i) (c .queue))
+          rw (sound-with, managed-same, counts-same, units-same, slot-at i (h i refl) (k i refl), tracked-same ws (frontAt (d .settings) (d .sequence) area) qs (c .manager) (c .base) (c .tracking) (c .ranges), places-same (qs i) (c .queue), stopped-same (qs i) (c .queue))
 
 -- ---- another record of which one slot differs
 

@@ -8,7 +8,7 @@ use lib.ListN.{length}
 use Rattle.rules.specs.Lists.{sum}
 use Rattle.rules.specs.Units.{Write}
 use Rattle.rules.specs.Order.{batchOrder}
-use Rattle.rules.specs.Machine.{Call, Event, countsIn, unitsIn, numberOf, newlyOf}
+use Rattle.rules.specs.Machine.{Call, Event, managedIn, countsIn, unitsIn, numberOf, newlyOf}
 use Rattle.rules.specs.History.{only, isAccepted}
 use Rattle.rules.specs.Demands.{sessionEnd, unhindered}
 use Rattle.rules.specs.declared.Settings.{Settings}
@@ -98,4 +98,6 @@ pub record Batches (en : Engine) : Type 1 where
 -- and each controller of `tracker` stands as its calls and answers tell
 pub record BatchesStand : Type 1 where
   pub stands : (s : Settings) (m : Given) (xs : List Step) → Sized s m → freshChange s (m .marks) .answer .number ≡ 0
-      → (a : ℕ) → Stands s (endBy inWords s m xs) (historyIn inWords s m (callsIn inWords s m xs) a) (countsIn (sessionEnd s (length (m .marks)) (callsIn inWords s m xs))) (unitsIn (sessionEnd s (length (m .marks)) (callsIn inWords s m xs))) a
+      → (a : ℕ)
+      → let st = sessionEnd s (length (m .marks)) (callsIn inWords s m xs) in
+      Stands s (endBy inWords s m xs) (historyIn inWords s m (callsIn inWords s m xs) a) (unitsIn st) (managedIn st) (countsIn st) a

@@ -117,10 +117,10 @@ pub record CallsAre : Type 1 where
       → let c = freshChange (a .0) (now (a .1 .0)) in
       (r ≡ c .answer) × (now (e .1 .0) ≡ c .marks)
   pub start : (κs : _) (a : _) (r : _) (e : _) → start.Post κs a r e
-      → let c = startChange (a .0) (now (a .1 .0)) (a .1 .1 .0) (now (a .1 .1 .1 .0)) in
+      → let c = startChange (a .0) (now (a .1 .0)) (a .1 .1 .0) (a .1 .1 .1 .0) (now (a .1 .1 .1 .1 .0)) in
       (r ≡ c .answer) × (now (e .1 .0) ≡ c .marks)
   pub stop : (κs : _) (a : _) (r : _) (e : _) → stop.Post κs a r e
-      → let c = stopChange (a .0) (now (a .1 .0)) (a .1 .1 .0) in
+      → let c = stopChange (a .0) (now (a .1 .0)) (a .1 .1 .0) (a .1 .1 .1 .0) in
       (r ≡ c .answer) × (now (e .1 .0) ≡ c .marks)
   pub write : (κs : _) (a : _) (r : _) (e : _) → write.Post κs a r e
       → let bytes : Bytes = a .1 .1 .1 .1 .0 in
@@ -131,15 +131,15 @@ pub record CallsAre : Type 1 where
       → let c = batchChange (a .0) (now (a .1 .0)) (take (a .1 .1 .1 .0) (a .1 .1 .0)) in
       (r ≡ c .answer) × (now (e .1 .0) ≡ c .marks)
   pub receive : (κs : _) (a : _) (r : _) (e : _) → receive.Post κs a r e
-      → let c = receiveReceipt (a .0) (now (a .1 .0)) (a .1 .1 .0) (now (a .1 .1 .1 .0)) in
-      (r ≡ c .answer) × (now (e .1 .0) ≡ c .marks) × (now (e .1 .1 .1 .0) ≡ c .buffer)
-  pub suspend : (κs : _) (a : _) (r : _) (e : _) → suspend.Post κs a r e → r ≡ suspendChange (a .0) (length (now (a .1 .0))) (a .1 .1 .0) (a .1 .1 .1 .0)
-  pub resume : (κs : _) (a : _) (r : _) (e : _) → resume.Post κs a r e → r ≡ resumeChange (a .0) (length (now (a .1 .0))) (a .1 .1 .0)
+      → let c = receiveReceipt (a .0) (now (a .1 .0)) (a .1 .1 .0) (a .1 .1 .1 .0) (now (a .1 .1 .1 .1 .0)) in
+      (r ≡ c .answer) × (now (e .1 .0) ≡ c .marks) × (now (e .1 .1 .1 .1 .0) ≡ c .buffer)
+  pub suspend : (κs : _) (a : _) (r : _) (e : _) → suspend.Post κs a r e → r ≡ suspendChange (a .0) (length (now (a .1 .0))) (a .1 .1 .0) (a .1 .1 .1 .0) (a .1 .1 .1 .1 .0)
+  pub resume : (κs : _) (a : _) (r : _) (e : _) → resume.Post κs a r e → r ≡ resumeChange (a .0) (length (now (a .1 .0))) (a .1 .1 .0) (a .1 .1 .1 .0)
   -- W6: the answer, and every byte of the area
   pub set-state : (κs : _) (a : _) (r : _) (e : _) → set-state.Post κs a r e
-      → let rest = a .1 .1 .1 .1 in
+      → let rest = a .1 .1 .1 .1 .1 in
       let p : Part = record { indicator = rest .0; low = rest .1 .0; high = rest .1 .1 .0; count = rest .1 .1 .1 .0; bytes = now (rest .1 .1 .1 .1 .0) } in
-      let c = partChange (a .0) (length (now (a .1 .0))) (now (a .1 .1 .0)) (a .1 .1 .1 .0) p in
+      let c = partChange (a .0) (length (now (a .1 .0))) (now (a .1 .1 .0)) (a .1 .1 .1 .0) (a .1 .1 .1 .1 .0) p in
       (r ≡ c .answer) × (now (e .1 .1 .0) ≡ c .area)
   -- W8: the answers, every byte of the area that a post changes, and of the buffer that a take fills
   pub make-queue : (κs : _) (a : _) (r : _) (e : _) → make-queue.Post κs a r e → r ≡ makeChange (a .0) (length (now (a .1 .0))) (a .1 .1 .0) (length (now (a .1 .1 .1 .0)))
@@ -166,12 +166,12 @@ abbrev pub HasRoom : Type 0
 HasRoom = (r : WriteRecord) → r .id < 2 ^ 16 → r .address < 2 ^ 64 → r .bytes .0 < 2 ^ 64 → Is record-type.the-row r (machine.val record-type.the-type record-laws.the-laws r ∷ [])
 
 -- how each call's arguments behind the record are lent: to be changed (`pMutS`) or to be read (`pShrS`), so that no word or byte of those changes, of which no contract
--- speaks; and that its numbers have the bits that the documents say: identifiers 16, addresses 64, types and indicators 8, offsets, counts and entries asked for 32. Without
+-- speaks; and that its numbers have the bits that the documents say: identifiers 16, a manager's too (W12), addresses 64, types and indicators 8, offsets, counts and entries asked for 32. Without
 -- this a promise about a narrower number would do
 pub record Lent : Type 3 where
   pub fresh : drop 1 fresh-kinds.ps ≡ pMutS (rtF (fInt w64)) 0 tt ∷ []
-  pub start : drop 1 start-kinds.ps ≡ pMutS (rtF (fInt w64)) 0 tt ∷ pNum w16 ∷ pShrS (rtF (fInt w8)) 1 tt ∷ []
-  pub stop : drop 1 stop-kinds.ps ≡ pMutS (rtF (fInt w64)) 0 tt ∷ pNum w16 ∷ []
+  pub start : drop 1 start-kinds.ps ≡ pMutS (rtF (fInt w64)) 0 tt ∷ pNum w16 ∷ pNum w16 ∷ pShrS (rtF (fInt w8)) 1 tt ∷ []
+  pub stop : drop 1 stop-kinds.ps ≡ pMutS (rtF (fInt w64)) 0 tt ∷ pNum w16 ∷ pNum w16 ∷ []
   pub write : take 3 (drop 1 write-kinds.ps) ≡ pMutS (rtF (fInt w64)) 0 tt ∷ pNum w16 ∷ pNum w64 ∷ []
   -- the records of a batch are only read
   pub batch : drop 1 (batch.signature .params) ≡ SliceRefMutOf (0 ∷ []) tt (plain λ κs. u64) (λ κs. tt) ∷ SliceRefOf (1 ∷ []) tt (plain λ κs. record-type.the-row) (λ κs. tt) ∷ []
@@ -180,11 +180,11 @@ pub record Lent : Type 3 where
       ∷ pArr (eStruct record-type.the-type record-laws.the-laws record-laws.the-copy) (eStruct-laws record-type.the-type record-laws.the-laws record-laws.the-copy record-laws.the-plain) 1025
       ∷ pNum w64
       ∷ []
-  pub receive : drop 1 receive-kinds.ps ≡ pMutS (rtF (fInt w64)) 0 tt ∷ pNum w16 ∷ pMutS (rtF (fInt w8)) 1 tt ∷ []
-  pub suspend : drop 1 suspend-kinds.ps ≡ pShrS (rtF (fInt w64)) 0 tt ∷ pNum w16 ∷ pNum w8 ∷ []
-  pub resume : drop 1 resume-kinds.ps ≡ pShrS (rtF (fInt w64)) 0 tt ∷ pNum w16 ∷ []
+  pub receive : drop 1 receive-kinds.ps ≡ pMutS (rtF (fInt w64)) 0 tt ∷ pNum w16 ∷ pNum w16 ∷ pMutS (rtF (fInt w8)) 1 tt ∷ []
+  pub suspend : drop 1 suspend-kinds.ps ≡ pShrS (rtF (fInt w64)) 0 tt ∷ pNum w16 ∷ pNum w16 ∷ pNum w8 ∷ []
+  pub resume : drop 1 resume-kinds.ps ≡ pShrS (rtF (fInt w64)) 0 tt ∷ pNum w16 ∷ pNum w16 ∷ []
   pub set-state : drop 1 set-state-kinds.ps
-      ≡ pShrS (rtF (fInt w64)) 0 tt ∷ pMutS (rtF (fInt w8)) 1 tt ∷ pNum w16 ∷ pNum w8 ∷ pNum w32 ∷ pNum w32 ∷ pNum w32 ∷ pShrS (rtF (fInt w8)) 2 tt ∷ []
+      ≡ pShrS (rtF (fInt w64)) 0 tt ∷ pMutS (rtF (fInt w8)) 1 tt ∷ pNum w16 ∷ pNum w16 ∷ pNum w8 ∷ pNum w32 ∷ pNum w32 ∷ pNum w32 ∷ pShrS (rtF (fInt w8)) 2 tt ∷ []
   pub make-queue : drop 1 make-kinds.ps ≡ pShrS (rtF (fInt w64)) 0 tt ∷ pNum w16 ∷ pShrS (rtF (fInt w8)) 1 tt ∷ []
   pub post : drop 1 post-kinds.ps ≡ pShrS (rtF (fInt w64)) 0 tt ∷ pMutS (rtF (fInt w8)) 1 tt ∷ pNum w16 ∷ pShrS (rtF (fInt w8)) 2 tt ∷ []
   pub take-queue : drop 1 take-kinds.ps

@@ -4,18 +4,18 @@ use Prim.Native.Nat.{ℕ, _+_, _*_, _/_, _%_, _^_, _≤_, _<_}
 use lib.Dec.{leb, ltb, eqb}
 use Rattle.little.specs.Little.{numberAt}
 use mathlib.Core.Path.{_≡_}
-use mathlib.Core.Logic.{_≢_, _⊎_}
+use mathlib.Core.Logic.{_≢_, _⊎_, _↔_}
 use mathlib.Core.Bool.{true, false, not, cond, _&&_, _||_}
 use mathlib.Core.List.{List, [], _∷_}
 use mathlib.Core.Option.{none, some}
 use lib.ListN.{length, take, getD}
 use Rattle.rules.specs.Refusals.{Test, _else_, refusal, placeIn, passes}
 use Rattle.rules.specs.Lists.{isSome}
-use Rattle.rules.specs.Settings.{settingsOk, placeOf}
+use Rattle.rules.specs.Settings.{settingsOk, isManager, limitOf, placeOf}
 use Rattle.rules.specs.Units.{Write}
 use Rattle.rules.specs.StartData.{granularityOf, rangesOf, placed, headerTests, headerOf, readTests, startData, writeTests, startWritten}
 use Rattle.rules.specs.ReportReader.{reportTests, indexTests, reportRefusal, reportBadIndex, reportSuspended, reportMore, reportIdentifier, reportGranularity, reportCount, reportRefusalAt, reportAddress, reportLength}
-use Rattle.rules.specs.Order.{Seen, Arriving, freshOrder, startOrder, stopOrder, writeOrder, receiveOrder, suspendOrder, resumeOrder, Part, followsOn, joinedOk, partOrder, sizeMade, queueOrder}
+use Rattle.rules.specs.Order.{Seen, Arriving, freshOrder, startOrder, stopOrder, writeOrder, receiveOrder, isTracker, suspendOrder, resumeOrder, Part, followsOn, joinedOk, partOrder, sizeMade, queueOrder}
 use Rattle.rules.specs.Order as order
 use Rattle.rules.specs.Device.{closedDevice, soundDevice}
 use Rattle.rules.specs.declared.Tracking.the-variants.{Off, On}
@@ -27,8 +27,9 @@ use Rattle.rules.specs.declared.Queue.the-variants as made
 use Rattle.rules.specs.declared.Settings.{Settings}
 use Rattle.rules.specs.declared.Header.the-variants.{Is, Refused}
 use Rattle.rules.specs.declared.Device.{Device}
-use Rattle.record.specs.Record.{countsOf, unitsOf, controllerAt, seenIn, arrivingIn}
+use Rattle.record.specs.Record.{managedOf, countsOf, unitsOf, controllerAt, seenIn, arrivingIn}
 use Rattle.start_data.specs.Answer.{headerSays}
+use Rattle.demands.specs.Managers.{Manages, IsManager}
 use Rattle.calls.specs.Calls.{Engine, inWords, freshBy, startBy, stopBy, writeBy, receiveBy, suspendChange, resumeChange, partChange, makeChange, postChange, takeChange}
 
 -- "A refusal returns its number from document 01 and zeros (the structure reader adds a place), and the device record, the marks and the
@@ -45,30 +46,30 @@ pub record MarkCalls (en : Engine) : Type 0 where
   pub fresh : (s : Settings) (ws : List ℕ)
       → let c = freshBy en s ws in
       Answers (c .answer .number) (freshOrder s (en .words ws)) ((c .answer .device ≡ closedDevice) × (c .marks ≡ ws))
-  pub start : (d : Device) (ws : List ℕ) (id : ℕ) (x : List ℕ)
-      → let c = startBy en d ws id x in
-      Answers (c .answer .number) (startOrder (d .settings) (seenIn d (en .words ws) (placeOf (d .settings) id)) x) ((c .answer .device ≡ d) × (c .marks ≡ ws))
-  -- W3: its row is the place of that test; so past the first eight tests (1, 2, 4, 3, 8, 6, 7, 8) it names the rule of ranges that is broken and the row, and
+  pub start : (d : Device) (ws : List ℕ) (m id : ℕ) (x : List ℕ)
+      → let c = startBy en d ws m id x in
+      Answers (c .answer .number) (startOrder (d .settings) m (seenIn d (en .words ws) (placeOf (d .settings) id)) x) ((c .answer .device ≡ d) × (c .marks ≡ ws))
+  -- W3: its row is the place of that test; so past the first nine tests (1, 2, 2, 4, 3, 8, 6, 7, 8) it names the rule of ranges that is broken and the row, and
   -- else it has row 0
-  pub row : (d : Device) (ws : List ℕ) (id : ℕ) (x : List ℕ)
-      → startBy en d ws id x .answer .row ≡ placeIn (startOrder (d .settings) (seenIn d (en .words ws) (placeOf (d .settings) id)) x)
-  pub names : (d : Device) (ws : List ℕ) (id : ℕ) (x : List ℕ)
-      → let a = startBy en d ws id x .answer in
-      let first = passes (take 8 (startOrder (d .settings) (seenIn d (en .words ws) (placeOf (d .settings) id)) x)) in
-      (first ≡ true → Names (d .settings) (countsOf d) (unitsOf d) (granularityOf x) (rangesOf x) (a .number) (a .row)) × (first ≡ false → Rowless (a .number) (a .row))
-  pub stop : (d : Device) (ws : List ℕ) (id : ℕ)
-      → let c = stopBy en d ws id in
-      Answers (c .answer .number) (stopOrder (seenIn d (en .words ws) (placeOf (d .settings) id))) ((c .answer .device ≡ d) × (c .marks ≡ ws))
+  pub row : (d : Device) (ws : List ℕ) (m id : ℕ) (x : List ℕ)
+      → startBy en d ws m id x .answer .row ≡ placeIn (startOrder (d .settings) m (seenIn d (en .words ws) (placeOf (d .settings) id)) x)
+  pub names : (d : Device) (ws : List ℕ) (m id : ℕ) (x : List ℕ)
+      → let a = startBy en d ws m id x .answer in
+      let first = passes (take 9 (startOrder (d .settings) m (seenIn d (en .words ws) (placeOf (d .settings) id)) x)) in
+      (first ≡ true → Names (d .settings) m (unitsOf d) (managedOf d m) (countsOf d) (granularityOf x) (rangesOf x) (a .number) (a .row)) × (first ≡ false → Rowless (a .number) (a .row))
+  pub stop : (d : Device) (ws : List ℕ) (m id : ℕ)
+      → let c = stopBy en d ws m id in
+      Answers (c .answer .number) (stopOrder (d .settings) m (seenIn d (en .words ws) (placeOf (d .settings) id))) ((c .answer .device ≡ d) × (c .marks ≡ ws))
   pub write : (d : Device) (ws : List ℕ) (id : ℕ) (w : Write)
       → let n = writeBy en d ws id w in
       Answers (n .answer .number) (writeOrder (seenIn d (en .words ws) (placeOf (d .settings) id)) w) ((n .answer .count ≡ 0) × (n .marks ≡ ws))
-  pub receive : (d : Device) (ws : List ℕ) (id : ℕ) (x : List ℕ)
-      → let r = receiveBy en d ws id x in
-      Answers (r .answer .number) (receiveOrder (seenIn d (en .words ws) (placeOf (d .settings) id)) x)
+  pub receive : (d : Device) (ws : List ℕ) (m id : ℕ) (x : List ℕ)
+      → let r = receiveBy en d ws m id x in
+      Answers (r .answer .number) (receiveOrder (d .settings) m (seenIn d (en .words ws) (placeOf (d .settings) id)) x)
       ((r .answer ≡ record { number = r .answer .number; suspended = false; more = false; granularity = 0; runs = 0; groups = 0 }) × (r .marks ≡ ws) × (r .buffer ≡ x))
   -- done or refused, it answers what its report's header says, and the groups that were examined (W10)
-  pub says : (d : Device) (ws : List ℕ) (id : ℕ) (x : List ℕ)
-      → let r = receiveBy en d ws id x in
+  pub says : (d : Device) (ws : List ℕ) (m id : ℕ) (x : List ℕ)
+      → let r = receiveBy en d ws m id x in
       r .answer
       ≡ record { number = r .answer .number; suspended = r .report .suspended; more = r .report .more; granularity = r .report .granularity; runs = length (r .report .descriptors); groups = r .report .groups }
 
@@ -76,36 +77,41 @@ pub record Demand1 : Type 0 where
   pub mark-calls : MarkCalls inWords
   -- 16, then 1 unless there are 256 words (W7), and for nothing else
   pub fresh-order : (s : Settings) (words : ℕ) → freshOrder s words ≡ (settingsOk s else 16) ∷ (eqb words 256 else 1) ∷ []
-  -- a start's first eight tests, in the order of document 01
-  pub before : (s : Settings) (v : Seen) (x : List ℕ)
-      → take 8 (startOrder s v x)
+  -- W12: a manager is one that the settings name, and it has the limit that they give it
+  pub managers : (s : Settings) (m : ℕ) → (isManager s m ≡ true) ↔ IsManager s m
+  pub limits : (s : Settings) (m limit : ℕ) → settingsOk s ≡ true → Manages s m limit → limitOf s m ≡ limit
+  -- a start's first nine tests, in the order of document 01: "refused with 3 if either manager tracks that controller"
+  pub before : (s : Settings) (m : ℕ) (v : Seen) (x : List ℕ)
+      → take 9 (startOrder s m v x)
       ≡ (v .sound else 1)
+      ∷ (isManager s m else 2)
       ∷ (v .known else 2)
       ∷ (not (v .suspended) else 4)
-      ∷ (not (v .tracked) else 3)
+      ∷ (not (isSome (v .tracker)) else 3)
       ∷ (leb 8 (length x) else 8)
       ∷ (eqb (getD x 0 0) 0 else 6)
       ∷ (leb (s .least) (getD x 3 0) && leb (getD x 3 0) (s .greatest) else 7)
       ∷ (leb (8 + 12 * numberAt x 4 4) (length x) else 8)
       ∷ []
-  pub suspend : (d : Device) (words id kind : ℕ)
-      → let c = suspendChange d words id kind in
-      Answers (c .number) (suspendOrder (seenIn d words (placeOf (d .settings) id)) kind) (c .device ≡ d)
-  pub resume : (d : Device) (words id : ℕ)
-      → let c = resumeChange d words id in
-      Answers (c .number) (resumeOrder (seenIn d words (placeOf (d .settings) id))) (c .device ≡ d)
+  pub suspend : (d : Device) (words m id kind : ℕ)
+      → let c = suspendChange d words m id kind in
+      Answers (c .number) (suspendOrder (d .settings) m (seenIn d words (placeOf (d .settings) id)) kind) (c .device ≡ d)
+  pub resume : (d : Device) (words m id : ℕ)
+      → let c = resumeChange d words m id in
+      Answers (c .number) (resumeOrder (d .settings) m (seenIn d words (placeOf (d .settings) id))) (c .device ≡ d)
   -- W6: a refused part leaves the area as it was, too
-  pub part : (d : Device) (words : ℕ) (area : List ℕ) (id : ℕ) (p : Part)
-      → let a = partChange d words area id p in
-      Answers (a .answer .number) (partOrder (seenIn d words (placeOf (d .settings) id)) (arrivingIn (d .sequence) area id) p)
+  pub part : (d : Device) (words : ℕ) (area : List ℕ) (m id : ℕ) (p : Part)
+      → let a = partChange d words area m id p in
+      Answers (a .answer .number) (partOrder (d .settings) m (seenIn d words (placeOf (d .settings) id)) (arrivingIn (d .sequence) area id) p)
       ((a .answer .whole ≡ 0) × (a .answer .device ≡ d) × (a .area ≡ area))
   -- marks of 256 words and an area of 4,096 bytes, or 1, whatever else it is given
-  pub part-lent : (d : Device) (words : ℕ) (area : List ℕ) (id : ℕ) (p : Part) → (words ≢ 256) ⊎ (length area ≢ 4096) → partChange d words area id p .answer .number ≡ 1
+  pub part-lent : (d : Device) (words : ℕ) (area : List ℕ) (m id : ℕ) (p : Part) → (words ≢ 256) ⊎ (length area ≢ 4096) → partChange d words area m id p .answer .number ≡ 1
   -- its tests, in the order of document 02. (When a part is accepted, and so the last two of them, is said in plain numbers by `Fitting`.)
-  pub part-order : (v : Seen) (a : Arriving) (p : Part)
+  pub part-order : (s : Settings) (m : ℕ) (v : Seen) (a : Arriving) (p : Part)
       → let offset = p .low + 2 ^ 32 * p .high in
-      partOrder v a p
+      partOrder s m v a p
       ≡ (v .sound && a .area else 1)
+      ∷ (isManager s m else 2)
       ∷ (v .known else 2)
       ∷ (v .suspended else 13)
       ∷ (not (a .others) else 23)
@@ -118,7 +124,7 @@ pub record Demand1 : Type 0 where
   pub part-others : (area : List ℕ) (id owner end : ℕ)
       → (arrivingIn Nothing area id .others ≡ false) × (arrivingIn (Open owner end) area id .others ≡ not (eqb owner id))
   -- a suspend leaves an open sequence, whosever it is
-  pub suspend-leaves : (d : Device) (words id kind : ℕ) → suspendChange d words id kind .device .sequence ≡ d .sequence
+  pub suspend-leaves : (d : Device) (words m id kind : ℕ) → suspendChange d words m id kind .device .sequence ≡ d .sequence
   -- W8: a refused call to a queue leaves its area or its buffer as it was, too
   pub make : (d : Device) (words id bytes : ℕ)
       → let c = makeChange d words id bytes in
@@ -160,14 +166,18 @@ pub record Demand1 : Type 0 where
   pub sees : (d : Device) (words i : ℕ)
       → (seenIn d words (some i) .sound ≡ (soundDevice d && eqb words 256)) × (seenIn d words (some i) .known ≡ true) × (seenIn d words (some i) .suspended ≡ controllerAt d (some i) .suspended)
   pub sees-nobody : (d : Device) (words : ℕ) → (seenIn d words none .sound ≡ (soundDevice d && eqb words 256)) × (seenIn d words none .known ≡ false)
-  pub sees-off : (d : Device) (words i : ℕ) → controllerAt d (some i) .tracking ≡ Off → seenIn d words (some i) .tracked ≡ false
-  pub sees-on : (d : Device) (words i g n : ℕ) → controllerAt d (some i) .tracking ≡ On g n → seenIn d words (some i) .tracked ≡ true
+  -- W12: which manager tracks a controller, and what that is to another
+  pub sees-off : (d : Device) (words i : ℕ) → controllerAt d (some i) .tracking ≡ Off → seenIn d words (some i) .tracker ≡ none
+  pub sees-on : (d : Device) (words i g n : ℕ) → controllerAt d (some i) .tracking ≡ On g n → seenIn d words (some i) .tracker ≡ some (controllerAt d (some i) .manager)
+  pub tracks : (m t : ℕ) → (isTracker m none ≡ false) × (isTracker m (some t) ≡ eqb t m)
   -- the tables of the calls that have none above: no queue is looked at
-  pub stop-order : (v : Seen) → stopOrder v ≡ (v .sound else 1) ∷ (v .known else 2) ∷ (not (v .suspended) else 4) ∷ (v .tracked else 5) ∷ []
+  pub stop-order : (s : Settings) (m : ℕ) (v : Seen)
+      → stopOrder s m v ≡ (v .sound else 1) ∷ (isManager s m else 2) ∷ (v .known else 2) ∷ (not (v .suspended) else 4) ∷ (isTracker m (v .tracker) else 5) ∷ []
   pub write-order : (v : Seen) (w : Write) → writeOrder v w ≡ (v .sound else 1) ∷ (v .known else 2) ∷ (not (v .suspended) else 4) ∷ (leb (w .address + w .bytes) (2 ^ 64) else 14) ∷ []
-  pub receive-order : (v : Seen) (x : List ℕ) → receiveOrder v x ≡ (v .sound else 1) ∷ (v .known else 2) ∷ (v .tracked else 5) ∷ (leb 32 (length x) else 8) ∷ []
-  pub suspend-order : (v : Seen) (kind : ℕ) → suspendOrder v kind ≡ (v .sound else 1) ∷ (v .known else 2) ∷ (leb kind 1 else 15) ∷ []
-  pub resume-order : (v : Seen) → resumeOrder v ≡ (v .sound else 1) ∷ (v .known else 2) ∷ (v .suspended else 13) ∷ []
+  pub receive-order : (s : Settings) (m : ℕ) (v : Seen) (x : List ℕ)
+      → receiveOrder s m v x ≡ (v .sound else 1) ∷ (isManager s m else 2) ∷ (v .known else 2) ∷ (isTracker m (v .tracker) else 5) ∷ (leb 32 (length x) else 8) ∷ []
+  pub suspend-order : (s : Settings) (m : ℕ) (v : Seen) (kind : ℕ) → suspendOrder s m v kind ≡ (v .sound else 1) ∷ (isManager s m else 2) ∷ (v .known else 2) ∷ (leb kind 1 else 15) ∷ []
+  pub resume-order : (s : Settings) (m : ℕ) (v : Seen) → resumeOrder s m v ≡ (v .sound else 1) ∷ (isManager s m else 2) ∷ (v .known else 2) ∷ (v .suspended else 13) ∷ []
   -- the structure's readers add the place of that test
   pub read-header : (x : List ℕ)
       → let h = headerSays (headerOf x) in

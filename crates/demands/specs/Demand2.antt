@@ -16,22 +16,24 @@ use Rattle.rules.specs.Units.{Unit, Write, units, touches, newly}
 use Rattle.rules.specs.StartData.{granularityOf, countOf, rangesOf, headerTests, placed}
 use Rattle.rules.specs.Report.{room, reportOn, marksLeft, reportBytes}
 use Rattle.rules.specs.ReportReader.{reportSize}
-use Rattle.rules.specs.Order.{Op, start, stop, write, Part, startListed}
-use Rattle.rules.specs.Device.{noShare, sharesOf, freshDevice, closedDevice}
-use Rattle.rules.specs.Machine.{refused, pendingIn, entriesIn, countsIn, unitsIn, slotOf, Call, step, lent, stored}
-use Rattle.rules.specs.History.{Did, PendingBy, pendingBy, tracksBy, suspendedBy, slotBy}
+use Rattle.rules.specs.Order.{Op, start, stop, write, receive, Part, startListed}
+use Rattle.rules.specs.Device.{noShare, sharesOf, cleaned, freshDevice, closedSettings, closedDevice}
+use Rattle.rules.specs.Machine.{refused, pendingIn, entriesIn, managedIn, countsIn, unitsIn, slotOf, Call, step, lent, stored}
+use Rattle.rules.specs.History.{Did, PendingBy, pendingBy, tracksBy, managerBy, suspendedBy, slotBy}
 use Rattle.rules.specs.Demands.{sessionEnd, sessionHistory, lentBytes, UnitsListed, Runs, Reports, Room, ReadBack, Touches, Writes}
 use Rattle.rules.specs.declared.Range.{Range}
 use Rattle.rules.specs.declared.Tracking.the-variants.{Off, On}
 use Rattle.rules.specs.declared.Sequence.the-variants.{Nothing, Open}
 use Rattle.rules.specs.declared.Ring.{Ring}
 use Rattle.rules.specs.declared.Queue.the-variants as made
+use Rattle.rules.specs.declared.Second.the-variants as second
 use Rattle.rules.specs.declared.Settings.{Settings}
 use Rattle.rules.specs.declared.Controller.{Controller}
 use Rattle.rules.specs.declared.Device.{Device}
 use Rattle.record.specs.Record.{controllerAt}
 use Rattle.calls.specs.Calls.{Engine, inWords, sizesOf, Receipt, freshChange, startChange, stopChange, suspendChange, resumeChange, writeNote, receiveReceipt, partChange}
-use Rattle.demands.specs.View.{view}
+use Rattle.demands.specs.Managers.{Manages, IsManager, CallOf}
+use Rattle.demands.specs.View.{Outcome, view}
 use Rattle.demands.specs.Sessions.{Left, Given, Sized, outcome, next, endOf, historyIn, bytesIn}
 use Rattle.demands.specs.Soundness.{baseAt}
 use Rattle.demands.specs.Parts.{wholeBy, IsFinal, arriving, Arrives}
@@ -94,12 +96,20 @@ pub record Kept (s t : Settings) : Type 0 where
   pub greatest : t .greatest ≡ s .greatest
   pub powers : t .powers ≡ s .powers
   pub limit : t .limit ≡ s .limit
+  pub second : t .second ≡ s .second
+  pub shelf : t .shelf ≡ s .shelf
   pub count : t .count ≡ s .count
   pub identifiers : t .identifiers ≡ take (s .count) (s .identifiers) ++ replicate (8 - s .count) 0
 
 -- the marks that a history tells of some units
 abbrev pub toldOf : List Did → List Unit → List Bool
 toldOf h us = map (pendingBy h) us
+
+-- ---- a refused call
+
+-- all is as it was, and so are the bytes that were lent
+abbrev pub refusedOn : Left → Op → ℕ → Outcome
+refusedOn l o n = record { answer = refused n 0; device = l .device; marks = l .marks; area = l .area; queues = l .queues; bytes = lent o }
 
 -- ---- an accepted call
 
@@ -111,7 +121,7 @@ replacedAt d i c = record { settings = d .settings; controllers = set (d .contro
 abbrev pub flaggedAt : Device → ℕ → Bool → Device
 flaggedAt d i b =
     let was = controllerAt d (some i) in
-    replacedAt d i (record { tracking = was .tracking; base = was .base; suspended = b; ranges = was .ranges; queue = was .queue })
+    replacedAt d i (record { tracking = was .tracking; manager = was .manager; base = was .base; suspended = b; ranges = was .ranges; queue = was .queue })
 
 -- a resume of controller a at place i makes its flag clear; W6: "its resume drops its unfinished sequence", and no other's
 pub record Resumed (d : Device) (a i : ℕ) (d′ : Device) : Type 0 where
@@ -119,16 +129,16 @@ pub record Resumed (d : Device) (a i : ℕ) (d′ : Device) : Type 0 where
   pub drops : (end : ℕ) → d .sequence ≡ Open a end → d′ .sequence ≡ Nothing
   pub keeps : ((end : ℕ) → d .sequence ≢ Open a end) → d′ .sequence ≡ d .sequence
 
--- a start of the controller at place i, on d and ws, leaves d′ and ws′ (W7)
-pub record Started (d : Device) (ws : List ℕ) (i g n : ℕ) (ranges : List Range) (d′ : Device) (ws′ : List ℕ) : Type 0 where
-  -- its granularity, count and ranges are recorded, with zeros in the other places; of every other controller nothing changes but where its share begins
+-- a start by manager b of the controller at place i, on d and ws, leaves d′ and ws′ (W7)
+pub record Started (d : Device) (ws : List ℕ) (b i g n : ℕ) (ranges : List Range) (d′ : Device) (ws′ : List ℕ) : Type 0 where
+  -- its manager (W12), granularity, count and ranges are recorded, with zeros in the other places; of every other controller nothing changes but where its share begins
   pub settings : d′ .settings ≡ d .settings
   pub sequence : d′ .sequence ≡ d .sequence
   pub controllers : length (d′ .controllers) ≡ length (d .controllers)
-  pub own : controllerAt d′ (some i) ≡ record { tracking = On g n; base = baseAt d′ i; suspended = false; ranges = placed ranges; queue = controllerAt d (some i) .queue }
+  pub own : controllerAt d′ (some i) ≡ record { tracking = On g n; manager = b; base = baseAt d′ i; suspended = false; ranges = placed ranges; queue = controllerAt d (some i) .queue }
   pub other : (j : ℕ) → j < 8 → j ≢ i
       → let was = controllerAt d (some j) in
-      controllerAt d′ (some j) ≡ record { tracking = was .tracking; base = baseAt d′ j; suspended = was .suspended; ranges = was .ranges; queue = was .queue }
+      controllerAt d′ (some j) ≡ record { tracking = was .tracking; manager = was .manager; base = baseAt d′ j; suspended = was .suspended; ranges = was .ranges; queue = was .queue }
   -- the shares are packed: from bit 0 on, in the order of the settings, each where those before it end; one that has no bits stays as it was
   pub size : sizeAt d′ i ≡ length (units g ranges)
   pub sizes : (j : ℕ) → j < 8 → j ≢ i → sizeAt d′ j ≡ sizeAt d j
@@ -140,9 +150,9 @@ pub record Started (d : Device) (ws : List ℕ) (i g n : ℕ) (ranges : List Ran
   pub behind : (b : ℕ) → sum (sizesOf d′) ≤ b → getD (flat ws′) b false ≡ false
   pub words : length ws′ ≡ length ws
 
--- a stop of it forgets the ranges, with zeros in all places; its share is clear, and no other moves
+-- a stop of it forgets the ranges and the manager, with zeros in all places; its share is clear, and no other moves
 pub record Stopped (d : Device) (ws : List ℕ) (i : ℕ) (d′ : Device) (ws′ : List ℕ) : Type 0 where
-  pub record-is : d′ ≡ replacedAt d i (record { tracking = Off; base = 0; suspended = false; ranges = placed []; queue = controllerAt d (some i) .queue })
+  pub record-is : d′ ≡ replacedAt d i (record { tracking = Off; manager = 0; base = 0; suspended = false; ranges = placed []; queue = controllerAt d (some i) .queue })
   pub clear : (m : ℕ) → m < sizeAt d i → bitOf ws′ (baseAt d i) m ≡ false
   pub elsewhere : Elsewhere (baseAt d i) (sizeAt d i) ws ws′
 
@@ -178,7 +188,7 @@ pub record Received (h : List Did) (a base g : ℕ) (us : List Unit) (x : List �
 
 -- ---- a controller after a session, which left l; of it a history h tells
 
--- a controller a at place i, of which h tells that it is tracked with granularity g and ranges rs
+-- a controller a at place i, of which h tells that it is tracked with granularity g and ranges rs; by which manager, `managerBy` tells (W12)
 pub record Tracked (l : Left) (h : List Did) (a i g : ℕ) (rs : List Range) : Type 0 where
   -- its units: which, in what order, and that each is there once (W2)
   pub listed : UnitsListed g rs
@@ -188,24 +198,28 @@ pub record Tracked (l : Left) (h : List Did) (a i g : ℕ) (rs : List Range) : T
   pub written : (w : Write)
       → let n = writeNote (l .device) (l .marks) a w in
       n .answer .number ≡ 0 → Wrote h (baseAt (l .device) i) (units g rs) w (l .marks) (n .answer .count) (n .marks)
-  pub received : (x : List ℕ)
-      → let r = receiveReceipt (l .device) (l .marks) a x in
+  pub received : (b : ℕ) (x : List ℕ)
+      → let r = receiveReceipt (l .device) (l .marks) b a x in
       r .answer .number ≡ 0 → Received h a (baseAt (l .device) i) g (units g rs) x (l .marks) r
   -- its share has a bit for each unit
   pub size : sizeAt (l .device) i ≡ length (units g rs)
-  -- a stop and a receive are refused for nothing but what document 01 says
-  pub may-stop : suspendedBy false h ≡ false → stopChange (l .device) (l .marks) a .answer .number ≡ 0
-  pub may-receive : (x : List ℕ) → 32 ≤ length x → receiveReceipt (l .device) (l .marks) a x .answer .number ≡ 0
+  -- a stop and a receive by the manager that started it are refused for nothing but what document 01 says
+  pub may-stop : suspendedBy false h ≡ false → stopChange (l .device) (l .marks) (managerBy h) a .answer .number ≡ 0
+  pub may-receive : (x : List ℕ) → 32 ≤ length x → receiveReceipt (l .device) (l .marks) (managerBy h) a x .answer .number ≡ 0
+  -- W12: "A start is refused with 3 if either manager tracks that controller; stop and receive by the other manager get 5", and change nothing
+  pub again : (b : ℕ) (x : List ℕ) → IsManager (l .device .settings) b → suspendedBy false h ≡ false → outcome inWords l (record { id = a; op = start b x }) ≡ refusedOn l (start b x) 3
+  pub other-stops : (b : ℕ) → IsManager (l .device .settings) b → b ≢ managerBy h → suspendedBy false h ≡ false → outcome inWords l (record { id = a; op = stop b }) ≡ refusedOn l (stop b) 5
+  pub other-receives : (b : ℕ) (x : List ℕ) → IsManager (l .device .settings) b → b ≢ managerBy h → outcome inWords l (record { id = a; op = receive b x }) ≡ refusedOn l (receive b x) 5
 
--- the calls that a suspended controller is refused
-pub data Moves : Op → Type 0 where
-  starts : (x : List ℕ) → Moves (start x)
-  stops : Moves stop
-  writes : (w : Write) → Moves (write w)
+-- the calls that a suspended controller is refused, by managers of these settings
+pub data Moves (s : Settings) : Op → Type 0 where
+  starts : (b : ℕ) (x : List ℕ) → IsManager s b → Moves s (start b x)
+  stops : (b : ℕ) → IsManager s b → Moves s (stop b)
+  writes : (w : Write) → Moves s (write w)
 
--- any controller a of a device that was made from settings s and now tracks so many counts and units
-pub record Stands (s : Settings) (l : Left) (h : List Did) (counts held a : ℕ) : Type 0 where
-  -- what record and marks hold of it is what its calls and answers tell: granularity, ranges, the suspended flag, and each unit's mark
+-- any controller a of a device that was made from settings s and now tracks so many units, so many counts for each manager (W12) and so many in all
+pub record Stands (s : Settings) (l : Left) (h : List Did) (held : ℕ) (managed : ℕ → ℕ) (counts a : ℕ) : Type 0 where
+  -- what record and marks hold of it is what its calls and answers tell: its manager, granularity, ranges, the suspended flag, and each unit's mark
   pub told : slotOf (view inWords (l .device) (l .marks) (l .area) (l .queues)) a ≡ slotBy h
   pub tracked : (i g : ℕ) (rs : List Range) → placeOf s a ≡ some i → tracksBy none h ≡ some (g, rs) → Tracked l h a i g rs
   -- "For a controller that isn't tracked a call not refused is done with count 0", and no mark changes
@@ -213,29 +227,31 @@ pub record Stands (s : Settings) (l : Left) (h : List Did) (counts held a : ℕ)
       → let n = writeNote (l .device) (l .marks) a w in
       (n .answer .count ≡ 0) × (n .marks ≡ l .marks)
   -- a suspended controller's start, stop and write are refused, and change nothing
-  pub suspended : suspendedBy false h ≡ true → (o : Op) → Moves o
-      → outcome inWords l (record { id = a; op = o }) ≡ record { answer = refused 4 0; device = l .device; marks = l .marks; area = l .area; queues = l .queues; bytes = lent o }
-  -- a write and a start are refused for nothing but what document 01 says
+  pub suspended : suspendedBy false h ≡ true → (o : Op) → Moves s o → outcome inWords l (record { id = a; op = o }) ≡ refusedOn l o 4
+  -- W12: "2 for an unknown manager", whatever it asks for
+  pub unknown : (b : ℕ) (o : Op) → CallOf b o → (IsManager s b → ⊥) → outcome inWords l (record { id = a; op = o }) ≡ refusedOn l o 2
+  -- a write and a start are refused for nothing but what the documents say
   pub may-write : (i : ℕ) (w : Write) → placeOf s a ≡ some i → suspendedBy false h ≡ false → w .address + w .bytes ≤ 2 ^ 64
       → writeNote (l .device) (l .marks) a w .answer .number ≡ 0
-  pub may-start : (i : ℕ) (x : List ℕ) → placeOf s a ≡ some i → suspendedBy false h ≡ false → tracksBy none h ≡ none
-      → passes (headerTests x ++ startListed s x) ≡ true → length (units (granularityOf x) (rangesOf x)) + held ≤ 16384 → countOf x + counts ≤ s .limit
-      → startChange (l .device) (l .marks) a x .answer .number ≡ 0
+  pub may-start : (b limit i : ℕ) (x : List ℕ) → Manages s b limit → placeOf s a ≡ some i → suspendedBy false h ≡ false → tracksBy none h ≡ none
+      → passes (headerTests x ++ startListed s x) ≡ true → length (units (granularityOf x) (rangesOf x)) + held ≤ 16384 → countOf x + managed b ≤ limit → countOf x + counts ≤ s .shelf
+      → startChange (l .device) (l .marks) b a x .answer .number ≡ 0
   -- "An accepted start clears the controller's [share] and records granularity and ranges"; W7: wherever the others' shares go, their marks go along
-  pub started : (i : ℕ) (x : List ℕ) → placeOf s a ≡ some i
-      → let c = startChange (l .device) (l .marks) a x in
-      c .answer .number ≡ 0 → Started (l .device) (l .marks) i (granularityOf x) (countOf x) (rangesOf x) (c .answer .device) (c .marks)
+  pub started : (b i : ℕ) (x : List ℕ) → placeOf s a ≡ some i
+      → let c = startChange (l .device) (l .marks) b a x in
+      c .answer .number ≡ 0 → Started (l .device) (l .marks) b i (granularityOf x) (countOf x) (rangesOf x) (c .answer .device) (c .marks)
   -- "An accepted stop clears them again and forgets the ranges"
-  pub stopped : (i : ℕ) → placeOf s a ≡ some i
-      → let c = stopChange (l .device) (l .marks) a in
+  pub stopped : (b i : ℕ) → placeOf s a ≡ some i
+      → let c = stopChange (l .device) (l .marks) b a in
       c .answer .number ≡ 0 → Stopped (l .device) (l .marks) i (c .answer .device) (c .marks)
-  -- "Suspend type 1 suspends, also where already suspended. Type 0 is a notice and changes nothing"; it is refused for another type alone
-  pub suspends : (i kind : ℕ) → placeOf s a ≡ some i
-      → let c = suspendChange (l .device) (length (l .marks)) a kind in
+  -- "Suspend type 1 suspends, also where already suspended. Type 0 is a notice and changes nothing"; it is refused for another type alone. W12: "Suspension belongs to the
+  -- controller, whoever asked"
+  pub suspends : (b i kind : ℕ) → IsManager s b → placeOf s a ≡ some i
+      → let c = suspendChange (l .device) (length (l .marks)) b a kind in
       ((c .number ≡ 0) ↔ (kind ≤ 1)) × (c .number ≡ 0 → c .device ≡ flaggedAt (l .device) i (suspendedBy false h || eqb kind 1))
   -- a resume makes the flag clear; it is refused for one that is not suspended alone
-  pub resumes : (i : ℕ) → placeOf s a ≡ some i
-      → let c = resumeChange (l .device) (length (l .marks)) a in
+  pub resumes : (b i : ℕ) → IsManager s b → placeOf s a ≡ some i
+      → let c = resumeChange (l .device) (length (l .marks)) b a in
       ((c .number ≡ 0) ↔ (suspendedBy false h ≡ true)) × (c .number ≡ 0 → Resumed (l .device) a i (c .device))
   -- W6: a state of its own that arrives in parts
   pub parts : (i : ℕ) → placeOf s a ≡ some i → Arrives l h a
@@ -246,28 +262,29 @@ pub record Stands (s : Settings) (l : Left) (h : List Did) (counts held a : ℕ)
 
 -- what the calls of the controller a at place i leave of the pool, with the shares in any order and with any gaps, and anything in the bits that are in none (W7)
 pub record Keeps (l : Left) (a i : ℕ) : Type 0 where
-  pub started : (x : List ℕ)
-      → let c = startChange (l .device) (l .marks) a x in
-      c .answer .number ≡ 0 → Started (l .device) (l .marks) i (granularityOf x) (countOf x) (rangesOf x) (c .answer .device) (c .marks)
-  pub stopped : let c = stopChange (l .device) (l .marks) a in
+  pub started : (b : ℕ) (x : List ℕ)
+      → let c = startChange (l .device) (l .marks) b a x in
+      c .answer .number ≡ 0 → Started (l .device) (l .marks) b i (granularityOf x) (countOf x) (rangesOf x) (c .answer .device) (c .marks)
+  pub stopped : (b : ℕ)
+      → let c = stopChange (l .device) (l .marks) b a in
       c .answer .number ≡ 0 → Stopped (l .device) (l .marks) i (c .answer .device) (c .marks)
   -- a write and a receive change no bit but those of its share
   pub written : (w : Write) → Elsewhere (baseAt (l .device) i) (sizeAt (l .device) i) (l .marks) (writeNote (l .device) (l .marks) a w .marks)
-  pub received : (x : List ℕ) → Elsewhere (baseAt (l .device) i) (sizeAt (l .device) i) (l .marks) (receiveReceipt (l .device) (l .marks) a x .marks)
+  pub received : (b : ℕ) (x : List ℕ) → Elsewhere (baseAt (l .device) i) (sizeAt (l .device) i) (l .marks) (receiveReceipt (l .device) (l .marks) b a x .marks)
   -- a suspend and a resume change the flag (and its own sequence), a part the sequence, and nothing else, no queue, used or not, among it
-  pub suspended : (kind : ℕ)
-      → let c = suspendChange (l .device) (length (l .marks)) a kind in
+  pub suspended : (b kind : ℕ)
+      → let c = suspendChange (l .device) (length (l .marks)) b a kind in
       c .number ≡ 0 → c .device ≡ flaggedAt (l .device) i (controllerAt (l .device) (some i) .suspended || eqb kind 1)
-  pub resumed : let c = resumeChange (l .device) (length (l .marks)) a in c .number ≡ 0 → Resumed (l .device) a i (c .device)
-  pub arrived : (p : Part)
-      → let r = partChange (l .device) (length (l .marks)) (l .area) a p in
+  pub resumed : (b : ℕ) → let c = resumeChange (l .device) (length (l .marks)) b a in c .number ≡ 0 → Resumed (l .device) a i (c .device)
+  pub arrived : (b : ℕ) (p : Part)
+      → let r = partChange (l .device) (length (l .marks)) (l .area) b a p in
       r .answer .number ≡ 0 → r .answer .device ≡ arriving (l .device) (r .answer .device .sequence)
 
 -- ---- all of it
 
 -- a controller with zeros in every place
 abbrev pub zeroed : Controller
-zeroed = record { tracking = Off; base = 0; suspended = false; ranges = replicate 16 (record { start = 0; length = 0 }); queue = made.Nothing }
+zeroed = record { tracking = Off; manager = 0; base = 0; suspended = false; ranges = replicate 16 (record { start = 0; length = 0 }); queue = made.Nothing }
 
 pub record Demand2 : Type 1 where
   -- the rules are those of document 01: any session comes for each controller to what they give for the same calls
@@ -278,16 +295,22 @@ pub record Demand2 : Type 1 where
   pub fresh : (s : Settings) (ws : List ℕ)
       → let c = freshChange s ws in
       c .answer .number ≡ 0 → (c .answer .device ≡ freshDevice s) × (c .marks ≡ replicate 256 0)
-  -- "[Fresh fills] those they leave unused with zeros", so the bases too (W7), and no state is under way (W6) and no queue made (W8); the closed device is "all zeros"
+  -- "[Fresh fills] those they leave unused with zeros", so the bases (W7) and managers (W12) too, and no state is under way (W6) and no queue made (W8); the closed device is "all zeros"
   pub zeros : (s : Settings)
       → (freshDevice s .controllers ≡ replicate 8 zeroed)
       × (freshDevice s .sequence ≡ Nothing)
       × (closedDevice
       ≡ record {
-        settings = record { manager = 0; least = 0; greatest = 0; powers = false; limit = 0; count = 0; identifiers = replicate 8 0 };
+        settings = record { manager = 0; least = 0; greatest = 0; powers = false; limit = 0; second = second.Nothing; shelf = 0; count = 0; identifiers = replicate 8 0 };
         controllers = replicate 8 zeroed;
         sequence = Nothing;
       })
+  -- settings with zeros in the places that are not in use, as a settings file gives them back (W11): nothing else of them changes. With a refused file come zeros alone
+  pub cleaned : (s : Settings) → length (s .identifiers) ≡ 8 → Kept s (cleaned s)
+  pub closed-settings : closedSettings
+      ≡ record { manager = 0; least = 0; greatest = 0; powers = false; limit = 0; second = second.Nothing; shelf = 0; count = 0; identifiers = replicate 8 0 }
+  -- the controller at a place, in use or not, is the one that stands there in the record
+  pub controller : (d : Device) (i : ℕ) (c : Controller) → getElem? (d .controllers) i ≡ some c → controllerAt d (some i) ≡ c
   -- "one bit a unit, lowest bit first"
   pub bits : (ws : List ℕ) (base m : ℕ) → bitOf ws base m ≡ eqb (getD ws ((base + m) / 64) 0 / 2 ^ ((base + m) % 64) % 2) 1
   -- an identifier stands where the settings list it
@@ -299,7 +322,7 @@ pub record Demand2 : Type 1 where
   pub settings : (s : Settings) (m : Given) (ks : List Call) → Sized s m → freshChange s (m .marks) .answer .number ≡ 0
       → Kept s (endOf inWords s m ks .device .settings)
   pub stands : (s : Settings) (m : Given) (ks : List Call) → Sized s m → freshChange s (m .marks) .answer .number ≡ 0
-      → (a : ℕ) → Stands s (endOf inWords s m ks) (historyIn inWords s m ks a) (countsIn (sessionEnd s (length (m .marks)) ks)) (unitsIn (sessionEnd s (length (m .marks)) ks)) a
+      → (a : ℕ) → let st = sessionEnd s (length (m .marks)) ks in Stands s (endOf inWords s m ks) (historyIn inWords s m ks a) (unitsIn st) (managedIn st) (countsIn st) a
   -- W7: "moving marks changes no pending unit": a call to one controller, a start or a stop too, changes no pending unit of another, wherever its marks went
   pub undisturbed : (s : Settings) (m : Given) (ks : List Call) → Sized s m → (k : Call) (b : ℕ) → k .id ≢ b → pendingOf inWords (next inWords (endOf inWords s m ks) k) b ≡ pendingOf inWords (endOf inWords s m ks) b
   -- and so of a record that no session made, with its shares in any order and with any gaps
@@ -311,11 +334,11 @@ pub record Demand2 : Type 1 where
   -- W6: "the same however divided": where the data that two finishing parts complete are the same, in any two sessions and of any two controllers, so is what they
   -- yield
   pub divided : (s s′ : Settings) (m m′ : Given) (ks ks′ : List Call) → Sized s m → Sized s′ m′
-      → freshChange s (m .marks) .answer .number ≡ 0 → freshChange s′ (m′ .marks) .answer .number ≡ 0 → (a a′ : ℕ) (p p′ : Part)
+      → freshChange s (m .marks) .answer .number ≡ 0 → freshChange s′ (m′ .marks) .answer .number ≡ 0 → (b b′ a a′ : ℕ) (p p′ : Part)
       → let l = endOf inWords s m ks in
       let l′ = endOf inWords s′ m′ ks′ in
-      let r = partChange (l .device) (length (l .marks)) (l .area) a p in
-      let r′ = partChange (l′ .device) (length (l′ .marks)) (l′ .area) a′ p′ in
+      let r = partChange (l .device) (length (l .marks)) (l .area) b a p in
+      let r′ = partChange (l′ .device) (length (l′ .marks)) (l′ .area) b′ a′ p′ in
       r .answer .number ≡ 0 → r′ .answer .number ≡ 0 → IsFinal p → IsFinal p′ → wholeBy (historyIn inWords s m ks a) p ≡ wholeBy (historyIn inWords s′ m′ ks′ a′) p′
       → (r .answer .whole ≡ r′ .answer .whole) × (take (r .answer .whole) (r .area) ≡ take (r′ .answer .whole) (r′ .area))
   -- "A run is a longest row of consecutive pending units within one range"

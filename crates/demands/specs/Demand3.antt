@@ -1,6 +1,6 @@
 -- Demand 3, as a statement about the calls of an engine and about the rules: "Two sessions from the same settings in which controller A gets the same calls,
 -- while the others get anything: if in neither a start for A is refused for the shared descriptor limit, every answer to A, every byte of A's reports and A's
--- pending units agree, and equal what demand 2's rules give for A's calls alone."
+-- pending units agree, and equal what demand 2's rules give for A's calls alone." W12: A's calls name their manager, so the same calls are by the same managers.
 use Prim.Native.Nat.{ℕ}
 use mathlib.Core.Path.{_≡_}
 use mathlib.Core.Bool.{true}
@@ -23,11 +23,12 @@ pub record Agree (en : Engine) (s : Settings) (a : ℕ) (m m′ : Given) (ks ks�
   pub units : pendingOf en (endOf en s m ks) a ≡ pendingOf en (endOf en s m′ ks′) a
   pub queued : queuedOf en (endOf en s m ks) a ≡ queuedOf en (endOf en s m′ ks′) a
 
--- a refusal for what controllers share: of a start the pool's shortage (W7) or the descriptor limit, of a part of a state that another's is under way (W6)
+-- a refusal for what controllers share: of a start the pool's shortage (W7), its manager's descriptor limit or the shelf's (W12), of a part of a state that another's is under way (W6)
 pub data Shared : Op → ℕ → Type 0 where
-  pool : (x : List ℕ) → Shared (start x) 11
-  limit : (x : List ℕ) → Shared (start x) 12
-  sequence : (p : Part) → Shared (part p) 23
+  pool : (m : ℕ) (x : List ℕ) → Shared (start m x) 11
+  limit : (m : ℕ) (x : List ℕ) → Shared (start m x) 12
+  shelf : (m : ℕ) (x : List ℕ) → Shared (start m x) 34
+  sequence : (m : ℕ) (p : Part) → Shared (part m p) 23
 
 -- the marks of two sessions may differ, as fresh makes them 0, and so may their areas; that they stand for as many words is meant, as fresh refuses another number of them
 pub record Demand3 (en : Engine) : Type 0 where

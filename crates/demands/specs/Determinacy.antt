@@ -49,7 +49,7 @@ pub record Calls : Type 1 where
   pub batch-of : (κs : _) (a : _) (r r′ : _) (e e′ : _) → batch-of.Post κs a r e → batch-of.Post κs a r′ e′ → (r ≡ r′) × (now (e .1 .0) ≡ now (e′ .1 .0))
   -- and every byte of the buffer
   pub receive : (κs : _) (a : _) (r r′ : _) (e e′ : _) → receive.Post κs a r e → receive.Post κs a r′ e′
-      → (r ≡ r′) × (now (e .1 .0) ≡ now (e′ .1 .0)) × (now (e .1 .1 .1 .0) ≡ now (e′ .1 .1 .1 .0))
+      → (r ≡ r′) × (now (e .1 .0) ≡ now (e′ .1 .0)) × (now (e .1 .1 .1 .1 .0) ≡ now (e′ .1 .1 .1 .1 .0))
   pub suspend : Determinate suspend.Post
   pub resume : Determinate resume.Post
   -- and every byte of the area

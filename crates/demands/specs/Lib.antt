@@ -1,3 +1,4 @@
+pub mod Managers
 pub mod View
 pub mod Sessions
 pub mod Contracts

@@ -95,19 +95,19 @@ pub record BytesKept : Type 0 where
   pub written : (d : Device) (bs : List ℕ) (id : ℕ) (w : Write) (i : ℕ)
       → let byte = getD (writeBy inBytes d bs id w .marks) i 0 in
       (byte ≡ getD bs i 0) ⊎ ((getD bs i 0 ≡ 0) × (byte ≡ 1))
-  pub received : (d : Device) (bs : List ℕ) (id : ℕ) (x : List ℕ) (i : ℕ)
-      → let byte = getD (receiveBy inBytes d bs id x .marks) i 0 in
+  pub received : (d : Device) (bs : List ℕ) (b id : ℕ) (x : List ℕ) (i : ℕ)
+      → let byte = getD (receiveBy inBytes d bs b id x .marks) i 0 in
       (byte ≡ getD bs i 0) ⊎ (byte ≡ 0)
-  pub stopped : (d : Device) (bs : List ℕ) (id i : ℕ) → let byte = getD (stopBy inBytes d bs id .marks) i 0 in (byte ≡ getD bs i 0) ⊎ (byte ≡ 0)
+  pub stopped : (d : Device) (bs : List ℕ) (b id i : ℕ) → let byte = getD (stopBy inBytes d bs b id .marks) i 0 in (byte ≡ getD bs i 0) ⊎ (byte ≡ 0)
   -- a start moves the others' bytes as they are
-  pub moved : (l : Left) → Shaped inBytes l → (a i : ℕ) (x : List ℕ) → placeOf (l .device .settings) a ≡ some i
-      → let c = startBy inBytes (l .device) (l .marks) a x in
+  pub moved : (l : Left) → Shaped inBytes l → (b a i : ℕ) (x : List ℕ) → placeOf (l .device .settings) a ≡ some i
+      → let c = startBy inBytes (l .device) (l .marks) b a x in
       c .answer .number ≡ 0 → (j m : ℕ) → j < 8 → j ≢ i → m < sizeAt (l .device) j
       → getD (c .marks) (baseAt (c .answer .device) j + m) 0 ≡ getD (l .marks) (baseAt (l .device) j + m) 0
   -- none changes how many bytes there are
   pub fresh-bytes : (s : Settings) (bs : List ℕ) → length (freshBy inBytes s bs .marks) ≡ length bs
   pub written-bytes : (d : Device) (bs : List ℕ) (id : ℕ) (w : Write) → length (writeBy inBytes d bs id w .marks) ≡ length bs
-  pub received-bytes : (d : Device) (bs : List ℕ) (id : ℕ) (x : List ℕ) → length (receiveBy inBytes d bs id x .marks) ≡ length bs
+  pub received-bytes : (d : Device) (bs : List ℕ) (b id : ℕ) (x : List ℕ) → length (receiveBy inBytes d bs b id x .marks) ≡ length bs
 
 -- ---- the demands, of the plain engine
 

@@ -78,10 +78,10 @@ pub record PlainAre : Type 1 where
       → let c = freshBy inBytes (a .0) (now (a .1 .0)) in
       (r ≡ c .answer) × (now (e .1 .0) ≡ c .marks)
   pub start : (κs : _) (a : _) (r : _) (e : _) → start.Post κs a r e
-      → let c = startBy inBytes (a .0) (now (a .1 .0)) (a .1 .1 .0) (now (a .1 .1 .1 .0)) in
+      → let c = startBy inBytes (a .0) (now (a .1 .0)) (a .1 .1 .0) (a .1 .1 .1 .0) (now (a .1 .1 .1 .1 .0)) in
       (r ≡ c .answer) × (now (e .1 .0) ≡ c .marks)
   pub stop : (κs : _) (a : _) (r : _) (e : _) → stop.Post κs a r e
-      → let c = stopBy inBytes (a .0) (now (a .1 .0)) (a .1 .1 .0) in
+      → let c = stopBy inBytes (a .0) (now (a .1 .0)) (a .1 .1 .0) (a .1 .1 .1 .0) in
       (r ≡ c .answer) × (now (e .1 .0) ≡ c .marks)
   pub write : (κs : _) (a : _) (r : _) (e : _) → write.Post κs a r e
       → let bytes : Bytes = a .1 .1 .1 .1 .0 in
@@ -91,14 +91,14 @@ pub record PlainAre : Type 1 where
       → let c = batchBy inBytes (a .0) (now (a .1 .0)) (take (a .1 .1 .1 .0) (a .1 .1 .0)) in
       (r ≡ c .answer) × (now (e .1 .0) ≡ c .marks)
   pub receive : (κs : _) (a : _) (r : _) (e : _) → receive.Post κs a r e
-      → let c = receiveBy inBytes (a .0) (now (a .1 .0)) (a .1 .1 .0) (now (a .1 .1 .1 .0)) in
-      (r ≡ c .answer) × (now (e .1 .0) ≡ c .marks) × (now (e .1 .1 .1 .0) ≡ c .buffer)
-  pub suspend : (κs : _) (a : _) (r : _) (e : _) → suspend.Post κs a r e → r ≡ suspendChange (a .0) (inBytes .words (now (a .1 .0))) (a .1 .1 .0) (a .1 .1 .1 .0)
-  pub resume : (κs : _) (a : _) (r : _) (e : _) → resume.Post κs a r e → r ≡ resumeChange (a .0) (inBytes .words (now (a .1 .0))) (a .1 .1 .0)
+      → let c = receiveBy inBytes (a .0) (now (a .1 .0)) (a .1 .1 .0) (a .1 .1 .1 .0) (now (a .1 .1 .1 .1 .0)) in
+      (r ≡ c .answer) × (now (e .1 .0) ≡ c .marks) × (now (e .1 .1 .1 .1 .0) ≡ c .buffer)
+  pub suspend : (κs : _) (a : _) (r : _) (e : _) → suspend.Post κs a r e → r ≡ suspendChange (a .0) (inBytes .words (now (a .1 .0))) (a .1 .1 .0) (a .1 .1 .1 .0) (a .1 .1 .1 .1 .0)
+  pub resume : (κs : _) (a : _) (r : _) (e : _) → resume.Post κs a r e → r ≡ resumeChange (a .0) (inBytes .words (now (a .1 .0))) (a .1 .1 .0) (a .1 .1 .1 .0)
   pub set-state : (κs : _) (a : _) (r : _) (e : _) → set-state.Post κs a r e
-      → let rest = a .1 .1 .1 .1 in
+      → let rest = a .1 .1 .1 .1 .1 in
       let p : Part = record { indicator = rest .0; low = rest .1 .0; high = rest .1 .1 .0; count = rest .1 .1 .1 .0; bytes = now (rest .1 .1 .1 .1 .0) } in
-      let c = partChange (a .0) (inBytes .words (now (a .1 .0))) (now (a .1 .1 .0)) (a .1 .1 .1 .0) p in
+      let c = partChange (a .0) (inBytes .words (now (a .1 .0))) (now (a .1 .1 .0)) (a .1 .1 .1 .0) (a .1 .1 .1 .1 .0) p in
       (r ≡ c .answer) × (now (e .1 .1 .0) ≡ c .area)
   pub make-queue : (κs : _) (a : _) (r : _) (e : _) → make-queue.Post κs a r e
       → r ≡ makeChange (a .0) (inBytes .words (now (a .1 .0))) (a .1 .1 .0) (length (now (a .1 .1 .1 .0)))
@@ -122,8 +122,8 @@ pub record PlainBatchIs : Type 2 where
 -- how each call's arguments behind the record are lent: to be changed (`pMutS`) or to be read (`pShrS`), and its numbers' bits
 pub record PlainLent : Type 3 where
   pub fresh : drop 1 fresh-kinds.ps ≡ pMutS (rtF (fInt w8)) 0 tt ∷ []
-  pub start : drop 1 start-kinds.ps ≡ pMutS (rtF (fInt w8)) 0 tt ∷ pNum w16 ∷ pShrS (rtF (fInt w8)) 1 tt ∷ []
-  pub stop : drop 1 stop-kinds.ps ≡ pMutS (rtF (fInt w8)) 0 tt ∷ pNum w16 ∷ []
+  pub start : drop 1 start-kinds.ps ≡ pMutS (rtF (fInt w8)) 0 tt ∷ pNum w16 ∷ pNum w16 ∷ pShrS (rtF (fInt w8)) 1 tt ∷ []
+  pub stop : drop 1 stop-kinds.ps ≡ pMutS (rtF (fInt w8)) 0 tt ∷ pNum w16 ∷ pNum w16 ∷ []
   pub write : take 3 (drop 1 write-kinds.ps) ≡ pMutS (rtF (fInt w8)) 0 tt ∷ pNum w16 ∷ pNum w64 ∷ []
   -- the records of a batch are only read
   pub batch : drop 1 (batch.signature .params) ≡ SliceRefMutOf (0 ∷ []) tt (plain λ κs. u8) (λ κs. tt) ∷ SliceRefOf (1 ∷ []) tt (plain λ κs. record-type.the-row) (λ κs. tt) ∷ []
@@ -132,11 +132,11 @@ pub record PlainLent : Type 3 where
       ∷ pArr (eStruct record-type.the-type record-laws.the-laws record-laws.the-copy) (eStruct-laws record-type.the-type record-laws.the-laws record-laws.the-copy record-laws.the-plain) 1025
       ∷ pNum w64
       ∷ []
-  pub receive : drop 1 receive-kinds.ps ≡ pMutS (rtF (fInt w8)) 0 tt ∷ pNum w16 ∷ pMutS (rtF (fInt w8)) 1 tt ∷ []
-  pub suspend : drop 1 suspend-kinds.ps ≡ pShrS (rtF (fInt w8)) 0 tt ∷ pNum w16 ∷ pNum w8 ∷ []
-  pub resume : drop 1 resume-kinds.ps ≡ pShrS (rtF (fInt w8)) 0 tt ∷ pNum w16 ∷ []
+  pub receive : drop 1 receive-kinds.ps ≡ pMutS (rtF (fInt w8)) 0 tt ∷ pNum w16 ∷ pNum w16 ∷ pMutS (rtF (fInt w8)) 1 tt ∷ []
+  pub suspend : drop 1 suspend-kinds.ps ≡ pShrS (rtF (fInt w8)) 0 tt ∷ pNum w16 ∷ pNum w16 ∷ pNum w8 ∷ []
+  pub resume : drop 1 resume-kinds.ps ≡ pShrS (rtF (fInt w8)) 0 tt ∷ pNum w16 ∷ pNum w16 ∷ []
   pub set-state : drop 1 set-state-kinds.ps
-      ≡ pShrS (rtF (fInt w8)) 0 tt ∷ pMutS (rtF (fInt w8)) 1 tt ∷ pNum w16 ∷ pNum w8 ∷ pNum w32 ∷ pNum w32 ∷ pNum w32 ∷ pShrS (rtF (fInt w8)) 2 tt ∷ []
+      ≡ pShrS (rtF (fInt w8)) 0 tt ∷ pMutS (rtF (fInt w8)) 1 tt ∷ pNum w16 ∷ pNum w16 ∷ pNum w8 ∷ pNum w32 ∷ pNum w32 ∷ pNum w32 ∷ pShrS (rtF (fInt w8)) 2 tt ∷ []
   pub make-queue : drop 1 make-kinds.ps ≡ pShrS (rtF (fInt w8)) 0 tt ∷ pNum w16 ∷ pShrS (rtF (fInt w8)) 1 tt ∷ []
   pub post : drop 1 post-kinds.ps ≡ pShrS (rtF (fInt w8)) 0 tt ∷ pMutS (rtF (fInt w8)) 1 tt ∷ pNum w16 ∷ pShrS (rtF (fInt w8)) 2 tt ∷ []
   pub take-queue : drop 1 take-kinds.ps ≡ pShrS (rtF (fInt w8)) 0 tt ∷ pShrS (rtF (fInt w8)) 1 tt ∷ pNum w16 ∷ pNum w32 ∷ pMutS (rtF (fInt w8)) 2 tt ∷ []
@@ -150,7 +150,7 @@ pub record PlainDeterminate : Type 1 where
   pub batch : (d : Device) (bs : List ℕ) (rs : List WriteRecord) (r r′ : Batched) (l l′ : List ℕ) → PlainPromised d bs rs r l → PlainPromised d bs rs r′ l′ → (r ≡ r′) × (l ≡ l′)
   pub batch-of : (κs : _) (a : _) (r r′ : _) (e e′ : _) → batch-of.Post κs a r e → batch-of.Post κs a r′ e′ → (r ≡ r′) × (now (e .1 .0) ≡ now (e′ .1 .0))
   pub receive : (κs : _) (a : _) (r r′ : _) (e e′ : _) → receive.Post κs a r e → receive.Post κs a r′ e′
-      → (r ≡ r′) × (now (e .1 .0) ≡ now (e′ .1 .0)) × (now (e .1 .1 .1 .0) ≡ now (e′ .1 .1 .1 .0))
+      → (r ≡ r′) × (now (e .1 .0) ≡ now (e′ .1 .0)) × (now (e .1 .1 .1 .1 .0) ≡ now (e′ .1 .1 .1 .1 .0))
   pub suspend : Determinate suspend.Post
   pub resume : Determinate resume.Post
   pub set-state : (κs : _) (a : _) (r r′ : _) (e e′ : _) → set-state.Post κs a r e → set-state.Post κs a r′ e′ → (r ≡ r′) × (now (e .1 .1 .0) ≡ now (e′ .1 .1 .0))

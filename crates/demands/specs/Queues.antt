@@ -34,7 +34,7 @@ queuingAt d i q =
     let was = controllerAt d (some i) in
     record {
       settings = d .settings;
-      controllers = set (d .controllers) i (record { tracking = was .tracking; base = was .base; suspended = was .suspended; ranges = was .ranges; queue = q });
+      controllers = set (d .controllers) i (record { tracking = was .tracking; manager = was .manager; base = was .base; suspended = was .suspended; ranges = was .ranges; queue = q });
       sequence = d .sequence;
     }
 

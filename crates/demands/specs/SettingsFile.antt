@@ -13,10 +13,10 @@ use lib.ListN.{length, take}
 use Rattle.rules.specs.Promise.{Determinate}
 use Rattle.rules.specs.Refusals.{refusal}
 use Rattle.settings_file.specs.File.{oldRead, newRead, writeTests, fileWritten}
-use Rattle.settings_file.specs.Statements.{Begins, Layout, Rule, Readers, Writer, OneEncoding, BothReaders}
+use Rattle.settings_file.specs.Statements.{Begins, Layout, Readers, Writer, OneEncoding, BothReaders}
 use Rattle.settings_file.specs.Worked.{Worked}
 use Rattle.settings_updater.specs.Statements.{Updater}
-use Rattle.settings_updater.specs.Answers.{fileVersion, firstOf, fileRule, fileIdentifier, fileSecond, fileSecondLimit, saveNumber, saved}
+use Rattle.settings_updater.specs.Answers.{fileVersion, fileRule, fileIdentifier, fileSecond, fileSecondLimit, saveNumber, saved}
 use Rattle.settings_file.proofs.read_v1.Reads as read-v1
 use Rattle.settings_file.proofs.read_v1.Kinds as read-v1-kinds
 use Rattle.settings_file.proofs.read_file.Reads as read-file
@@ -84,12 +84,12 @@ pub record UpdaterIs : Type 1 where
   pub v1-refusal : (κs : _) (a : _) (r : _) (e : _) → v1-refusal.Post κs a r e → r ≡ oldRead (now (a .0)) .number
   pub refusal : (κs : _) (a : _) (r : _) (e : _) → refusal-of.Post κs a r e → r ≡ newRead (now (a .0)) .number
   pub version : (κs : _) (a : _) (r : _) (e : _) → version.Post κs a r e → r ≡ fileVersion (now (a .0))
-  pub manager : (κs : _) (a : _) (r : _) (e : _) → manager.Post κs a r e → r ≡ firstOf (now (a .0)) .manager
-  pub least : (κs : _) (a : _) (r : _) (e : _) → least.Post κs a r e → r ≡ firstOf (now (a .0)) .least
-  pub greatest : (κs : _) (a : _) (r : _) (e : _) → greatest.Post κs a r e → r ≡ firstOf (now (a .0)) .greatest
+  pub manager : (κs : _) (a : _) (r : _) (e : _) → manager.Post κs a r e → r ≡ newRead (now (a .0)) .settings .manager
+  pub least : (κs : _) (a : _) (r : _) (e : _) → least.Post κs a r e → r ≡ newRead (now (a .0)) .settings .least
+  pub greatest : (κs : _) (a : _) (r : _) (e : _) → greatest.Post κs a r e → r ≡ newRead (now (a .0)) .settings .greatest
   pub rule : (κs : _) (a : _) (r : _) (e : _) → rule.Post κs a r e → r ≡ fileRule (now (a .0))
-  pub limit : (κs : _) (a : _) (r : _) (e : _) → limit.Post κs a r e → r ≡ firstOf (now (a .0)) .limit
-  pub count : (κs : _) (a : _) (r : _) (e : _) → count.Post κs a r e → r ≡ firstOf (now (a .0)) .count
+  pub limit : (κs : _) (a : _) (r : _) (e : _) → limit.Post κs a r e → r ≡ newRead (now (a .0)) .settings .limit
+  pub count : (κs : _) (a : _) (r : _) (e : _) → count.Post κs a r e → r ≡ newRead (now (a .0)) .settings .count
   pub identifier : (κs : _) (a : _) (r : _) (e : _) → identifier.Post κs a r e → r ≡ fileIdentifier (now (a .0)) (a .1 .0)
   pub second : (κs : _) (a : _) (r : _) (e : _) → second.Post κs a r e → r ≡ fileSecond (now (a .0))
   pub second-limit : (κs : _) (a : _) (r : _) (e : _) → second-limit.Post κs a r e → r ≡ fileSecondLimit (now (a .0))
@@ -147,8 +147,7 @@ pub record SettingsFile : Type 3 where
   pub begins : Begins
   pub layout : Layout
   pub worked : Worked
-  -- 35, 31, 32, 35 and 16 in their order, and zeros with them; the writer's 16, 32 and 8
-  pub rule : Rule
+  -- 35, 31, 32, 35 and 16 in their order, and zeros with them; the writer's 16, 32 and 8. (What 16 asks of settings, `Soundness` says.)
   pub readers : Readers
   pub writer : Writer
   -- one encoding at each version, without loss; a version 1 file means the same to both readers

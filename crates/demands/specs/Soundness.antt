@@ -2,9 +2,10 @@
 use Prim.Native.Nat.{ℕ, _+_, _-_, _%_, _^_, _≤_, _<_}
 use mathlib.Core.Path.{_≡_}
 use mathlib.Core.Logic.{_≢_, _⊎_, _↔_}
-use mathlib.Core.Bool.{true, false}
+use mathlib.Core.Bool.{true, false, cond}
 use mathlib.Core.List.{List, map}
 use mathlib.Core.Option.{some}
+use lib.Dec.{eqb}
 use lib.ListN.{length, take, getD}
 use Rattle.rules.specs.Lists.{sum}
 use Rattle.rules.specs.Settings.{settingsOk, placeOf}
@@ -17,20 +18,25 @@ use Rattle.rules.specs.declared.Tracking.the-variants.{Off, On}
 use Rattle.rules.specs.declared.Sequence.the-variants.{Open}
 use Rattle.rules.specs.declared.Ring.{Ring}
 use Rattle.rules.specs.declared.Queue.the-variants.{Is}
+use Rattle.rules.specs.declared.Second.the-variants as second
 use Rattle.rules.specs.declared.Settings.{Settings}
 use Rattle.rules.specs.declared.Controller.{Controller}
 use Rattle.rules.specs.declared.Device.{Device}
-use Rattle.record.specs.Record.{countsOf, unitsOf, controllerAt}
+use Rattle.record.specs.Record.{managedOf, countsOf, unitsOf, controllerAt}
 use Rattle.calls.specs.Calls.{inWords, sizesOf, freshChange}
+use Rattle.demands.specs.Managers.{Manages, IsManager}
 use Rattle.demands.specs.Sessions.{Left, Given, Sized, outcome, endOf}
 
--- settings that pass 16: "1 to 8 controller identifiers, all different", "the manager's own identifier, not among them", "least ≤ greatest ≤ 20", a limit of "0 to 128"
+-- settings that pass 16: "1 to 8 controller identifiers, all different", "the manager's own identifier, not among them", "least ≤ greatest ≤ 20", a limit of "0 to 128";
+-- W12: "The managers' identifiers differ and are not among the controllers", and the second manager's limit and the shelf's are of 0 to 128 too
 pub record Settled (s : Settings) : Type 0 where
   pub count : (1 ≤ s .count) × (s .count ≤ 8)
   pub different : (i j : ℕ) → i < s .count → j < s .count → getD (s .identifiers) i 0 ≡ getD (s .identifiers) j 0 → i ≡ j
   pub manager : (i : ℕ) → i < s .count → getD (s .identifiers) i 0 ≢ s .manager
   pub granularities : (s .least ≤ s .greatest) × (s .greatest ≤ 20)
   pub limit : s .limit ≤ 128
+  pub second : (id limit : ℕ) → s .second ≡ second.Is id limit → (id ≢ s .manager) × ((i : ℕ) → i < s .count → getD (s .identifiers) i 0 ≢ id) × (limit ≤ 128)
+  pub shelf : s .shelf ≤ 128
 
 -- a record has the places of its type
 pub record Whole (d : Device) : Type 0 where
@@ -68,7 +74,10 @@ pub record Sound (d : Device) : Type 0 where
   pub settings : settingsOk (d .settings) ≡ true
   -- of a tracked controller by itself what a start asks: 7, 18 to 21 and 10
   pub held : (i g n : ℕ) → TracksAt d i g n → Lawful (d .settings) g n (take n (controllerAt d (some i) .ranges))
-  pub limit : countsOf d ≤ d .settings .limit
+  -- W12: "that manager is in the settings, its counts are within its limit, and all counts within the shelf's"
+  pub manager : (i g n : ℕ) → TracksAt d i g n → IsManager (d .settings) (controllerAt d (some i) .manager)
+  pub limit : (m limit : ℕ) → Manages (d .settings) m limit → managedOf d m ≤ limit
+  pub shelf : countsOf d ≤ d .settings .shelf
   -- W7: "1 covers shares that overlap or leave these words and […] tracked units above 16,384 in all"
   pub inside : (i g n : ℕ) → TracksAt d i g n → baseAt d i + unitsAt d i g n ≤ 16384
   pub apart : (i g n j f m : ℕ) → i ≢ j → TracksAt d i g n → TracksAt d j f m
@@ -77,12 +86,15 @@ pub record Sound (d : Device) : Type 0 where
   pub sequence : (owner end : ℕ) → d .sequence ≡ Open owner end → LawfulSequence d owner end
   pub queues : (i : ℕ) (r : Ring) → i < d .settings .count → controllerAt d (some i) .queue ≡ Is r → LawfulRing r
 
--- how many ranges a controller holds
+-- how many ranges a controller holds, and how many for a manager (W12)
 abbrev pub rangesIn : Tracking → ℕ
 rangesIn Off = 0
 rangesIn (On g n) = n
 
--- W7: where its shares lie, and what 11 and 12 are decided with. A tracked controller in use has a share from its base on, with a bit for each different unit of its
+abbrev pub rangesFor : ℕ → Controller → ℕ
+rangesFor m c = cond (eqb (c .manager) m) (rangesIn (c .tracking)) 0
+
+-- W7: where its shares lie, and what 11, 12 and 34 are decided with. A tracked controller in use has a share from its base on, with a bit for each different unit of its
 -- ranges; one that is not tracked has none, whatever its base, and a place that is not in use has none, whatever stands there
 pub record Shares (d : Device) : Type 0 where
   pub places : length (sharesOf d) ≡ 8
@@ -92,6 +104,7 @@ pub record Shares (d : Device) : Type 0 where
   -- "all tracked units together": of each share its bits, no more and no fewer; and the counts together
   pub units : unitsOf d ≡ sum (sizesOf d)
   pub counts : countsOf d ≡ sum (map (λ (c : Controller). rangesIn (c .tracking)) (take (d .settings .count) (d .controllers)))
+  pub managed : (m : ℕ) → managedOf d m ≡ sum (map (rangesFor m) (take (d .settings .count) (d .controllers)))
 
 -- "From a fresh device no sequence of calls leads to an unsound record, save the closed device of a refused fresh", which answers 1 to every call
 pub record Soundness : Type 0 where

@@ -42,9 +42,21 @@ abbrev pub queueOf : List ℕ → Queue → Option Queued
 queueOf x made.Nothing = none
 queueOf x (made.Is r) = some (record { size = r .size; entries = queuedIn (frontOf (entryBytes * r .size) x) r; stopped = r .stopped })
 
+-- W12: the manager that tracks it, 0 where none does
+abbrev pub managerIn : Tracking → ℕ → ℕ
+managerIn Off m = 0
+managerIn (On g n) m = m
+
 -- a controller, with the bytes so far of a state of its own, if one is under way, and with the area of its queue
 abbrev pub slotOf : Engine → List ℕ → Controller → Option (List ℕ) → List ℕ → Slot
-slotOf en ws c f x = record { suspended = c .suspended; marks = marksOf en ws (c .base) (c .tracking) (c .ranges); front = f; queue = queueOf x (c .queue) }
+slotOf en ws c f x =
+    record {
+      suspended = c .suspended;
+      manager = managerIn (c .tracking) (c .manager);
+      marks = marksOf en ws (c .base) (c .tracking) (c .ranges);
+      front = f;
+      queue = queueOf x (c .queue);
+    }
 
 -- those of the controller at a place: it is the owner of the open sequence, or there are none
 abbrev pub isAt : Option ℕ → ℕ → Bool
@@ -152,13 +164,13 @@ takes ws area qs r =
 
 -- the calls of an engine, on a record, marks and areas
 abbrev pub runAs : Engine → Device → List ℕ → List ℕ → (ℕ → List ℕ) → ℕ → Op → Outcome
-runAs en d ws area qs id (start x) = starts area qs x (startBy en d ws id x)
-runAs en d ws area qs id stop = stops area qs (stopBy en d ws id)
+runAs en d ws area qs id (start m x) = starts area qs x (startBy en d ws m id x)
+runAs en d ws area qs id (stop m) = stops area qs (stopBy en d ws m id)
 runAs en d ws area qs id (write w) = notes d area qs (writeBy en d ws id w)
-runAs en d ws area qs id (receive x) = receipts d area qs (receiveBy en d ws id x)
-runAs en d ws area qs id (suspend kind) = flags ws area qs (suspendChange d (en .words ws) id kind)
-runAs en d ws area qs id resume = flags ws area qs (resumeChange d (en .words ws) id)
-runAs en d ws area qs id (part p) = arrives ws qs (p .bytes) (partChange d (en .words ws) area id p)
+runAs en d ws area qs id (receive m x) = receipts d area qs (receiveBy en d ws m id x)
+runAs en d ws area qs id (suspend m kind) = flags ws area qs (suspendChange d (en .words ws) m id kind)
+runAs en d ws area qs id (resume m) = flags ws area qs (resumeChange d (en .words ws) m id)
+runAs en d ws area qs id (part m p) = arrives ws qs (p .bytes) (partChange d (en .words ws) area m id p)
 runAs en d ws area qs id (queue bytes make) = flags ws area qs (makeChange d (en .words ws) id bytes)
 runAs en d ws area qs id (queue bytes (post e)) =
     posts ws area qs (placeOf (d .settings) id) e (postChange d (en .words ws) (lentAt qs (placeOf (d .settings) id) bytes) id e)

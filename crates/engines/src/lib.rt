@@ -25,20 +25,27 @@ pub fn fresh(s: Settings, marks: &mut [u64], bytes: &mut [u8]) -> Changed {
     tracker::fresh(s, marks)
 }
 
-// Starts tracking a controller.
-pub fn start(d: Device, marks: &mut [u64], bytes: &mut [u8], id: u16, data: &[u8]) -> Started {
+// Starts tracking a controller for a manager.
+pub fn start(
+    d: Device,
+    marks: &mut [u64],
+    bytes: &mut [u8],
+    manager: u16,
+    id: u16,
+    data: &[u8],
+) -> Started {
     if bytes.len() > 0 {
-        return plain::start(d, bytes, id, data);
+        return plain::start(d, bytes, manager, id, data);
     }
-    tracker::start(d, marks, id, data)
+    tracker::start(d, marks, manager, id, data)
 }
 
-// Stops tracking a controller.
-pub fn stop(d: Device, marks: &mut [u64], bytes: &mut [u8], id: u16) -> Changed {
+// Stops a manager's tracking of a controller.
+pub fn stop(d: Device, marks: &mut [u64], bytes: &mut [u8], manager: u16, id: u16) -> Changed {
     if bytes.len() > 0 {
-        return plain::stop(d, bytes, id);
+        return plain::stop(d, bytes, manager, id);
     }
-    tracker::stop(d, marks, id)
+    tracker::stop(d, marks, manager, id)
 }
 
 // Notes a write of so many bytes, the length, at an address.
@@ -75,31 +82,32 @@ pub fn receive(
     d: Device,
     marks: &mut [u64],
     bytes: &mut [u8],
+    manager: u16,
     id: u16,
     buffer: &mut [u8],
 ) -> Received
     ensures { λ r. ⌜ (r .number ≡ 0 → 16 + 16 * r .runs ≤ length (now (buffer .entry))) ⌝ }
 {
     if bytes.len() > 0 {
-        return plain::receive(d, bytes, id, buffer);
+        return plain::receive(d, bytes, manager, id, buffer);
     }
-    tracker::receive(d, marks, id, buffer)
+    tracker::receive(d, marks, manager, id, buffer)
 }
 
 // Suspends a controller, or gives notice.
-pub fn suspend(d: Device, marks: &[u64], bytes: &[u8], id: u16, kind: u8) -> Changed {
+pub fn suspend(d: Device, marks: &[u64], bytes: &[u8], manager: u16, id: u16, kind: u8) -> Changed {
     if bytes.len() > 0 {
-        return plain::suspend(d, bytes, id, kind);
+        return plain::suspend(d, bytes, manager, id, kind);
     }
-    tracker::suspend(d, marks, id, kind)
+    tracker::suspend(d, marks, manager, id, kind)
 }
 
 // Resumes a controller.
-pub fn resume(d: Device, marks: &[u64], bytes: &[u8], id: u16) -> Changed {
+pub fn resume(d: Device, marks: &[u64], bytes: &[u8], manager: u16, id: u16) -> Changed {
     if bytes.len() > 0 {
-        return plain::resume(d, bytes, id);
+        return plain::resume(d, bytes, manager, id);
     }
-    tracker::resume(d, marks, id)
+    tracker::resume(d, marks, manager, id)
 }
 
 // Takes a part of a controller's state into the area for it.
@@ -108,6 +116,7 @@ pub fn set_state(
     marks: &[u64],
     bytes: &[u8],
     area: &mut [u8],
+    manager: u16,
     id: u16,
     indicator: u8,
     low: u32,
@@ -116,9 +125,31 @@ pub fn set_state(
     data: &[u8],
 ) -> StateSet {
     if bytes.len() > 0 {
-        return plain::set_state(d, bytes, area, id, indicator, low, high, count, data);
+        return plain::set_state(
+            d,
+            bytes,
+            area,
+            manager,
+            id,
+            indicator,
+            low,
+            high,
+            count,
+            data,
+        );
     }
-    tracker::set_state(d, marks, area, id, indicator, low, high, count, data)
+    tracker::set_state(
+        d,
+        marks,
+        area,
+        manager,
+        id,
+        indicator,
+        low,
+        high,
+        count,
+        data,
+    )
 }
 
 // Makes a controller's queue in its area.

@@ -26,6 +26,7 @@ fn untracked(s: Settings) -> Device
     let queue = Queue::Nothing;
     let c = Controller {
         tracking: off,
+        manager: 0,
         base: 0,
         suspended: false,
         ranges: none,

@@ -1,19 +1,21 @@
 // A listing played from standard input to its end, each line answered on standard output: document 01's, or a shelf's, which has more lines (`bursts`, `parts`,
-// `queues`, `files`). A line is cut by `lines`, and played by `playing` or one of these. The loop owns the device, so that a line that leaves it as it is hands nothing back.
+// `queues`, `files`, `managers`). A line is cut by `lines`, and played by `playing` or one of these. The loop owns the device, so that a line that leaves it as it is
+// hands nothing back.
 
+use managers::Caller;
 use output::Buffer;
 use output::Waiting;
 use parts::Area;
+use playing::Played;
 use rules::Device;
 ghost use Prim.Native.Nat.{_≤_};
 ghost use lib.ListN.{length};
 
-// How a line is played: as document 01's, or as one of a shelf's, which leaves the device as it is, or is a part of a state, or is of a queue.
+// How a line is played: as document 01's, or as one of a shelf's, which leaves the device as it is, or may change it.
 enum Kind {
     Session,
     Kept,
-    Part,
-    Queue,
+    Changing,
 }
 
 // The input that is left to take in, from a place to an end, and the answers that wait. Where it ends with 0 there is none any more.
@@ -47,6 +49,20 @@ fn refill(input: &mut [u8], at: usize, end: usize, out: &Buffer, waiting: Waitin
     }
 }
 
+// Who makes the call of a line, the first `used` of these bytes, and where the call's own line begins: only a shelf's listing has lines that say who.
+fn caller_of(shelf: bool, first: u16, line: &[u8], used: usize) -> Caller
+    requires { ⌜ used ≤ length (now line) ⌝ }
+    ensures { λ r. ⌜ r .from ≤ used ⌝ }
+{
+    if shelf {
+        return managers::caller_of(first, &line[..used]);
+    }
+    Caller {
+        manager: first,
+        from: 0,
+    }
+}
+
 // How a line is played: only a shelf's listing has lines beside document 01's.
 fn kind_of(shelf: bool, line: &[u8]) -> Kind {
     if !shelf {
@@ -59,10 +75,13 @@ fn kind_of(shelf: bool, line: &[u8]) -> Kind {
         return Kind::Kept;
     }
     if parts::asks(line) {
-        return Kind::Part;
+        return Kind::Changing;
     }
     if queues::asks(line) {
-        return Kind::Queue;
+        return Kind::Changing;
+    }
+    if managers::asks(line) {
+        return Kind::Changing;
     }
     Kind::Session
 }
@@ -80,6 +99,27 @@ fn answer(
         return files::play(line, out, waiting);
     }
     bursts::answer(d, marks, bytes, line, out, waiting)
+}
+
+// Plays a shelf's line that may change the device, by this manager.
+fn change(
+    d: Device,
+    marks: &mut [u64],
+    bytes: &mut [u8],
+    area: &mut Area,
+    areas: &mut [u8],
+    caller: u16,
+    line: &[u8],
+    out: &mut Buffer,
+    waiting: Waiting,
+) -> Played {
+    if parts::asks(line) {
+        return parts::play(d, marks, bytes, area, caller, line, out, waiting);
+    }
+    if queues::asks(line) {
+        return queues::play(d, marks, bytes, areas, line, out, waiting);
+    }
+    managers::play(d, marks, bytes, line, out, waiting)
 }
 
 // Plays the listing, to its end or until writing fails, on the engine that marks or bytes were lent for. A shelf's lends `area` to the parts of a state and `areas`
@@ -121,31 +161,23 @@ pub fn run(
         if taken.whole {
             let length = used;
             used = 0;
-            let kind = kind_of(shelf, &line[..length]);
+            let s = device.settings;
+            let caller = caller_of(shelf, s.manager, line, length);
+            let from = caller.from;
+            let kind = kind_of(shelf, &line[from..length]);
             match kind {
                 Kind::Kept => {
-                    waiting = answer(device, marks, bytes, &line[..length], out, waiting);
+                    waiting = answer(device, marks, bytes, &line[from..length], out, waiting);
                 }
-                Kind::Part => {
-                    let played = parts::play(
+                Kind::Changing => {
+                    let played = change(
                         device,
                         marks,
                         bytes,
                         area,
-                        &line[..length],
-                        out,
-                        waiting,
-                    );
-                    device = played.device;
-                    waiting = played.waiting;
-                }
-                Kind::Queue => {
-                    let played = queues::play(
-                        device,
-                        marks,
-                        bytes,
                         areas,
-                        &line[..length],
+                        caller.manager,
+                        &line[from..length],
                         out,
                         waiting,
                     );
@@ -153,14 +185,31 @@ pub fn run(
                     waiting = played.waiting;
                 }
                 Kind::Session => {
-                    let read = listing::read_line(&line[..length]);
+                    let read = listing::read_line(&line[from..length]);
                     let call = read.call;
                     if playing::changes(call) {
-                        let played = playing::change(device, marks, bytes, read, out, waiting);
+                        let played = playing::change(
+                            device,
+                            marks,
+                            bytes,
+                            caller.manager,
+                            read,
+                            out,
+                            waiting,
+                        );
                         device = played.device;
                         waiting = played.waiting;
                     } else {
-                        waiting = playing::answer(device, marks, bytes, call, shelf, out, waiting);
+                        waiting = playing::answer(
+                            device,
+                            marks,
+                            bytes,
+                            caller.manager,
+                            call,
+                            shelf,
+                            out,
+                            waiting,
+                        );
                     }
                 }
             }

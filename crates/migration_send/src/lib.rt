@@ -10,10 +10,10 @@ ghost use lib.ListN.{length};
 ghost use Rattle.calls.specs.Calls.{dropped, suspendChange, resumeChange};
 
 // `suspend` on marks of so many words, however they are held.
-pub fn suspend_on(d: Device, words: usize, id: u16, kind: u8) -> Changed
-    ensures { λ r. ⌜ r ≡ suspendChange d words id kind ⌝ }
+pub fn suspend_on(d: Device, words: usize, manager: u16, id: u16, kind: u8) -> Changed
+    ensures { λ r. ⌜ r ≡ suspendChange d words manager id kind ⌝ }
 {
-    let place = record::locate(d, words, id);
+    let place = record::locate_by(d, words, manager, id);
     let Place::At(i) = place else {
         let number = calls::number_of(place);
         return Changed { number, device: d };
@@ -38,12 +38,12 @@ pub fn suspend_on(d: Device, words: usize, id: u16, kind: u8) -> Changed
     }
 }
 
-// Suspends a controller: type 1 suspends, also where it is suspended already; type 0 is a notice and changes nothing. Pending units stay. Refused, in
-// this order: 1, 2, 15 another type.
-pub fn suspend(d: Device, marks: &[u64], id: u16, kind: u8) -> Changed
-    ensures { λ r. ⌜ r ≡ suspendChange d (length (now (marks .entry))) id kind ⌝ }
+// Suspends a controller, whichever manager asks: type 1 suspends, also where it is suspended already; type 0 is a notice and changes nothing. Pending units stay. Refused, in
+// this order: 1, 2 (also an unknown manager), 15 another type.
+pub fn suspend(d: Device, marks: &[u64], manager: u16, id: u16, kind: u8) -> Changed
+    ensures { λ r. ⌜ r ≡ suspendChange d (length (now (marks .entry))) manager id kind ⌝ }
 {
-    suspend_on(d, marks.len(), id, kind)
+    suspend_on(d, marks.len(), manager, id, kind)
 }
 
 // The sequence without one of this controller's own.
@@ -60,10 +60,10 @@ fn without(q: Sequence, id: u16) -> Sequence
 }
 
 // `resume` on marks of so many words, however they are held.
-pub fn resume_on(d: Device, words: usize, id: u16) -> Changed
-    ensures { λ r. ⌜ r ≡ resumeChange d words id ⌝ }
+pub fn resume_on(d: Device, words: usize, manager: u16, id: u16) -> Changed
+    ensures { λ r. ⌜ r ≡ resumeChange d words manager id ⌝ }
 {
-    let place = record::locate(d, words, id);
+    let place = record::locate_by(d, words, manager, id);
     let Place::At(i) = place else {
         let number = calls::number_of(place);
         return Changed { number, device: d };
@@ -89,9 +89,10 @@ pub fn resume_on(d: Device, words: usize, id: u16) -> Changed
     Changed { number: 0, device }
 }
 
-// Resumes a controller: a state of its own that arrives in parts is dropped. Pending units stay. Refused, in this order: 1, 2, 13 not suspended.
-pub fn resume(d: Device, marks: &[u64], id: u16) -> Changed
-    ensures { λ r. ⌜ r ≡ resumeChange d (length (now (marks .entry))) id ⌝ }
+// Resumes a controller, whichever manager asks: a state of its own that arrives in parts is dropped. Pending units stay. Refused, in this order: 1, 2 (also an unknown
+// manager), 13 not suspended.
+pub fn resume(d: Device, marks: &[u64], manager: u16, id: u16) -> Changed
+    ensures { λ r. ⌜ r ≡ resumeChange d (length (now (marks .entry))) manager id ⌝ }
 {
-    resume_on(d, marks.len(), id)
+    resume_on(d, marks.len(), manager, id)
 }

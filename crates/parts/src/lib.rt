@@ -88,13 +88,14 @@ fn put_set(out: &mut Buffer, waiting: Waiting, area: &Area, number: u8, whole: u
     put_front(out, w, area, whole)
 }
 
-// Plays a line that begins with this word, and puts its answer. Its data have at most 4,100 bytes, a dword more than the area; so a line that is too long, or was cut
-// for that, is bad by its data or by a number.
+// Plays a line that begins with this word, by this manager, and puts its answer. Its data have at most 4,100 bytes, a dword more than the area; so a line that is too
+// long, or was cut for that, is bad by its data or by a number.
 pub fn play(
     d: Device,
     marks: &[u64],
     bytes: &[u8],
     area: &mut Area,
+    manager: u16,
     line: &[u8],
     out: &mut Buffer,
     waiting: Waiting,
@@ -115,6 +116,7 @@ pub fn play(
         marks,
         bytes,
         area,
+        manager,
         part.id,
         part.indicator,
         part.low,

@@ -86,12 +86,12 @@ fn pack(area: &mut [u8], bases: [usize; 8], sizes: [usize; 8], new: usize)
     }
 }
 
-// Starts tracking a controller from a start structure. Refused, in this order: 1, 2, 4 suspended, 3 already tracked, 8 no whole header, 6 version, then what `listed_refusal` asks:
-// 7, 8, 18, row by row 19, 20, 21, then 10, 11, 12.
-pub fn start(d: Device, area: &mut [u8], id: u16, data: &[u8]) -> Started
-    ensures { λ r. ⌜ (r ≡ startBy inBytes d (now (area .entry)) id (now («data» .entry)) .answer) × (now (area .exit) ≡ startBy inBytes d (now (area .entry)) id (now («data» .entry)) .marks) ⌝ }
+// Starts tracking a controller for a manager from a start structure. Refused, in this order: 1, 2 (also an unknown manager), 4 suspended, 3 already tracked, by either manager, 8 no whole header, 6 version, then what `listed_refusal` asks:
+// 7, 8, 18, row by row 19, 20, 21, then 10, 11, 12, 34.
+pub fn start(d: Device, area: &mut [u8], manager: u16, id: u16, data: &[u8]) -> Started
+    ensures { λ r. ⌜ (r ≡ startBy inBytes d (now (area .entry)) manager id (now («data» .entry)) .answer) × (now (area .exit) ≡ startBy inBytes d (now (area .entry)) manager id (now («data» .entry)) .marks) ⌝ }
 {
-    let place = record::locate(d, words_for(area.len()), id);
+    let place = record::locate_by(d, words_for(area.len()), manager, id);
     let Place::At(i) = place else {
         return track_send::refused(d, calls::number_of(place), 0);
     };
@@ -107,7 +107,7 @@ pub fn start(d: Device, area: &mut [u8], id: u16, data: &[u8]) -> Started
     let Header::Is(g, n) = header else {
         return track_send::refused(d, track_send::header_number(header), 0);
     };
-    let refusal = track_send::listed_refusal(d, g, n, data);
+    let refusal = track_send::listed_refusal(d, manager, g, n, data);
     if refusal.number != 0 {
         return track_send::refused(d, refusal.number, refusal.row);
     }
@@ -116,7 +116,7 @@ pub fn start(d: Device, area: &mut [u8], id: u16, data: &[u8]) -> Started
     let units = ranges::units_in(g, n as usize, ranges);
     let sizes = track_send::sizes_with(shares, i, units.0 as usize);
     pack(area, track_send::bases_of(shares), sizes, i);
-    let device = track_send::recorded(d, i, g, n as u8, ranges, sizes);
+    let device = track_send::recorded(d, manager, i, g, n as u8, ranges, sizes);
     Started {
         number: 0,
         row: 0,
@@ -124,11 +124,12 @@ pub fn start(d: Device, area: &mut [u8], id: u16, data: &[u8]) -> Started
     }
 }
 
-// Stops tracking a controller: its ranges are forgotten and its bytes are 0. Refused, in this order: 1, 2, 4 suspended, 5 not tracked.
-pub fn stop(d: Device, area: &mut [u8], id: u16) -> Changed
-    ensures { λ r. ⌜ (r ≡ stopBy inBytes d (now (area .entry)) id .answer) × (now (area .exit) ≡ stopBy inBytes d (now (area .entry)) id .marks) ⌝ }
+// Stops tracking a controller: its ranges are forgotten and its bytes are 0. Refused, in this order: 1, 2 (also an unknown manager), 4 suspended, 5 not tracked by
+// this manager.
+pub fn stop(d: Device, area: &mut [u8], manager: u16, id: u16) -> Changed
+    ensures { λ r. ⌜ (r ≡ stopBy inBytes d (now (area .entry)) manager id .answer) × (now (area .exit) ≡ stopBy inBytes d (now (area .entry)) manager id .marks) ⌝ }
 {
-    let place = record::locate(d, words_for(area.len()), id);
+    let place = record::locate_by(d, words_for(area.len()), manager, id);
     let Place::At(i) = place else {
         let number = calls::number_of(place);
         return Changed { number, device: d };
@@ -140,7 +141,7 @@ pub fn stop(d: Device, area: &mut [u8], id: u16) -> Changed
             device: d,
         };
     }
-    let t = c.tracking;
+    let t = calls::tracking_by(c, manager);
     let Tracking::On(g, n) = t else {
         return Changed {
             number: 5,
@@ -238,19 +239,19 @@ pub fn batch_of(d: Device, area: &mut [u8], list: [WriteRecord; 1025], n: usize)
 
 // ---- receive
 
-// Reports the controller's first pending runs into the buffer, as many as it holds, and makes their bytes 0. The answer also says how many groups of 64 units were examined (W10).
-// Refused, in this order: 1, 2, 5 not tracked, 8 a buffer below 32 bytes.
-pub fn receive(d: Device, area: &mut [u8], id: u16, buffer: &mut [u8]) -> Received
-    ensures { λ r. ⌜ (r ≡ receiveBy inBytes d (now (area .entry)) id (now (buffer .entry)) .answer)
-        × (now (area .exit) ≡ receiveBy inBytes d (now (area .entry)) id (now (buffer .entry)) .marks)
-        × (now (buffer .exit) ≡ receiveBy inBytes d (now (area .entry)) id (now (buffer .entry)) .buffer) ⌝ }
+// Reports to the manager that tracks it the controller's first pending runs into the buffer, as many as it holds, and makes their bytes 0. The answer also says how many groups of 64 units were examined (W10).
+// Refused, in this order: 1, 2 (also an unknown manager), 5 not tracked by this manager, 8 a buffer below 32 bytes.
+pub fn receive(d: Device, area: &mut [u8], manager: u16, id: u16, buffer: &mut [u8]) -> Received
+    ensures { λ r. ⌜ (r ≡ receiveBy inBytes d (now (area .entry)) manager id (now (buffer .entry)) .answer)
+        × (now (area .exit) ≡ receiveBy inBytes d (now (area .entry)) manager id (now (buffer .entry)) .marks)
+        × (now (buffer .exit) ≡ receiveBy inBytes d (now (area .entry)) manager id (now (buffer .entry)) .buffer) ⌝ }
 {
-    let place = record::locate(d, words_for(area.len()), id);
+    let place = record::locate_by(d, words_for(area.len()), manager, id);
     let Place::At(i) = place else {
         return track_receive::nothing(calls::number_of(place));
     };
     let c = d.controllers[i];
-    let t = c.tracking;
+    let t = calls::tracking_by(c, manager);
     let Tracking::On(g, n) = t else {
         return track_receive::nothing(5);
     };
@@ -283,25 +284,26 @@ pub fn receive(d: Device, area: &mut [u8], id: u16, buffer: &mut [u8]) -> Receiv
 
 // ---- the calls that touch no mark: the other engine's, of as many words as the area stands for
 
-// Suspends a controller, or gives notice. Refused, in this order: 1, 2, 15 another type.
-pub fn suspend(d: Device, area: &[u8], id: u16, kind: u8) -> Changed
-    ensures { λ r. ⌜ r ≡ suspendChange d (wordsFor (length (now (area .entry)))) id kind ⌝ }
+// Suspends a controller, or gives notice. Refused, in this order: 1, 2 (also an unknown manager), 15 another type.
+pub fn suspend(d: Device, area: &[u8], manager: u16, id: u16, kind: u8) -> Changed
+    ensures { λ r. ⌜ r ≡ suspendChange d (wordsFor (length (now (area .entry)))) manager id kind ⌝ }
 {
-    migration_send::suspend_on(d, words_for(area.len()), id, kind)
+    migration_send::suspend_on(d, words_for(area.len()), manager, id, kind)
 }
 
-// Resumes a controller. Refused, in this order: 1, 2, 13 not suspended.
-pub fn resume(d: Device, area: &[u8], id: u16) -> Changed
-    ensures { λ r. ⌜ r ≡ resumeChange d (wordsFor (length (now (area .entry)))) id ⌝ }
+// Resumes a controller. Refused, in this order: 1, 2 (also an unknown manager), 13 not suspended.
+pub fn resume(d: Device, area: &[u8], manager: u16, id: u16) -> Changed
+    ensures { λ r. ⌜ r ≡ resumeChange d (wordsFor (length (now (area .entry)))) manager id ⌝ }
 {
-    migration_send::resume_on(d, words_for(area.len()), id)
+    migration_send::resume_on(d, words_for(area.len()), manager, id)
 }
 
-// Takes a part of a controller's state into the area for it. Refused, in this order: 1, 2, 13 running, 23, 24, 25, 26, 27.
+// Takes a part of a controller's state into the area for it. Refused, in this order: 1, 2 (also an unknown manager), 13 running, 23, 24, 25, 26, 27.
 pub fn set_state(
     d: Device,
     area: &[u8],
     state: &mut [u8],
+    manager: u16,
     id: u16,
     indicator: u8,
     low: u32,
@@ -310,14 +312,15 @@ pub fn set_state(
     data: &[u8],
 ) -> StateSet
     ensures { λ r. ⌜ (r
-        ≡ partChange d (wordsFor (length (now (area .entry)))) (now (state .entry)) id (record { indicator = indicator; low = low; high = high; count = count; bytes = now («data» .entry) }) .answer)
+        ≡ partChange d (wordsFor (length (now (area .entry)))) (now (state .entry)) manager id (record { indicator = indicator; low = low; high = high; count = count; bytes = now («data» .entry) }) .answer)
         × (now (state .exit)
-        ≡ partChange d (wordsFor (length (now (area .entry)))) (now (state .entry)) id (record { indicator = indicator; low = low; high = high; count = count; bytes = now («data» .entry) }) .area) ⌝ }
+        ≡ partChange d (wordsFor (length (now (area .entry)))) (now (state .entry)) manager id (record { indicator = indicator; low = low; high = high; count = count; bytes = now («data» .entry) }) .area) ⌝ }
 {
     controller_state::set_state_on(
         d,
         words_for(area.len()),
         state,
+        manager,
         id,
         indicator,
         low,

@@ -8,6 +8,7 @@ use output::Waiting;
 use rules::Bytes;
 use rules::Device;
 use rules::Range;
+use rules::Second;
 use rules::Settings;
 ghost use Prim.Native.Nat.{_+_, _*_, _≤_};
 ghost use lib.ListN.{length};
@@ -60,21 +61,13 @@ pub fn bit(b: bool) -> u64 {
 
 // A device of which every call answers 1, as before a done `dev`.
 pub fn none(marks: &mut [u64], bytes: &mut [u8]) -> Device {
-    let s = Settings {
-        manager: 0,
-        least: 0,
-        greatest: 0,
-        powers: false,
-        limit: 0,
-        count: 0,
-        identifiers: [0; 8],
-    };
+    let s = settings::no_settings();
     let made = engines::fresh(s, marks, bytes);
     made.device
 }
 
-// Plays a `dev`: refused, it keeps the device there was.
-fn dev(
+// Plays a line that makes a device with these settings: refused, it keeps the device there was.
+pub fn dev(
     d: Device,
     marks: &mut [u64],
     bytes: &mut [u8],
@@ -97,6 +90,7 @@ fn start(
     d: Device,
     marks: &mut [u64],
     bytes: &mut [u8],
+    manager: u16,
     id: u16,
     granularity: u8,
     count: usize,
@@ -108,7 +102,7 @@ fn start(
 {
     let mut data = [0u8; 200];
     start_data::write_start(&mut data, granularity, count as u32, ranges);
-    let started = engines::start(d, marks, bytes, id, &data);
+    let started = engines::start(d, marks, bytes, manager, id, &data);
     let waiting = put_started(out, waiting, started.number, started.row);
     let device = started.device;
     Played { device, waiting }
@@ -119,11 +113,12 @@ fn stop(
     d: Device,
     marks: &mut [u64],
     bytes: &mut [u8],
+    manager: u16,
     id: u16,
     out: &mut Buffer,
     waiting: Waiting,
 ) -> Played {
-    let changed = engines::stop(d, marks, bytes, id);
+    let changed = engines::stop(d, marks, bytes, manager, id);
     let waiting = put_answer(out, waiting, changed.number);
     let device = changed.device;
     Played { device, waiting }
@@ -134,12 +129,13 @@ fn suspend(
     d: Device,
     marks: &[u64],
     bytes: &[u8],
+    manager: u16,
     id: u16,
     kind: u8,
     out: &mut Buffer,
     waiting: Waiting,
 ) -> Played {
-    let changed = engines::suspend(d, marks, bytes, id, kind);
+    let changed = engines::suspend(d, marks, bytes, manager, id, kind);
     let waiting = put_answer(out, waiting, changed.number);
     let device = changed.device;
     Played { device, waiting }
@@ -150,11 +146,12 @@ fn resume(
     d: Device,
     marks: &[u64],
     bytes: &[u8],
+    manager: u16,
     id: u16,
     out: &mut Buffer,
     waiting: Waiting,
 ) -> Played {
-    let changed = engines::resume(d, marks, bytes, id);
+    let changed = engines::resume(d, marks, bytes, manager, id);
     let waiting = put_answer(out, waiting, changed.number);
     let device = changed.device;
     Played { device, waiting }
@@ -237,13 +234,14 @@ fn receive(
     d: Device,
     marks: &mut [u64],
     bytes: &mut [u8],
+    manager: u16,
     id: u16,
     report: &mut [u8],
     shown: bool,
     out: &mut Buffer,
     waiting: Waiting,
 ) -> Waiting {
-    let received = engines::receive(d, marks, bytes, id, report);
+    let received = engines::receive(d, marks, bytes, manager, id, report);
     if received.number != 0 {
         return put_answer(out, waiting, received.number);
     }
@@ -255,6 +253,7 @@ fn receive_into(
     d: Device,
     marks: &mut [u64],
     bytes: &mut [u8],
+    manager: u16,
     id: u16,
     size: usize,
     shown: bool,
@@ -268,6 +267,7 @@ fn receive_into(
         d,
         marks,
         bytes,
+        manager,
         id,
         &mut report[..size],
         shown,
@@ -294,11 +294,12 @@ pub fn changes(call: Call) -> bool {
     }
 }
 
-// Plays a line whose call may change the record.
+// Plays a line whose call, by this manager, may change the record. A `dev` has one manager, and the shelf limit 128 (document 02, W12).
 pub fn change(
     d: Device,
     marks: &mut [u64],
     bytes: &mut [u8],
+    caller: u16,
     line: Line,
     out: &mut Buffer,
     waiting: Waiting,
@@ -322,6 +323,8 @@ pub fn change(
                 greatest,
                 powers,
                 limit,
+                second: Second::Nothing,
+                shelf: 128,
                 count,
                 identifiers,
             };
@@ -337,6 +340,7 @@ pub fn change(
                 d,
                 marks,
                 bytes,
+                caller,
                 id,
                 granularity,
                 count,
@@ -345,18 +349,19 @@ pub fn change(
                 waiting,
             )
         }
-        Call::Stop(id) => stop(d, marks, bytes, id, out, waiting),
-        Call::Susp { id, kind } => suspend(d, marks, bytes, id, kind, out, waiting),
-        Call::Resume(id) => resume(d, marks, bytes, id, out, waiting),
+        Call::Stop(id) => stop(d, marks, bytes, caller, id, out, waiting),
+        Call::Susp { id, kind } => suspend(d, marks, bytes, caller, id, kind, out, waiting),
+        Call::Resume(id) => resume(d, marks, bytes, caller, id, out, waiting),
         _ => Played { device: d, waiting },
     }
 }
 
-// Plays a line whose call leaves the record as it is.
+// Plays a line whose call, by this manager, leaves the record as it is.
 pub fn answer(
     d: Device,
     marks: &mut [u64],
     bytes: &mut [u8],
+    caller: u16,
     call: Call,
     groups: bool,
     out: &mut Buffer,
@@ -370,7 +375,17 @@ pub fn answer(
             address,
             bytes: length,
         } => write(d, marks, bytes, id, address, length, out, waiting),
-        Call::Recv { id, size } => receive_into(d, marks, bytes, id, size, groups, out, waiting),
+        Call::Recv { id, size } => receive_into(
+            d,
+            marks,
+            bytes,
+            caller,
+            id,
+            size,
+            groups,
+            out,
+            waiting,
+        ),
         _ => put_bad(out, waiting),
     }
 }

@@ -81,6 +81,7 @@ fn with_queue(d: Device, i: usize, queue: Queue) -> Device
     let mut e = d;
     e.controllers[i] = Controller {
         tracking,
+        manager: c.manager,
         base: c.base,
         suspended: c.suspended,
         ranges,

@@ -1,4 +1,5 @@
 pub mod ShareLaws
 pub mod QueueLaws
 pub mod WalkLaws
+pub mod LimitLaws
 pub mod RecordLaws

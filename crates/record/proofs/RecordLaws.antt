@@ -8,17 +8,17 @@ use mathlib.Core.List.{List, [], _∷_, _++_, map}
 use mathlib.Core.Option.{Option, none, some}
 use native.Mathlib.Numerals.{add-one}
 use native.Mathlib.Omega.{arith}
-use lib.ListN.{length, getD, take, set, replicate, length-map, length-take, length-append, length-replicate}
+use lib.ListN.{length, getD, take, drop, set, replicate, length-map, length-take, length-append, length-replicate}
 use lib.Seq.{getD-take}
 use lib.Dec.{leb, eqb}
 use borrow.Author.Tests.{eqb-true, eq-eqb, ne-eqb, lt-leb, le-leb, leb-true}
 use Rattle.rules.specs.Lists.{all, sum, isSome}
 use Rattle.rules.specs.Refusals.{Test, _else_, verdict}
-use Rattle.rules.specs.Settings.{markWords, mostUnits, identifiersOf, settingsOk, placeOf, granularityOk}
+use Rattle.rules.specs.Settings.{markWords, mostUnits, identifiersOf, settingsOk, managersOf, isManager, placeOf, granularityOk}
 use Rattle.rules.specs.Units.{units}
 use Rattle.rules.specs.Ranges.{listTests}
 use Rattle.rules.specs.Queue.{queueOk}
-use Rattle.rules.specs.Device.{Held, heldCount, heldUnits, heldIn, heldOf, heldOk, noShare, sharesOk, shareIn, shareOf, sharesOf, freshController, controllersOf, suspendedAt, frontOk, sequenceOk, queuesOk, soundRules, sound, soundDevice}
+use Rattle.rules.specs.Device.{Held, heldCount, heldUnits, heldIn, heldOf, heldOk, noShare, sharesOk, shareIn, shareOf, sharesOf, freshController, controllersOf, suspendedAt, frontOk, sequenceOk, queuesOk, isWithin, soundRules, sound, soundDevice}
 use Rattle.rules.specs.declared.Range.{Range}
 use Rattle.rules.specs.declared.Tracking.{Tracking}
 use Rattle.rules.specs.declared.Tracking.the-variants.{Off, On}
@@ -31,81 +31,62 @@ use Rattle.rules.specs.declared.Settings.{Settings}
 use Rattle.rules.specs.declared.Device.{Device}
 use Rattle.rules.proofs.ListLaws.{every-not, getD-any, all-map, and-left, and-right, and-intro, placeFrom-is}
 use Rattle.rules.proofs.RefusalLaws.{passes-Passed}
-use Rattle.rules.proofs.SoundLaws.{sound-settings, sound-held, sound-limit, sound-units, sound-rest}
+use Rattle.rules.proofs.SoundLaws.{sound-settings, sound-held, sound-shelf, sound-units, sound-rest}
 use Rattle.rules.proofs.HeldLaws.{lie}
-use Rattle.record.specs.Record.{noController, countsOf, unitsOf, weightOf, weightsOf, soundWith, placeAt, whereIs, seenIn, frontOf}
-use Rattle.record.specs.Inner.{keptIn, nothingWalked, walkOf, Countable}
+use Rattle.record.specs.Record.{noController, managedOf, countsOf, unitsOf, weightOf, firstOf, weightsOf, soundWith, placeAt, whereIs, whereBy, seenIn, frontOf}
+use Rattle.record.specs.Inner.{keptIn, nothingWalked, walkOf, withinLimits, Countable}
 use Rattle.settings.specs.Found.{foundAt}
 use Rattle.settings.specs.declared.Found.the-variants as found
 use Rattle.settings.specs.declared.Found.the-variants.{Nothing}
+use Rattle.record.specs.declared.Place.{Place}
 use Rattle.record.specs.declared.Place.the-variants.{At, Refused}
 use Rattle.rules.proofs.LoopLaws.{all-front}
-use Rattle.settings.proofs.SettingsLaws.{settingsOk-count, settingsOk-greatest, settingsOk-limit}
+use Rattle.settings.proofs.SettingsLaws.{settingsOk-count, settingsOk-greatest, settingsOk-shelf}
 use Rattle.ranges.specs.Kept.{keptBy, keptOf}
 use Rattle.ranges.proofs.RangeLaws.{units-some, HeldFacts, listTests-facts}
+use Rattle.record.proofs.LimitLaws.{weights-counts, weights-held, firsts-counts, limits-are, rest-managed, every-both}
 use Rattle.record.proofs.ShareLaws.{Lined-nowhere}
 use Rattle.record.proofs.WalkLaws.{walkFrom-lined}
 
 -- ---- what one controller holds, by its tracking and its ranges
 
-module _ (s : Settings) (t : Tracking) (rs : List Range) where
-  pub keptIn-off : t ≡ Off → keptIn s (heldIn t rs) ≡ keptBy true 0
+module _ (s : Settings) (t : Tracking) (m : ℕ) (rs : List Range) where
+  pub keptIn-off : t ≡ Off → keptIn s (heldIn t m rs) ≡ keptBy true 0
   unfolding heldOk
   keptIn-off e = rw e
 
-  -- one that is on with a granularity that breaks 7, and one whose granularity passes
-  pub keptIn-seven : (g n : ℕ) → t ≡ On g n → granularityOk s g ≡ false → keptIn s (heldIn t rs) ≡ keptBy false 0
+  -- one that is on by a manager that the settings lack, one with a granularity that breaks 7, and one whose manager and granularity pass
+  pub keptIn-stray : (g n : ℕ) → t ≡ On g n → isManager s m ≡ false → keptIn s (heldIn t m rs) ≡ keptBy false 0
   unfolding heldOk
-  keptIn-seven g n e f = rw (e, f)
+  keptIn-stray g n e f = rw (e, f)
 
-  pub keptIn-on : (g n : ℕ) → t ≡ On g n → granularityOk s g ≡ true → keptIn s (heldIn t rs) ≡ keptOf s g n (take n rs)
+  pub keptIn-seven : (g n : ℕ) → t ≡ On g n → isManager s m ≡ true → granularityOk s g ≡ false → keptIn s (heldIn t m rs) ≡ keptBy false 0
   unfolding heldOk
-  keptIn-on g n e f = rw (e, f)
+  keptIn-seven g n e k f = rw (e, k, f)
+
+  pub keptIn-on : (g n : ℕ) → t ≡ On g n → isManager s m ≡ true → granularityOk s g ≡ true → keptIn s (heldIn t m rs) ≡ keptOf s g n (take n rs)
+  unfolding heldOk
+  keptIn-on g n e k f = rw (e, k, f)
 
   -- what one is known by that is on and may hold what it does
-  pub heldOk-facts : (g n : ℕ) → s .greatest ≤ 20 → t ≡ On g n → heldOk s (heldIn t rs) ≡ true → HeldFacts s g n (take n rs)
+  pub heldOk-facts : (g n : ℕ) → s .greatest ≤ 20 → t ≡ On g n → heldOk s (heldIn t m rs) ≡ true → HeldFacts s g n (take n rs)
   unfolding heldOk
   heldOk-facts g n h e f =
-      let p = passes-Passed ((granularityOk s g else 7) ∷ listTests s g n (take n rs)) (rw e at f) in
+      let p = passes-Passed ((granularityOk s g else 7) ∷ listTests s g n (take n rs)) (and-right (isManager s m) _ (rw e at f)) in
       listTests-facts s g n (take n rs) h (p .0) (p .1)
 
 -- its units can be counted
-pub heldOk-countable : (s : Settings) (t : Tracking) (rs : List Range) → s .greatest ≤ 20 → heldOk s (heldIn t rs) ≡ true → Countable (heldIn t rs)
-heldOk-countable s Off rs h e = tt
-heldOk-countable s (On g n) rs h e = let f = heldOk-facts s (On g n) rs g n h refl e in (f .small, f .few, f .rows)
+pub heldOk-countable : (s : Settings) (t : Tracking) (m : ℕ) (rs : List Range) → s .greatest ≤ 20 → heldOk s (heldIn t m rs) ≡ true → Countable (heldIn t m rs)
+heldOk-countable s Off m rs h e = tt
+heldOk-countable s (On g n) m rs h e = let f = heldOk-facts s (On g n) m rs g n h refl e in (f .small, f .few, f .rows)
 
 -- its share, where it is off and where it is on
-module _ (base : ℕ) (t : Tracking) (rs : List Range) where
-  pub shareIn-off : t ≡ Off → shareIn base (heldIn t rs) ≡ noShare
+module _ (base : ℕ) (t : Tracking) (m : ℕ) (rs : List Range) where
+  pub shareIn-off : t ≡ Off → shareIn base (heldIn t m rs) ≡ noShare
   shareIn-off e = rw e
 
-  pub shareIn-on : (g n size : ℕ) → t ≡ On g n → size ≡ length (units g (take n rs)) → shareIn base (heldIn t rs) ≡ record { base = base; size = size }
+  pub shareIn-on : (g n size : ℕ) → t ≡ On g n → size ≡ length (units g (take n rs)) → shareIn base (heldIn t m rs) ≡ record { base = base; size = size }
   shareIn-on g n size e f = rw (e, f)
-
--- ---- the weights
-
--- where each controller holds what it may they are the counts, and else more than every limit
-pub weights-counts : (s : Settings) (cs : List Controller) → all (λ c. heldOk s (heldOf c)) cs ≡ true → sum (map (weightOf s) cs) ≡ sum (map heldCount (map heldOf cs))
-weights-counts s [] e = refl
-weights-counts s (c ∷ cs) e =
-    rw (and-left (heldOk s (heldOf c)) (all (λ c. heldOk s (heldOf c)) cs) e, weights-counts s cs (and-right (heldOk s (heldOf c)) (all (λ c. heldOk s (heldOf c)) cs) e))
-
-pub weights-heavy : (s : Settings) (cs : List Controller) → all (λ c. heldOk s (heldOf c)) cs ≡ false → 65536 ≤ sum (map (weightOf s) cs)
-weights-heavy s [] e = absurd (true≢false e)
-weights-heavy s (c ∷ cs) e = go (heldOk s (heldOf c)) (weights-heavy s cs) e
-  where
-    go : (b : Bool) → (all (λ c. heldOk s (heldOf c)) cs ≡ false → 65536 ≤ sum (map (weightOf s) cs)) → (b && all (λ c. heldOk s (heldOf c)) cs) ≡ false
-        → 65536 ≤ cond b (heldCount (heldOf c)) 65536 + sum (map (weightOf s) cs)
-    go true ih f = omega (arith, ih f)
-    go false ih f = omega arith
-
--- so where they are within a limit each holds what it may
-pub weights-held : (s : Settings) (cs : List Controller) → sum (map (weightOf s) cs) ≤ 128 → all (λ c. heldOk s (heldOf c)) cs ≡ true
-weights-held s cs h = go (all (λ c. heldOk s (heldOf c)) cs) refl
-  where
-    go : (b : Bool) → all (λ c. heldOk s (heldOf c)) cs ≡ b → b ≡ true
-    go true e = refl
-    go false e = absurd (omega (arith, weights-heavy s cs e))
 
 -- ---- W7: the shares of a record
 
@@ -227,42 +208,50 @@ module _ (d : Device) where
   rulesOf =
       soundRules (d .settings) (map heldOf (controllersOf d)) (sequenceOk (d .settings) (controllersOf d) (d .sequence) && (sharesOk (sharesOf d) && queuesOk d))
 
+  -- W12: each manager's counts are within its limit, and all within the shelf's
+  abbrev managers : Bool
+  managers = all (isWithin (d .settings) (map heldOf (controllersOf d))) (managersOf (d .settings))
+
+  abbrev together : Bool
+  together = leb (countsOf d) (d .settings .shelf)
+
   pub soundDevice-settings-not : settingsOk (d .settings) ≡ false → soundDevice d ≡ false
   unfolding sound
   soundDevice-settings-not e = every-not rulesOf 0 e
 
   pub soundDevice-sequence-not : sequenceOk (d .settings) (controllersOf d) (d .sequence) ≡ false → soundDevice d ≡ false
   unfolding sound
-  soundDevice-sequence-not e = every-not rulesOf 4 (rw e)
+  soundDevice-sequence-not e = every-not rulesOf 5 (rw e)
 
   pub soundDevice-queues-not : queuesOk d ≡ false → soundDevice d ≡ false
   unfolding sound
   soundDevice-queues-not e =
       let q = sequenceOk (d .settings) (controllersOf d) (d .sequence) in
-      every-not rulesOf 4 (ap (λ b. q && (sharesOk (sharesOf d) && b)) e ∙ ap (λ b. q && b) (and-false (sharesOk (sharesOf d))) ∙ and-false q)
+      every-not rulesOf 5 (ap (λ b. q && (sharesOk (sharesOf d) && b)) e ∙ ap (λ b. q && b) (and-false (sharesOk (sharesOf d))) ∙ and-false q)
 
   module _ (e : settingsOk (d .settings) ≡ true) where
     -- a controller that may not hold what it does weighs more than every limit
-    pub soundDevice-heavy : d .settings .limit < weightsOf d → soundDevice d ≡ false
+    pub soundDevice-heavy : withinLimits (d .settings) (firstOf d) (weightsOf d) ≡ false → soundDevice d ≡ false
     unfolding sound
     soundDevice-heavy h = go (all (λ c. heldOk (d .settings) (heldOf c)) (controllersOf d)) refl
       where
         go : (b : Bool) → all (λ c. heldOk (d .settings) (heldOf c)) (controllersOf d) ≡ b → soundDevice d ≡ false
-        go true f = every-not rulesOf 2 (lt-leb (countsOf d) (d .settings .limit) (omega (arith, weights-counts (d .settings) (controllersOf d) f)))
+        go true f = every-both (take 2 rulesOf) managers together (drop 4 rulesOf) (sym (limits-are (d .settings) e (controllersOf d) f) ∙ h)
         go false f = every-not rulesOf 1 (all-map (heldOk (d .settings)) heldOf (controllersOf d) ∙ f)
 
-    module _ (l : weightsOf d ≤ d .settings .limit) where
+    module _ (l : withinLimits (d .settings) (firstOf d) (weightsOf d) ≡ true) where
       pub soundDevice-all-held : all (λ c. heldOk (d .settings) (heldOf c)) (controllersOf d) ≡ true
-      soundDevice-all-held = weights-held (d .settings) (controllersOf d) (omega (arith, settingsOk-limit (d .settings) e))
+      soundDevice-all-held =
+          weights-held (d .settings) (controllersOf d) (omega (arith, leb-true (weightsOf d) (d .settings .shelf) (and-left _ _ l), settingsOk-shelf (d .settings) e))
 
-      -- where the weights are within the limit and the sequence and the queues pass, the pool is left
+      -- where the weights are within the limits and the sequence and the queues pass, the pool is left
       pub soundDevice-pool : sequenceOk (d .settings) (controllersOf d) (d .sequence) ≡ true → queuesOk d ≡ true
           → soundDevice d ≡ (leb (unitsOf d) mostUnits && sharesOk (sharesOf d))
       unfolding sound
       soundDevice-pool q z =
           let held = soundDevice-all-held in
-          let few = le-leb (countsOf d) (d .settings .limit) (omega (arith, weights-counts (d .settings) (controllersOf d) held)) in
-          rw (e, all-map (heldOk (d .settings)) heldOf (controllersOf d), held, few, q, z, and-true (sharesOk (sharesOf d)), and-true (sharesOk (sharesOf d)))
+          let few = sym (limits-are (d .settings) e (controllersOf d) held) ∙ l in
+          rw (e, all-map (heldOk (d .settings)) heldOf (controllersOf d), held, and-left managers together few, and-right managers together few, q, z, and-true (sharesOk (sharesOf d)), and-true (sharesOk (sharesOf d)))
 
       -- which is as it may be where the shares lie one behind the other by as many units as they have at most
       pub soundDevice-lined : sequenceOk (d .settings) (controllersOf d) (d .sequence) ≡ true → queuesOk d ≡ true → walkOf d .end ≤ mostUnits → soundDevice d ≡ true
@@ -278,8 +267,8 @@ pub record SoundFacts (d : Device) : Type 0 where
   pub settings : settingsOk (d .settings) ≡ true
   pub count : d .settings .count ≤ 8
   pub greatest : d .settings .greatest ≤ 20
-  pub limit : d .settings .limit ≤ 128
-  pub counts : countsOf d ≤ d .settings .limit
+  pub shelf : d .settings .shelf ≤ 128
+  pub counts : countsOf d ≤ d .settings .shelf
   pub units : unitsOf d ≤ mostUnits
 
 pub soundDevice-facts : (d : Device) → soundDevice d ≡ true → SoundFacts d
@@ -289,8 +278,8 @@ soundDevice-facts d e =
       settings = s;
       count = settingsOk-count (d .settings) s;
       greatest = settingsOk-greatest (d .settings) s;
-      limit = settingsOk-limit (d .settings) s;
-      counts = sound-limit (d .settings) (map heldOf (controllersOf d)) _ e;
+      shelf = settingsOk-shelf (d .settings) s;
+      counts = sound-shelf (d .settings) (map heldOf (controllersOf d)) _ e;
       units = sound-units (d .settings) (map heldOf (controllersOf d)) _ e;
     }
 
@@ -321,6 +310,13 @@ soundDevice-all d e = sym (all-map (heldOk (d .settings)) heldOf (controllersOf 
 pub soundDevice-counts : (d : Device) → soundDevice d ≡ true → weightsOf d ≡ countsOf d
 soundDevice-counts d e = weights-counts (d .settings) (controllersOf d) (soundDevice-all d e)
 
+-- W12: and what the first manager tracks of them, and what it does not, are the counts of each
+pub soundDevice-first : (d : Device) (m : ℕ) → soundDevice d ≡ true → m ≡ d .settings .manager → firstOf d ≡ managedOf d m
+soundDevice-first d m e q = firsts-counts (d .settings) (controllersOf d) (soundDevice-all d e) ∙ ap (managedOf d) (sym q)
+
+pub soundDevice-second : (d : Device) (m : ℕ) → soundDevice d ≡ true → isManager (d .settings) m ≡ true → (m ≡ d .settings .manager → ⊥) → weightsOf d - firstOf d ≡ managedOf d m
+soundDevice-second d m e k f = rest-managed (d .settings) (soundDevice-facts d e .settings) (controllersOf d) (soundDevice-all d e) m k f
+
 -- and a controller of it that is on is known by this
 pub soundDevice-held : (d : Device) (i g n : ℕ) → soundDevice d ≡ true → i < d .settings .count → i < length (d .controllers)
     → (getD (d .controllers) i noController) .tracking ≡ On g n
@@ -328,7 +324,7 @@ pub soundDevice-held : (d : Device) (i g n : ℕ) → soundDevice d ≡ true →
 soundDevice-held d i g n e h k t =
     let s = d .settings in
     let c = getD (d .controllers) i noController in
-    heldOk-facts s (c .tracking) (c .ranges) g n (soundDevice-facts d e .greatest) t
+    heldOk-facts s (c .tracking) (c .manager) (c .ranges) g n (soundDevice-facts d e .greatest) t
     (all-front (λ c. heldOk s (heldOf c)) (d .controllers) (s .count) i noController h k (soundDevice-all d e))
 
 -- ---- W7: its shares
@@ -349,12 +345,12 @@ module _ (d : Device) (e : soundDevice d ≡ true) (i : ℕ) (h : i < d .setting
       (rw (sharesOf-at d i h k, sharesOf-at d j l m, shareIn-some (getD (d .controllers) i noController .base) (heldOf (getD (d .controllers) i noController)) some, shareIn-some (getD (d .controllers) j noController .base) (heldOf (getD (d .controllers) j noController)) other) at (lie (sharesOf d) .0 (soundDevice-shares d e) .apart i j (sharesOf-used d i h k) (sharesOf-used d j l m) z)) some other
 
 -- so those of controllers that are on, which have units
-held-units : (t : Tracking) (rs : List Range) (g n : ℕ) → t ≡ On g n → heldUnits (heldIn t rs) ≡ length (units g (take n rs))
-held-units t rs g n e = rw e
+held-units : (t : Tracking) (m : ℕ) (rs : List Range) (g n : ℕ) → t ≡ On g n → heldUnits (heldIn t m rs) ≡ length (units g (take n rs))
+held-units t m rs g n e = rw e
 
 module _ (d : Device) (i g n : ℕ) (e : soundDevice d ≡ true) (h : i < d .settings .count) (k : i < length (d .controllers)) (t : getD (d .controllers) i noController .tracking ≡ On g n) (there : 1 ≤ length (getD (d .controllers) i noController .ranges)) where
   same : heldUnits (heldOf (getD (d .controllers) i noController)) ≡ length (units g (take n (getD (d .controllers) i noController .ranges)))
-  same = held-units (getD (d .controllers) i noController .tracking) (getD (d .controllers) i noController .ranges) g n t
+  same = held-units (getD (d .controllers) i noController .tracking) (getD (d .controllers) i noController .manager) (getD (d .controllers) i noController .ranges) g n t
 
   pub soundDevice-some : 1 ≤ heldUnits (heldOf (getD (d .controllers) i noController))
   soundDevice-some =
@@ -372,7 +368,7 @@ pub soundDevice-apart : (d : Device) (i g n j f m : ℕ) → soundDevice d ≡ t
     → (getD (d .controllers) i noController .base + length (units g (take n (getD (d .controllers) i noController .ranges))) ≤ getD (d .controllers) j noController .base)
     ⊎ (getD (d .controllers) j noController .base + length (units f (take m (getD (d .controllers) j noController .ranges))) ≤ getD (d .controllers) i noController .base)
 soundDevice-apart d i g n j f m e z h l k p t u x y =
-    rw (held-units (getD (d .controllers) i noController .tracking) (getD (d .controllers) i noController .ranges) g n t, held-units (getD (d .controllers) j noController .tracking) (getD (d .controllers) j noController .ranges) f m u) at
+    rw (held-units (getD (d .controllers) i noController .tracking) (getD (d .controllers) i noController .manager) (getD (d .controllers) i noController .ranges) g n t, held-units (getD (d .controllers) j noController .tracking) (getD (d .controllers) j noController .manager) (getD (d .controllers) j noController .ranges) f m u) at
     (shares-apart d e i h k (soundDevice-some d i g n e h k t x) j l p z (soundDevice-some d j f m e l p u y))
 
 -- ---- where a call finds its controller
@@ -403,7 +399,32 @@ module _ (d : Device) (words id : ℕ) where
       go none e = let z : _≡_ {A = ℕ} 0 1 = cc in absurd (omega arith)
       go (some j) e = let z : j ≡ i = cc in ap At z
 
--- ---- what a call's place says of the first two tests of its table
+placeAt-at : (b : Bool) (p : Option ℕ) (i : ℕ) → cond b (placeAt p) (Refused 1) ≡ At i → (b ≡ true) × (p ≡ some i)
+placeAt-at true (some j) i e = let z : j ≡ i = cc in (refl, ap some z)
+placeAt-at true none i e = let z : _≡_ {A = ℕ} 0 1 = cc in absurd (omega arith)
+placeAt-at false p i e = let z : _≡_ {A = ℕ} 0 1 = cc in absurd (omega arith)
+
+-- by a manager: a refusal stays, and of a place that was found the manager is asked
+module _ (d : Device) (words m id : ℕ) where
+  pub whereBy-refused : (p : Place) (n : ℕ) → p ≡ whereIs d words id → p ≡ Refused n → p ≡ whereBy d words m id
+  unfolding whereIs whereBy
+  whereBy-refused p n e f = go (soundWith d words) (isManager (d .settings) m) (placeOf (d .settings) id) e
+    where
+      go : (b k : Bool) (o : Option ℕ) → p ≡ cond b (placeAt o) (Refused 1) → p ≡ cond b (cond k (placeAt o) (Refused 2)) (Refused 1)
+      go false k o e = e
+      go true true o e = e
+      go true false none e = e
+      go true false (some i) e = let z : _≡_ {A = ℕ} 0 1 = cc in absurd (omega arith)
+
+  pub whereBy-stray : (i : ℕ) → whereIs d words id ≡ At i → isManager (d .settings) m ≡ false → whereBy d words m id ≡ Refused 2
+  unfolding whereIs whereBy
+  whereBy-stray i e k = let w = placeAt-at (soundWith d words) (placeOf (d .settings) id) i e in rw (w .0, k)
+
+  pub whereBy-found : isManager (d .settings) m ≡ true → whereBy d words m id ≡ whereIs d words id
+  unfolding whereIs whereBy
+  whereBy-found k = rw k
+
+-- ---- what a call's place says of the first tests of its table
 
 -- a refusal is the table's, whatever tests follow
 pub whereIs-refused : (d : Device) (words id n : ℕ) → whereIs d words id ≡ Refused n
@@ -417,6 +438,30 @@ whereIs-refused d words id n e ts done refuse = go (soundWith d words) (placeOf 
     go true none e = let z : 2 ≡ n = cc in ap (λ k. refuse k 0) z
     go true (some i) e = let z : _≡_ {A = ℕ} 0 1 = cc in absurd (omega arith)
 
+-- by a manager there is one test more
+pub whereBy-tests : (d : Device) (words m id n : ℕ) → whereBy d words m id ≡ Refused n
+    → {A : Type 0} (ts : List Test) (done : A) (refuse : ℕ → ℕ → A)
+    → verdict (((seenIn d words (placeOf (d .settings) id)) .sound else 1) ∷ (isManager (d .settings) m else 2) ∷ ((seenIn d words (placeOf (d .settings) id)) .known else 2) ∷ ts) done refuse ≡ refuse n 0
+unfolding whereBy
+whereBy-tests d words m id n e ts done refuse = go (soundWith d words) (isManager (d .settings) m) (placeOf (d .settings) id) e
+  where
+    go : (b k : Bool) (p : Option ℕ) → cond b (cond k (placeAt p) (Refused 2)) (Refused 1) ≡ Refused n
+        → verdict ((b else 1) ∷ (k else 2) ∷ (isSome p else 2) ∷ ts) done refuse ≡ refuse n 0
+    go false k p e = let z : 1 ≡ n = cc in ap (λ k. refuse k 0) z
+    go true false p e = let z : 2 ≡ n = cc in ap (λ k. refuse k 0) z
+    go true true none e = let z : 2 ≡ n = cc in ap (λ k. refuse k 0) z
+    go true true (some i) e = let z : _≡_ {A = ℕ} 0 1 = cc in absurd (omega arith)
+
+-- a place that was found by a manager was found, and it is one
+pub whereBy-at : (d : Device) (words m id i : ℕ) → whereBy d words m id ≡ At i → (isManager (d .settings) m ≡ true) × (whereIs d words id ≡ At i)
+unfolding whereBy whereIs
+whereBy-at d words m id i e = go (soundWith d words) (isManager (d .settings) m) (placeOf (d .settings) id) e
+  where
+    go : (b k : Bool) (p : Option ℕ) → cond b (cond k (placeAt p) (Refused 2)) (Refused 1) ≡ At i → (k ≡ true) × (cond b (placeAt p) (Refused 1) ≡ At i)
+    go true true p e = (refl, e)
+    go true false p e = let z : _≡_ {A = ℕ} 0 1 = cc in absurd (omega arith)
+    go false k p e = let z : _≡_ {A = ℕ} 0 1 = cc in absurd (omega arith)
+
 -- what is known where a place was found: the record is sound and the marks have their words, together and each by itself; the identifier stands
 -- there in the settings; the place is one of 8, and in use
 pub record Located (d : Device) (words id i : ℕ) : Type 0 where
@@ -426,11 +471,6 @@ pub record Located (d : Device) (words id i : ℕ) : Type 0 where
   pub place : placeOf (d .settings) id ≡ some i
   pub below : i < 8
   pub used : i < d .settings .count
-
-placeAt-at : (b : Bool) (p : Option ℕ) (i : ℕ) → cond b (placeAt p) (Refused 1) ≡ At i → (b ≡ true) × (p ≡ some i)
-placeAt-at true (some j) i e = let z : j ≡ i = cc in (refl, ap some z)
-placeAt-at true none i e = let z : _≡_ {A = ℕ} 0 1 = cc in absurd (omega arith)
-placeAt-at false p i e = let z : _≡_ {A = ℕ} 0 1 = cc in absurd (omega arith)
 
 pub whereIs-at : (d : Device) (words id i : ℕ) → whereIs d words id ≡ At i → Located d words id i
 unfolding whereIs soundWith placeOf

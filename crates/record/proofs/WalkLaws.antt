@@ -22,7 +22,7 @@ use Rattle.rules.proofs.ListLaws.{and-left, and-right}
 use Rattle.ranges.specs.Kept.{mostOf}
 use Rattle.ranges.specs.declared.Kept.{Kept}
 use Rattle.ranges.proofs.RangeLaws.{units-most}
-use Rattle.record.specs.Record.{noController, weightOf, weightsOf}
+use Rattle.record.specs.Record.{noController, weightOf, firstWeightOf, firstOf, weightsOf}
 use Rattle.record.specs.Inner.{heldMost, keptIn, endAfter, walkedBy, walkFrom, nothingWalked, walkOf}
 use Rattle.record.specs.declared.Walked.{Walked}
 use Rattle.record.proofs.ShareLaws.{Lined, Lined-empty, Lined-more}
@@ -30,15 +30,16 @@ use Rattle.record.proofs.ShareLaws.{Lined, Lined-empty, Lined-more}
 -- ---- how far it has come
 
 -- one controller more, by what it is found to hold
-pub walkedBy-is : (s : Settings) (w : Walked) (c : Controller) (k : Kept) (own end : ℕ) (queues : Bool) → k ≡ keptIn s (heldOf c) → own ≡ cond (k .ok) (heldCount (heldOf c)) 65536
-    → end ≡ endAfter (w .end) (c .base) (k .most .0) → queues ≡ (w .queues && queueOk (c .queue)) → record { weight = w .weight + own; end = end; queues = queues } ≡ walkedBy s w c
+pub walkedBy-is : (s : Settings) (w : Walked) (c : Controller) (k : Kept) (own first end : ℕ) (queues : Bool) → k ≡ keptIn s (heldOf c) → own ≡ cond (k .ok) (heldCount (heldOf c)) 65536
+    → first ≡ cond (eqb (c .manager) (s .manager)) own 0 → end ≡ endAfter (w .end) (c .base) (k .most .0) → queues ≡ (w .queues && queueOk (c .queue)) → record { weight = w .weight + own; first = w .first + first; end = end; queues = queues } ≡ walkedBy s w c
 unfolding walkedBy
-walkedBy-is s w c k own end queues e f g q = rw (f, g, e, q)
+walkedBy-is s w c k own first end queues e f i g q = rw (i, f, g, e, q)
 
 -- a walk over the first k controllers; none of them weighs more than 65,536
 pub record Reached (d : Device) (k : ℕ) (w : Walked) : Type 0 where
   pub walked : w ≡ walkFrom (d .settings) nothingWalked (take k (d .controllers))
   pub light : w .weight ≤ 65536 * k
+  pub part : w .first ≤ w .weight
 
 walkFrom-more : (s : Settings) (w : Walked) (cs : List Controller) (k : ℕ) (c : Controller) → k < length cs
     → walkFrom s w (take (suc k) cs) ≡ walkedBy s (walkFrom s w (take k cs)) (getD cs k c)
@@ -47,20 +48,21 @@ walkFrom-more s w (x ∷ cs) zero c h = refl
 walkFrom-more s w (x ∷ cs) (suc k) c h = walkFrom-more s (walkedBy s w x) cs k c (omega arith)
 
 pub reached-none : (d : Device) → Reached d 0 nothingWalked
-reached-none d = record { walked = refl; light = omega arith }
+reached-none d = record { walked = refl; light = omega arith; part = omega arith }
 
 pub reached-next : (d : Device) (k : ℕ) (w v : Walked) → length (d .controllers) ≡ 8 → k < 8 → Reached d k w
-    → (v ≡ walkedBy (d .settings) w (getD (d .controllers) k noController)) × (v .weight ≤ w .weight + 65536) → Reached d (suc k) v
+    → (v ≡ walkedBy (d .settings) w (getD (d .controllers) k noController)) × (v .weight ≤ w .weight + 65536) × (v .first ≤ v .weight) → Reached d (suc k) v
 reached-next d k w v l h r e =
     record {
       walked =
           e .0 ∙ ap (λ (x : Walked). walkedBy (d .settings) x (getD (d .controllers) k noController)) (r .walked)
           ∙ sym (walkFrom-more (d .settings) nothingWalked (d .controllers) k noController (omega arith));
       light = omega (arith, r .light, e .1);
+      part = e .2;
     }
 
-pub reached-all : (d : Device) (k : ℕ) (w : Walked) → d .settings .count ≡ k → Reached d k w → w ≡ walkOf d
-reached-all d k w e r = r .walked ∙ ap (λ n. walkFrom (d .settings) nothingWalked (take n (d .controllers))) (sym e)
+pub reached-all : (d : Device) (k : ℕ) (w : Walked) → d .settings .count ≡ k → Reached d k w → (w ≡ walkOf d) × (w .first ≤ w .weight)
+reached-all d k w e r = (r .walked ∙ ap (λ n. walkFrom (d .settings) nothingWalked (take n (d .controllers))) (sym e), r .part)
 
 -- ---- its weights
 
@@ -71,6 +73,14 @@ walkFrom-weight s w (c ∷ cs) = omega (arith, walkFrom-weight s (walkedBy s w c
 
 pub walkOf-weight : (d : Device) → walkOf d .weight ≡ weightsOf d
 walkOf-weight d = omega (arith, walkFrom-weight (d .settings) nothingWalked (controllersOf d))
+
+walkFrom-first : (s : Settings) (w : Walked) (cs : List Controller) → walkFrom s w cs .first ≡ w .first + sum (map (firstWeightOf s) cs)
+unfolding walkedBy
+walkFrom-first s w [] = omega arith
+walkFrom-first s w (c ∷ cs) = omega (arith, walkFrom-first s (walkedBy s w c) cs)
+
+pub walkOf-first : (d : Device) → walkOf d .first ≡ firstOf d
+walkOf-first d = omega (arith, walkFrom-first (d .settings) nothingWalked (controllersOf d))
 
 -- ---- its queues
 

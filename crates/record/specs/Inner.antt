@@ -1,10 +1,11 @@
 -- What the inner functions of soundness compute: the walk over the controllers, and what counting units asks. These serve this crate alone.
-use Prim.Native.Nat.{ℕ, _+_, _≤_}
+use Prim.Native.Nat.{ℕ, _+_, _-_, _≤_}
 use mathlib.Core.Path.{_≡_}
-use mathlib.Core.Bool.{true, _&&_, cond}
+use mathlib.Core.Bool.{Bool, true, _&&_, cond}
 use mathlib.Core.List.{List, [], _∷_}
 use mathlib.Core.Option.{Option, none, some}
-use lib.Dec.{ltb, eqb}
+use lib.Dec.{leb, ltb, eqb}
+use Rattle.rules.specs.Settings.{secondLimit}
 use Rattle.rules.specs.Ranges.{rowsOk}
 use Rattle.rules.specs.Queue.{queueOk}
 use Rattle.rules.specs.Device.{Held, heldOk, heldOf, controllersOf}
@@ -13,7 +14,7 @@ use Rattle.rules.specs.declared.Settings.{Settings}
 use Rattle.rules.specs.declared.Device.{Device}
 use Rattle.ranges.specs.Kept.{mostOf, keptBy}
 use Rattle.ranges.specs.declared.Kept.{Kept}
-use Rattle.record.specs.Record.{weightOf}
+use Rattle.record.specs.Record.{weightOf, firstWeightOf}
 use Rattle.record.specs.declared.Walked.{Walked}
 
 -- at least as many as there are different units of what is held
@@ -35,6 +36,7 @@ unfoldable pub walkedBy : Settings → Walked → Controller → Walked
 walkedBy s w c =
     record {
       weight = w .weight + weightOf s c;
+      first = w .first + firstWeightOf s c;
       end = endAfter (w .end) (c .base) (keptIn s (heldOf c) .most .0);
       queues = w .queues && queueOk (c .queue);
     }
@@ -46,11 +48,15 @@ walkFrom s w (c ∷ cs) = walkFrom s (walkedBy s w c) cs
 
 -- before the first
 abbrev pub nothingWalked : Walked
-nothingWalked = record { weight = 0; end = 0; queues = true }
+nothingWalked = record { weight = 0; first = 0; end = 0; queues = true }
 
 -- all controllers in use
 abbrev pub walkOf : Device → Walked
 walkOf d = walkFrom (d .settings) nothingWalked (controllersOf d)
+
+-- whether weights, of which so much is the first manager's, are within the limits of each manager and of the shelf
+abbrev pub withinLimits : Settings → ℕ → ℕ → Bool
+withinLimits s first weight = leb weight (s .shelf) && (leb first (s .limit) && leb (weight - first) (secondLimit (s .second)))
 
 -- what counting the units of what is held asks of it
 abbrev pub Countable : Option Held → Type 0

@@ -7,10 +7,10 @@ use mathlib.Core.Option.{Option, none, some}
 use lib.Dec.{eqb}
 use lib.ListN.{length, take, getD, set, replicate}
 use Rattle.rules.specs.Lists.{sum, isSome}
-use Rattle.rules.specs.Settings.{markWords, placeOf}
+use Rattle.rules.specs.Settings.{markWords, isManager, placeOf}
 use Rattle.rules.specs.ControllerState.{stateMost}
 use Rattle.rules.specs.Order.{Seen, Arriving}
-use Rattle.rules.specs.Device.{heldCount, heldUnits, heldOf, heldOk, controllersOf, soundDevice}
+use Rattle.rules.specs.Device.{heldCount, countsBy, heldUnits, heldOf, heldOk, controllersOf, soundDevice}
 use Rattle.rules.specs.declared.Tracking.{Tracking}
 use Rattle.rules.specs.declared.Tracking.the-variants.{Off, On}
 use Rattle.rules.specs.declared.Sequence.{Sequence}
@@ -35,9 +35,13 @@ placeAt (some i) = place.At i
 unfoldable pub whereIs : Device → ℕ → ℕ → Place
 whereIs d words id = cond (soundWith d words) (placeAt (placeOf (d .settings) id)) (place.Refused 1)
 
+-- the same for a call by a manager (W12)
+unfoldable pub whereBy : Device → ℕ → ℕ → ℕ → Place
+whereBy d words m id = cond (soundWith d words) (cond (isManager (d .settings) m) (placeAt (placeOf (d .settings) id)) (place.Refused 2)) (place.Refused 1)
+
 -- what stands past the end of the controllers, which no rule looks at
 abbrev pub noController : Controller
-noController = record { tracking = Off; base = 0; suspended = false; ranges = []; queue = queue.Nothing }
+noController = record { tracking = Off; manager = 0; base = 0; suspended = false; ranges = []; queue = queue.Nothing }
 
 -- the controller at a place
 abbrev pub controllerAt : Device → Option ℕ → Controller
@@ -52,9 +56,13 @@ withController d i c = record { settings = d .settings; controllers = set (d .co
 abbrev pub withSequence : Device → Sequence → Device
 withSequence d q = record { settings = d .settings; controllers = d .controllers; sequence = q }
 
-abbrev pub isOn : Tracking → Bool
-isOn Off = false
-isOn (On g n) = true
+-- W12: the manager that tracks a controller, if one does
+abbrev pub trackedBy : Tracking → ℕ → Option ℕ
+trackedBy Off m = none
+trackedBy (On g n) m = some m
+
+abbrev pub trackerOf : Controller → Option ℕ
+trackerOf c = trackedBy (c .tracking) (c .manager)
 
 -- W8: how many places a queue has, if there is one, and whether it has stopped
 abbrev pub placesOf : Queue → Option ℕ
@@ -65,7 +73,10 @@ abbrev pub hasStopped : Queue → Bool
 hasStopped queue.Nothing = false
 hasStopped (queue.Is r) = r .stopped
 
--- the counts of all controllers now tracked
+-- the counts of the controllers that a manager tracks (W12), and of all that are tracked
+abbrev pub managedOf : Device → ℕ → ℕ
+managedOf d m = countsBy m (map heldOf (controllersOf d))
+
 abbrev pub countsOf : Device → ℕ
 countsOf d = sum (map heldCount (map heldOf (controllersOf d)))
 
@@ -77,7 +88,14 @@ unitsOf d = sum (map heldUnits (map heldOf (controllersOf d)))
 abbrev pub weightOf : Settings → Controller → ℕ
 weightOf s c = cond (heldOk s (heldOf c)) (heldCount (heldOf c)) 65536
 
--- the weights of all controllers in use
+-- and so much of it as counts for the first manager
+abbrev pub firstWeightOf : Settings → Controller → ℕ
+firstWeightOf s c = cond (eqb (c .manager) (s .manager)) (weightOf s c) 0
+
+-- the weights of all controllers in use, and of those that the first manager tracks
+abbrev pub firstOf : Device → ℕ
+firstOf d = sum (map (firstWeightOf (d .settings)) (controllersOf d))
+
 abbrev pub weightsOf : Device → ℕ
 weightsOf d = sum (map (weightOf (d .settings)) (controllersOf d))
 
@@ -88,9 +106,10 @@ seenIn d words p =
       sound = soundWith d words;
       known = isSome p;
       suspended = controllerAt d p .suspended;
-      tracked = isOn (controllerAt d p .tracking);
+      tracker = trackerOf (controllerAt d p);
       places = placesOf (controllerAt d p .queue);
       stopped = hasStopped (controllerAt d p .queue);
+      managed = managedOf d;
       counts = countsOf d;
       units = unitsOf d;
     }

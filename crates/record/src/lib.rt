@@ -1,5 +1,5 @@
-// Checks of the device record: its soundness, and where a call finds its controller. What is public is the library's interface. sound and locate take
-// any values whatever; the others say what they require. No sum here can wrap.
+// Checks of the device record: its soundness, and where a call finds its controller. What is public is the library's interface. sound, locate and locate_by
+// take any values whatever; the others say what they require. No sum here can wrap.
 
 use ranges::Kept;
 use rules::Controller;
@@ -18,14 +18,14 @@ ghost use mathlib.Core.Path.{_≡_};
 ghost use mathlib.Core.Bool.{true, _&&_, cond};
 ghost use mathlib.Core.List.{map};
 ghost use Prim.Native.Nat.{_+_, _*_, _<_, _≤_};
-ghost use lib.Dec.{leb};
+ghost use lib.Dec.{leb, eqb};
 ghost use lib.ListN.{getD, drop};
 ghost use Rattle.rules.specs.Lists.{all, sum};
-ghost use Rattle.rules.specs.Settings.{mostUnits, settingsOk};
+ghost use Rattle.rules.specs.Settings.{mostUnits, settingsOk, isManager};
 ghost use Rattle.rules.specs.Queue.{ringOk, queueOk};
 ghost use Rattle.rules.specs.Device.{heldOf, heldOk, heldCount, shareOf, sharesOf, isInside, areApart, sharesOk, frontOk, controllersOf, sequenceOk, soundDevice};
-ghost use Rattle.record.specs.Record.{noController, unitsOf, weightsOf, whereIs};
-ghost use Rattle.record.specs.Inner.{keptIn, endAfter, walkedBy, walkOf, Countable};
+ghost use Rattle.record.specs.Record.{noController, managedOf, unitsOf, weightsOf, whereIs, whereBy};
+ghost use Rattle.record.specs.Inner.{keptIn, endAfter, walkedBy, walkOf, withinLimits, Countable};
 
 // Where a call finds its controller, or the refusal's number, 1 or 2.
 pub enum Place {
@@ -33,10 +33,11 @@ pub enum Place {
     Refused(u8),
 }
 
-// How far a walk over the controllers has come: the weights together; where the shares so far end, as long as each begins at or behind the end of those before it;
-// and whether the queues so far are as they may be.
+// How far a walk over the controllers has come: the weights together, and of these those of the controllers that the first manager tracks; where the shares so far
+// end, as long as each begins at or behind the end of those before it; and whether the queues so far are as they may be.
 pub struct Walked {
     pub weight: usize,
+    pub first: usize,
     pub end: u64,
     pub queues: bool,
 }
@@ -52,7 +53,8 @@ fn count_of(c: Controller) -> usize
     }
 }
 
-// Whether a controller is off, or its granularity and ranges pass 7, 18 to 21 and 10; and then how many different units it has at most.
+// Whether a controller is off, or its manager is in the settings and its granularity and ranges pass 7, 18 to 21 and 10; and then how many different units it has at
+// most.
 fn controller_kept(s: Settings, c: Controller) -> Kept
     requires { ⌜ s .greatest ≤ 20 ⌝ }
     ensures { λ r. ⌜ (r ≡ keptIn s (heldOf c)) × (r .most .0 ≤ 16 * 4294967295) ⌝ }
@@ -65,6 +67,12 @@ fn controller_kept(s: Settings, c: Controller) -> Kept
             most: none,
         };
     };
+    if !settings::is_manager(s, c.manager) {
+        return Kept {
+            ok: false,
+            most: none,
+        };
+    }
     if !settings::granularity_ok(s, g) {
         return Kept {
             ok: false,
@@ -83,6 +91,16 @@ fn weight(ok: bool, c: Controller) -> usize
         return 65536;
     }
     count_of(c)
+}
+
+// So much of a controller's weight as counts for the first manager: all of it, or none.
+fn first_of(s: Settings, c: Controller, own: usize) -> usize
+    ensures { λ r. ⌜ (r ≡ cond (eqb (c .manager) (s .manager)) own 0) × (r ≤ own) ⌝ }
+{
+    if c.manager != s.manager {
+        return 0;
+    }
+    own
 }
 
 // Where shares end that lie one behind the other, with one more from its base on. One of no bits is nowhere; one that begins before the end of those so far
@@ -141,16 +159,18 @@ fn queues_after(queues: bool, q: Queue) -> bool
 
 // The walk over the controllers, one more. Its share is taken to have as many bits as it has at most.
 fn walk_on(s: Settings, w: Walked, c: Controller) -> Walked
-    requires { ⌜ (s .greatest ≤ 20) × (w .weight ≤ 458752) ⌝ }
-    ensures { λ r. ⌜ (r ≡ walkedBy s w c) × (r .weight ≤ w .weight + 65536) ⌝ }
+    requires { ⌜ (s .greatest ≤ 20) × (w .weight ≤ 458752) × (w .first ≤ w .weight) ⌝ }
+    ensures { λ r. ⌜ (r ≡ walkedBy s w c) × (r .weight ≤ w .weight + 65536) × (r .first ≤ r .weight) ⌝ }
 {
     let kept = controller_kept(s, c);
     let own = weight(kept.ok, c);
+    let first = first_of(s, c, own);
     let end = end_after(w.end, c.base, kept.most);
     let q = c.queue;
     let queues = queues_after(w.queues, q);
     Walked {
         weight: w.weight + own,
+        first: w.first + first,
         end,
         queues,
     }
@@ -159,7 +179,7 @@ fn walk_on(s: Settings, w: Walked, c: Controller) -> Walked
 // The walk over all controllers in use. A controller is taken by a number that does not vary, as one that does would copy the record.
 fn walk(d: Device) -> Walked
     requires { ⌜ settingsOk (d .settings) ≡ true ⌝ }
-    ensures { λ r. ⌜ r ≡ walkOf d ⌝ }
+    ensures { λ r. ⌜ (r ≡ walkOf d) × (r .first ≤ r .weight) ⌝ }
 {
     let s = d.settings;
     let n = s.count;
@@ -167,6 +187,7 @@ fn walk(d: Device) -> Walked
         s,
         Walked {
             weight: 0,
+            first: 0,
             end: 0,
             queues: true,
         },
@@ -210,6 +231,35 @@ pub fn weights(d: Device) -> usize
 {
     let w = walk(d);
     w.weight
+}
+
+// The counts of all controllers that a manager tracks, together: what the first one does not track, the second does.
+pub fn managed(d: Device, m: u16) -> usize
+    requires { ⌜ (soundDevice d ≡ true) × (isManager (d .settings) m ≡ true) ⌝ }
+    ensures { λ r. ⌜ r ≡ managedOf d m ⌝ }
+{
+    let w = walk(d);
+    let s = d.settings;
+    if m == s.manager {
+        return w.first;
+    }
+    w.weight - w.first
+}
+
+// Whether the counts of each manager, by their weights, are within its limit, and all within the shelf's.
+fn counts_ok(s: Settings, w: Walked) -> bool
+    requires { ⌜ w .first ≤ w .weight ⌝ }
+    ensures { λ r. ⌜ r ≡ withinLimits s (w .first) (w .weight) ⌝ }
+{
+    if w.weight > s.shelf as usize {
+        return false;
+    }
+    if w.first > s.limit as usize {
+        return false;
+    }
+    let second = s.second;
+    let limit = settings::second_limit(second);
+    w.weight - w.first <= limit as usize
 }
 
 // Where the marks of a controller lie: as many bits as it has different units, from its base on; nowhere where it is off.
@@ -376,9 +426,9 @@ fn sequence_ok(d: Device) -> bool
     front_ok(end)
 }
 
-// Whether a record is sound: its settings pass 16, each controller in use is off or holds what it may, their counts are within the limit, their shares lie
-// apart within the pool, and a state that arrives in parts and the queues are as they may be. Unused places are not looked at. Units are counted only where the shares do not
-// already lie one behind the other by as many as they have at most.
+// Whether a record is sound: its settings pass 16, each controller in use is off or holds what it may, the counts of each manager are within its limit and all within
+// the shelf's, their shares lie apart within the pool, and a state that arrives in parts and the queues are as they may be. Unused places are not looked at. Units are
+// counted only where the shares do not already lie one behind the other by as many as they have at most.
 pub fn sound(d: Device) -> bool
     ensures { λ r. ⌜ r ≡ soundDevice d ⌝ }
 {
@@ -390,7 +440,7 @@ pub fn sound(d: Device) -> bool
         return false;
     }
     let w = walk(d);
-    if w.weight > s.limit as usize {
+    if !counts_ok(s, w) {
         return false;
     }
     if !w.queues {
@@ -417,4 +467,18 @@ pub fn locate(d: Device, words: usize, id: u16) -> Place
         return Place::Refused(2);
     };
     Place::At(i)
+}
+
+// The same for a call by a manager: 2 also where that manager is not in the settings.
+pub fn locate_by(d: Device, words: usize, m: u16, id: u16) -> Place
+    ensures { λ r. ⌜ r ≡ whereBy d words m id ⌝ }
+{
+    let place = locate(d, words, id);
+    let Place::At(i) = place else {
+        return place;
+    };
+    if !settings::is_manager(d.settings, m) {
+        return Place::Refused(2);
+    }
+    place
 }

@@ -1,14 +1,14 @@
 // The records program: reads cases from standard input to its end, and answers each on standard output. A case is a device record of any kind, sound
 // or not, with lent marks, lent bytes and one call. The calls are those of `engines`, for either engine; here stand only the bytes of a case and of its answer, little-endian.
 //
-// A case has 3056 bytes: the record (1732 bytes: settings, from 31 on 8 controllers of 212 bytes, from 1727 on the sequence), how many mark words are lent (2)
-// and their mark (8), the call (1, at 1742), its identifier (2), address (8), length in bytes (8) and type (1), how many bytes are lent (2),
-// these (1024; those past them are zeros), how many records a batch has (2), a part's indicator (1), low and high (4 each) and count (4), how many bytes of
+// A case has 3056 bytes: the record (1755 bytes: settings, from 38 on 8 controllers of 214 bytes, from 1750 on the sequence), how many mark words are lent (2)
+// and their mark (8), the call (1, at 1765), which manager makes it (2), its identifier (2), address (8), length in bytes (8) and type (1), how many bytes are
+// lent (2), these (1024; those past them are zeros), how many records a batch has (2), a part's indicator (1), low and high (4 each) and count (4), how many bytes of
 // area are lent (2), what is in those past the first 64 (1), these 64, how many entries a take asks for (4), from which byte on an area is shown (2), whether the
-// engine is the plain one (1, at 2876), how many bytes are lent to that in place of mark words (2) and what pending ones hold (1), zeros.
-// An answer has 11108: the number (1), a start's row (1), the count of a write or a batch (8), a receive's suspended, more and granularity (1 each) and runs (8),
+// engine is the plain one (1, at 2901), how many bytes are lent to that in place of mark words (2) and what pending ones hold (1), zeros.
+// An answer has 11131: the number (1), a start's row (1), the count of a write or a batch (8), a receive's suspended, more and granularity (1 each) and runs (8),
 // how many notes a batch did (8) and what cut it (1), how many bytes a part yields (8), whether a post has stopped its queue (1), how many entries a take took
-// (8) and whether the closing one (1), how many groups a receive examined (8), then the record (1732), 512 mark words (of the plain engine a bit for each byte, set where it is pending), 1024 lent bytes
+// (8) and whether the closing one (1), how many groups a receive examined (8), then the record (1755), 512 mark words (of the plain engine a bit for each byte, set where it is pending), 1024 lent bytes
 // and 4200 bytes of area as they are after the call, with zeros past the lent ones.
 
 use calls::Changed;
@@ -23,6 +23,7 @@ use rules::Device;
 use rules::Queue;
 use rules::Range;
 use rules::Ring;
+use rules::Second;
 use rules::Sequence;
 use rules::Settings;
 use rules::Tracking;
@@ -159,10 +160,12 @@ fn read_controller(case: &[u8], at: usize) -> Controller
     let tracking = read_tracking(case, at);
     let suspended = flag_at(case, at + 3);
     let base = short_at(case, at + 4);
-    let queue = read_queue(case, at + 6);
-    let ranges = read_ranges(case, at + 20);
+    let manager = short_at(case, at + 6);
+    let queue = read_queue(case, at + 8);
+    let ranges = read_ranges(case, at + 22);
     Controller {
         tracking,
+        manager,
         base,
         suspended,
         ranges,
@@ -172,11 +175,11 @@ fn read_controller(case: &[u8], at: usize) -> Controller
 
 // The controllers.
 fn read_controllers(case: &[u8]) -> [Controller; 8] {
-    let first = read_controller(case, 31);
+    let first = read_controller(case, 38);
     let mut controllers = [first; 8];
     let mut i: usize = 1;
     while i < 8 {
-        controllers[i] = read_controller(case, 31 + 212 * i);
+        controllers[i] = read_controller(case, 38 + 214 * i);
         i = i + 1;
     }
     controllers
@@ -187,10 +190,20 @@ fn read_identifiers(case: &[u8]) -> [u16; 8] {
     let mut identifiers = [0u16; 8];
     let mut i: usize = 0;
     while i < 8 {
-        identifiers[i] = short_at(case, 15 + 2 * i);
+        identifiers[i] = short_at(case, 22 + 2 * i);
         i = i + 1;
     }
     identifiers
+}
+
+// The second manager.
+fn read_second(case: &[u8]) -> Second {
+    if byte_at(case, 7) == 0 {
+        return Second::Nothing;
+    }
+    let id = short_at(case, 8);
+    let limit = short_at(case, 10);
+    Second::Is(id, limit)
 }
 
 // The settings.
@@ -200,7 +213,9 @@ fn read_settings(case: &[u8]) -> Settings {
     let greatest = byte_at(case, 3);
     let powers = flag_at(case, 4);
     let limit = short_at(case, 5);
-    let count = long_at(case, 7) as usize;
+    let second = read_second(case);
+    let shelf = short_at(case, 12);
+    let count = long_at(case, 14) as usize;
     let identifiers = read_identifiers(case);
     Settings {
         manager,
@@ -208,6 +223,8 @@ fn read_settings(case: &[u8]) -> Settings {
         greatest,
         powers,
         limit,
+        second,
+        shelf,
         count,
         identifiers,
     }
@@ -215,11 +232,11 @@ fn read_settings(case: &[u8]) -> Settings {
 
 // The sequence.
 fn read_sequence(case: &[u8]) -> Sequence {
-    if byte_at(case, 1727) == 0 {
+    if byte_at(case, 1750) == 0 {
         return Sequence::Nothing;
     }
-    let owner = short_at(case, 1728);
-    let end = short_at(case, 1730);
+    let owner = short_at(case, 1751);
+    let end = short_at(case, 1753);
     Sequence::Open(owner, end)
 }
 
@@ -315,8 +332,9 @@ fn put_controller(out: &mut Buffer, waiting: Waiting, c: Controller) -> Waiting 
     let a = put_tracking(out, waiting, t);
     let b = put_flag(out, a, c.suspended);
     let e = put_number(out, b, 2, c.base as u64);
-    let f = put_queue(out, e, queue);
-    put_ranges(out, f, ranges)
+    let f = put_number(out, e, 2, c.manager as u64);
+    let g = put_queue(out, f, queue);
+    put_ranges(out, g, ranges)
 }
 
 // Puts the controllers.
@@ -341,16 +359,31 @@ fn put_identifiers(out: &mut Buffer, waiting: Waiting, identifiers: [u16; 8]) ->
     waiting
 }
 
+// Puts a second manager.
+fn put_second(out: &mut Buffer, waiting: Waiting, s: Second) -> Waiting {
+    match s {
+        Second::Nothing => put_number(out, waiting, 5, 0),
+        Second::Is(id, limit) => {
+            let a = output::put_byte(out, waiting, 1);
+            let b = put_number(out, a, 2, id as u64);
+            put_number(out, b, 2, limit as u64)
+        }
+    }
+}
+
 // Puts the settings.
 fn put_settings(out: &mut Buffer, waiting: Waiting, s: Settings) -> Waiting {
+    let second = s.second;
     let identifiers = s.identifiers;
     let a = put_number(out, waiting, 2, s.manager as u64);
     let b = output::put_byte(out, a, s.least);
     let c = output::put_byte(out, b, s.greatest);
     let e = put_flag(out, c, s.powers);
     let f = put_number(out, e, 2, s.limit as u64);
-    let g = put_number(out, f, 8, s.count as u64);
-    put_identifiers(out, g, identifiers)
+    let g = put_second(out, f, second);
+    let h = put_number(out, g, 2, s.shelf as u64);
+    let i = put_number(out, h, 8, s.count as u64);
+    put_identifiers(out, i, identifiers)
 }
 
 // Puts a sequence.
@@ -466,8 +499,9 @@ fn fresh(case: &[u8], marks: &mut [u64], bytes: &mut [u8]) -> Answer {
 // Plays a start.
 fn start(case: &[u8], marks: &mut [u64], bytes: &mut [u8], lent: &[u8]) -> Answer {
     let d = read_device(case);
-    let id = short_at(case, 1743);
-    let started = engines::start(d, marks, bytes, id, lent);
+    let by = short_at(case, 1766);
+    let id = short_at(case, 1768);
+    let started = engines::start(d, marks, bytes, by, id, lent);
     let device = started.device;
     let mut answer = answer_of(started.number, device);
     answer.row = started.row;
@@ -477,16 +511,17 @@ fn start(case: &[u8], marks: &mut [u64], bytes: &mut [u8], lent: &[u8]) -> Answe
 // Plays a stop.
 fn stop(case: &[u8], marks: &mut [u64], bytes: &mut [u8]) -> Answer {
     let d = read_device(case);
-    let id = short_at(case, 1743);
-    changed(engines::stop(d, marks, bytes, id))
+    let by = short_at(case, 1766);
+    let id = short_at(case, 1768);
+    changed(engines::stop(d, marks, bytes, by, id))
 }
 
 // Plays a write: the record stays as given.
 fn write(case: &[u8], marks: &mut [u64], bytes: &mut [u8]) -> Answer {
     let device = read_device(case);
-    let id = short_at(case, 1743);
-    let at = long_at(case, 1745);
-    let length = long_at(case, 1753);
+    let id = short_at(case, 1768);
+    let at = long_at(case, 1770);
+    let length = long_at(case, 1778);
     let written = engines::write(device, marks, bytes, id, at, Bytes(length));
     let mut answer = answer_of(written.number, device);
     answer.count = written.count;
@@ -496,8 +531,9 @@ fn write(case: &[u8], marks: &mut [u64], bytes: &mut [u8]) -> Answer {
 // Plays a receive: the record stays as given.
 fn receive(case: &[u8], marks: &mut [u64], bytes: &mut [u8], lent: &mut [u8]) -> Answer {
     let device = read_device(case);
-    let id = short_at(case, 1743);
-    let received = engines::receive(device, marks, bytes, id, lent);
+    let by = short_at(case, 1766);
+    let id = short_at(case, 1768);
+    let received = engines::receive(device, marks, bytes, by, id, lent);
     let mut answer = answer_of(received.number, device);
     answer.received = received;
     answer
@@ -506,16 +542,18 @@ fn receive(case: &[u8], marks: &mut [u64], bytes: &mut [u8], lent: &mut [u8]) ->
 // Plays a suspend.
 fn suspend(case: &[u8], marks: &[u64], bytes: &[u8]) -> Answer {
     let d = read_device(case);
-    let id = short_at(case, 1743);
-    let kind = byte_at(case, 1761);
-    changed(engines::suspend(d, marks, bytes, id, kind))
+    let by = short_at(case, 1766);
+    let id = short_at(case, 1768);
+    let kind = byte_at(case, 1786);
+    changed(engines::suspend(d, marks, bytes, by, id, kind))
 }
 
 // Plays a resume.
 fn resume(case: &[u8], marks: &[u64], bytes: &[u8]) -> Answer {
     let d = read_device(case);
-    let id = short_at(case, 1743);
-    changed(engines::resume(d, marks, bytes, id))
+    let by = short_at(case, 1766);
+    let id = short_at(case, 1768);
+    changed(engines::resume(d, marks, bytes, by, id))
 }
 
 // ---- a batch: its records are rows of the lent bytes, again and again
@@ -561,7 +599,7 @@ fn read_records(rows: &[u8]) -> [WriteRecord; 1025] {
 // Plays a batch: the record stays as given.
 fn batch(case: &[u8], marks: &mut [u64], bytes: &mut [u8], lent: &[u8]) -> Answer {
     let device = read_device(case);
-    let n = lent_at(case, 2788, 1025);
+    let n = lent_at(case, 2813, 1025);
     let records = read_records(lent);
     let batched = engines::batch_of(device, marks, bytes, records, n);
     let mut answer = answer_of(batched.number, device);
@@ -574,12 +612,25 @@ fn batch(case: &[u8], marks: &mut [u64], bytes: &mut [u8], lent: &[u8]) -> Answe
 // Plays a part.
 fn part(case: &[u8], marks: &[u64], bytes: &[u8], lent: &[u8], area: &mut [u8]) -> Answer {
     let d = read_device(case);
-    let id = short_at(case, 1743);
-    let indicator = byte_at(case, 2790);
-    let low = word_at(case, 2791);
-    let high = word_at(case, 2795);
-    let count = word_at(case, 2799);
-    let set = engines::set_state(d, marks, bytes, area, id, indicator, low, high, count, lent);
+    let by = short_at(case, 1766);
+    let id = short_at(case, 1768);
+    let indicator = byte_at(case, 2815);
+    let low = word_at(case, 2816);
+    let high = word_at(case, 2820);
+    let count = word_at(case, 2824);
+    let set = engines::set_state(
+        d,
+        marks,
+        bytes,
+        area,
+        by,
+        id,
+        indicator,
+        low,
+        high,
+        count,
+        lent,
+    );
     let device = set.device;
     let mut answer = answer_of(set.number, device);
     answer.whole = set.whole;
@@ -591,14 +642,14 @@ fn part(case: &[u8], marks: &[u64], bytes: &[u8], lent: &[u8], area: &mut [u8]) 
 // Makes a queue.
 fn make(case: &[u8], marks: &[u64], bytes: &[u8], area: &[u8]) -> Answer {
     let d = read_device(case);
-    let id = short_at(case, 1743);
+    let id = short_at(case, 1768);
     changed(engines::make_queue(d, marks, bytes, id, area))
 }
 
 // Plays a post.
 fn post(case: &[u8], marks: &[u64], bytes: &[u8], lent: &[u8], area: &mut [u8]) -> Answer {
     let d = read_device(case);
-    let id = short_at(case, 1743);
+    let id = short_at(case, 1768);
     let posted = engines::post(d, marks, bytes, area, id, lent);
     let device = posted.device;
     let mut answer = answer_of(posted.number, device);
@@ -609,8 +660,8 @@ fn post(case: &[u8], marks: &[u64], bytes: &[u8], lent: &[u8], area: &mut [u8]) 
 // Plays a take.
 fn take(case: &[u8], marks: &[u64], bytes: &[u8], lent: &mut [u8], area: &[u8]) -> Answer {
     let d = read_device(case);
-    let id = short_at(case, 1743);
-    let asked = word_at(case, 2870);
+    let id = short_at(case, 1768);
+    let asked = word_at(case, 2895);
     let taken = engines::take(d, marks, bytes, area, id, asked, lent);
     let device = taken.device;
     let mut answer = answer_of(taken.number, device);
@@ -627,7 +678,7 @@ fn call(
     lent: &mut [u8],
     area: &mut [u8],
 ) -> Answer {
-    match byte_at(case, 1742) {
+    match byte_at(case, 1765) {
         0 => fresh(case, marks, bytes),
         1 => start(case, marks, bytes, lent),
         2 => stop(case, marks, bytes),
@@ -645,7 +696,7 @@ fn call(
 
 // Whether a case's call is one to a queue.
 fn to_queue(case: &[u8]) -> bool {
-    byte_at(case, 1742) > 8
+    byte_at(case, 1765) > 8
 }
 
 // ---- what is lent
@@ -667,11 +718,11 @@ fn fill_marks(marks: &mut [u64], mark: u64) {
 
 // What the plain engine's byte `i` holds: 0 where the mark's bit is clear, else one of the other 255 values, each byte another than those near it.
 fn plain_byte(case: &[u8], i: usize) -> u8 {
-    let word = mark_word(long_at(case, 1734), i / 64);
+    let word = mark_word(long_at(case, 1757), i / 64);
     if (word >> (i % 64)) % 2 == 0 {
         return 0;
     }
-    let value = byte_at(case, 2879) as usize;
+    let value = byte_at(case, 2904) as usize;
     ((value + i % 255) % 255 + 1) as u8
 }
 
@@ -687,7 +738,7 @@ fn fill_bytes(case: &[u8], bytes: &mut [u8]) {
 // A lent byte: those past the ones that a case has room for are zeros.
 fn lent_byte(case: &[u8], i: usize) -> u8 {
     if i < 1024 {
-        return byte_at(case, 1764 + i);
+        return byte_at(case, 1789 + i);
     }
     0
 }
@@ -703,7 +754,7 @@ fn fill_lent(case: &[u8], lent: &mut [u8]) {
 
 // A byte of an area past its first ones: a state's are all the same, and a queue's go up by one from place to place.
 fn later_byte(case: &[u8], i: usize) -> u8 {
-    let fill = byte_at(case, 2805);
+    let fill = byte_at(case, 2830);
     if to_queue(case) {
         let place = ((i / 32) % 256) as u8;
         return std::num::wrapping_add_u8(fill, place);
@@ -714,7 +765,7 @@ fn later_byte(case: &[u8], i: usize) -> u8 {
 // A byte of an area: the first ones are told one by one.
 fn area_byte(case: &[u8], i: usize) -> u8 {
     if i < 64 {
-        return byte_at(case, 2806 + i);
+        return byte_at(case, 2831 + i);
     }
     later_byte(case, i)
 }
@@ -730,7 +781,7 @@ fn fill_area(case: &[u8], area: &mut [u8]) {
 
 // Whether a case is for the plain engine.
 fn is_plain(case: &[u8]) -> bool {
-    flag_at(case, 2876)
+    flag_at(case, 2901)
 }
 
 // How many mark words a case lends: none where it is for the plain engine.
@@ -740,7 +791,7 @@ fn words_lent(case: &[u8], most: usize) -> usize
     if is_plain(case) {
         return 0;
     }
-    lent_at(case, 1732, most)
+    lent_at(case, 1755, most)
 }
 
 // How many bytes a case lends in their place.
@@ -748,14 +799,14 @@ fn bytes_lent(case: &[u8], most: usize) -> usize
     ensures { λ r. ⌜ r ≤ most ⌝ }
 {
     if is_plain(case) {
-        return lent_at(case, 2877, most);
+        return lent_at(case, 2902, most);
     }
     0
 }
 
 // Fills what a case lends.
 fn fill(case: &[u8], marks: &mut [u64], bytes: &mut [u8], lent: &mut [u8], area: &mut [u8]) {
-    let mark = long_at(case, 1734);
+    let mark = long_at(case, 1757);
     fill_marks(marks, mark);
     fill_bytes(case, bytes);
     fill_lent(case, lent);
@@ -784,8 +835,8 @@ fn play_in(
 ) -> Answer {
     let words = words_lent(case, marks.len());
     let units = bytes_lent(case, bytes.len());
-    let size = lent_at(case, 1762, lent.len());
-    let long = lent_at(case, 2803, area.len());
+    let size = lent_at(case, 1787, lent.len());
+    let long = lent_at(case, 2828, area.len());
     lend(
         case,
         &mut marks[..words],
@@ -800,7 +851,7 @@ fn shown_from(case: &[u8]) -> usize
     ensures { λ r. ⌜ r ≤ 65535 ⌝ }
 {
     if to_queue(case) {
-        return short_at(case, 2874) as usize;
+        return short_at(case, 2899) as usize;
     }
     0
 }
@@ -867,7 +918,7 @@ fn put_marks(
 
 // Whether an answer shows the plain engine's bytes: it does where its call has no other area.
 fn shows_bytes(case: &[u8]) -> bool {
-    if byte_at(case, 1742) < 8 {
+    if byte_at(case, 1765) < 8 {
         return is_plain(case);
     }
     false
@@ -876,7 +927,7 @@ fn shows_bytes(case: &[u8]) -> bool {
 // Puts what an answer shows of an area.
 fn put_area(case: &[u8], bytes: &[u8], area: &[u8], out: &mut Buffer, waiting: Waiting) -> Waiting {
     if shows_bytes(case) {
-        return put_shown(out, waiting, bytes, short_at(case, 2874) as usize, 4200);
+        return put_shown(out, waiting, bytes, short_at(case, 2899) as usize, 4200);
     }
     put_shown(out, waiting, area, shown_from(case), 4200)
 }

@@ -9,8 +9,8 @@ use native.Mathlib.Omega.{arith}
 use lib.Dec.{leb, eqb}
 use lib.ListN.{length, getD}
 use borrow.Author.Tests.{leb-true, le-leb, eqb-true, eqb-false}
-use Rattle.rules.specs.Refusals.{Test, _else_}
-use Rattle.rules.specs.Settings.{mostUnits, granularityOk}
+use Rattle.rules.specs.Refusals.{Test, _else_, passes}
+use Rattle.rules.specs.Settings.{mostUnits, isManager, granularityOk}
 use Rattle.rules.specs.Ranges.{rowOk, rowsOk, rowsTests, rangeTests, listTests, powersOk}
 use Rattle.rules.specs.StartData.{noRange}
 use Rattle.rules.specs.Device.{heldOk, noShare, isInside, areApart, sharesOk}
@@ -28,26 +28,30 @@ rows-all g (r ∷ rs) h = and-intro (rowOk g r) (rowsOk g rs) (good-row g r (h 0
 
 pub held : Held
 unfolding heldOk rangeTests granularityOk
-held s g n rs = (forward, back)
+held s m g n rs = (forward, back)
   where
     others : List Test
     others = (powersOk s rs else 10) ∷ []
 
-    forward : heldOk s (some (record { granularity = g; count = n; ranges = rs })) ≡ true → Lawful s g n rs
+    forward : heldOk s (some (record { manager = m; granularity = g; count = n; ranges = rs })) ≡ true → (isManager s m ≡ true) × Lawful s g n rs
     forward e =
-        let p = passes-Passed ((granularityOk s g else 7) ∷ listTests s g n rs) e in
+        let tests = (granularityOk s g else 7) ∷ listTests s g n rs in
+        let p = passes-Passed tests (and-right (isManager s m) (passes tests) e) in
         let l = Passed-left (rangeTests g n rs) others (p .1) in
-        let r = Passed-right (rangeTests g n rs) others (p .1) in
-        record {
-          granularity = (leb-true (s .least) g (and-left (leb (s .least) g) (leb g (s .greatest)) (p .0)), leb-true g (s .greatest) (and-right (leb (s .least) g) (leb g (s .greatest)) (p .0)));
-          count = (leb-true 1 n (l .0), leb-true n 16 (l .1 .0));
-          rows = λ j h. rowsOk-at g rs j (sym (rowsTests-passes g 0 rs) ∙ passes-all (rowsTests g 0 rs) (l .1 .1)) h;
-          powers = r .0;
-        }
+        let r = Passed-right (rangeTests g n rs) others (p .1) in (
+          and-left (isManager s m) (passes tests) e,
+          record {
+            granularity = (leb-true (s .least) g (and-left (leb (s .least) g) (leb g (s .greatest)) (p .0)), leb-true g (s .greatest) (and-right (leb (s .least) g) (leb g (s .greatest)) (p .0)));
+            count = (leb-true 1 n (l .0), leb-true n 16 (l .1 .0));
+            rows = λ j h. rowsOk-at g rs j (sym (rowsTests-passes g 0 rs) ∙ passes-all (rowsTests g 0 rs) (l .1 .1)) h;
+            powers = r .0;
+          },
+        )
 
-    back : Lawful s g n rs → heldOk s (some (record { granularity = g; count = n; ranges = rs })) ≡ true
-    back l =
-        rw (le-leb (s .least) g (l .granularity .0), le-leb g (s .greatest) (l .granularity .1), passes-append (rangeTests g n rs) others, le-leb 1 n (l .count .0), le-leb n 16 (l .count .1), rowsTests-passes g 0 rs, rows-all g rs (l .rows), l .powers)
+    back : (isManager s m ≡ true) × Lawful s g n rs → heldOk s (some (record { manager = m; granularity = g; count = n; ranges = rs })) ≡ true
+    back q =
+        let l = q .1 in
+        rw (q .0, le-leb (s .least) g (l .granularity .0), le-leb g (s .greatest) (l .granularity .1), passes-append (rangeTests g n rs) others, le-leb 1 n (l .count .0), le-leb n 16 (l .count .1), rowsTests-passes g 0 rs, rows-all g rs (l .rows), l .powers)
 
 -- ---- shares
 

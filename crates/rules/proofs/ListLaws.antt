@@ -201,6 +201,17 @@ pub all-from : {A : Type 0} (f : A → Bool) (xs : List A) (d : A) → ((i : ℕ
 all-from f [] d h = refl
 all-from f (x ∷ xs) d h = and-intro (f x) (all f xs) (h 0 (omega arith)) (all-from f xs d (λ i l. h (suc i) (omega arith)))
 
+-- of each member, and from that
+pub all-member : (f : ℕ → Bool) (xs : List ℕ) (x : ℕ) → all f xs ≡ true → member x xs ≡ true → f x ≡ true
+all-member f [] x e h = absurd (true≢false (sym h))
+all-member f (y ∷ ys) x e h =
+    or-cases (eqb y x) (member x ys) (f x ≡ true) h (λ q. ap f (sym (eqb-true y x q)) ∙ and-left (f y) (all f ys) e) (λ k. all-member f ys x (and-right (f y) (all f ys) e) k)
+
+pub all-members : (f : ℕ → Bool) (xs : List ℕ) → ((x : ℕ) → member x xs ≡ true → f x ≡ true) → all f xs ≡ true
+all-members f [] h = refl
+all-members f (y ∷ ys) h =
+    and-intro (f y) (all f ys) (h y (or-intro-left (eqb y y) (member y ys) (eq-eqb y y refl))) (all-members f ys (λ x k. h x (or-intro-right (eqb y x) (member x ys) k)))
+
 pub all-map : {A B : Type 0} (f : B → Bool) (g : A → B) (xs : List A) → all f (map g xs) ≡ all (λ x. f (g x)) xs
 all-map f g [] = refl
 all-map f g (x ∷ xs) = ap (λ b. f (g x) && b) (all-map f g xs)

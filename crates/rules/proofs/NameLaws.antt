@@ -18,9 +18,9 @@ use Rattle.rules.proofs.RefusalLaws.{verdict-both, verdict-front, verdi
 use Rattle.rules.proofs.RowLaws.{rows-broken, rows-good}
 use Rattle.rules.proofs.StartLaws.{rangesOf-length}
 
-module _ (s : Settings) (v : Seen) (x : List ℕ) where
+module _ (s : Settings) (m : ℕ) (v : Seen) (x : List ℕ) where
   abbrev tests : List Test
-  tests = startOrder s v x
+  tests = startOrder s m v x
 
   abbrev g : ℕ
   g = granularityOf x
@@ -31,35 +31,35 @@ module _ (s : Settings) (v : Seen) (x : List ℕ) where
   abbrev rs : List Range
   rs = rangesOf x
 
-  -- the rules behind those of the rows: 10, 11 and 12
+  -- the rules behind those of the rows: 10, 11, 12 and 34
   abbrev others : List Test
-  others = (powersOk s rs else 10) ∷ startShared s (v .counts) (v .units) x
+  others = (powersOk s rs else 10) ∷ startShared s m (v .units) (v .managed m) (v .counts) x
 
   size : length rs ≡ n
   size = rangesOf-length x
 
   -- where a test before the rules of ranges is not passed, no row is named
-  pub early : passes (take 8 tests) ≡ false → Rowless (refusal tests) (placeIn tests)
+  pub early : passes (take 9 tests) ≡ false → Rowless (refusal tests) (placeIn tests)
   early e =
       let none : (k : ℕ) → k < 18 → Rowless k 0 = λ k h. (inl h, refl) in
-      verdict-front Rowless (take 8 tests) (listTests s g n rs ++ startShared s (v .counts) (v .units) x) 0 0 (λ k i. k) (λ k i. i) (
+      verdict-front Rowless (take 9 tests) (listTests s g n rs ++ startShared s m (v .units) (v .managed m) (v .counts) x) 0 0 (λ k i. k) (λ k i. i) (
         none 1 (omega arith),
         (
           none 2 (omega arith),
-          (none 4 (omega arith), (none 3 (omega arith), (none 8 (omega arith), (none 6 (omega arith), (none 7 (omega arith), (none 8 (omega arith), tt)))))),
+          (none 2 (omega arith), (none 4 (omega arith), (none 3 (omega arith), (none 8 (omega arith), (none 6 (omega arith), (none 7 (omega arith), (none 8 (omega arith), tt))))))),
         ),
       )
       e
 
-  module _ (e : passes (take 8 tests) ≡ true) where
+  module _ (e : passes (take 9 tests) ≡ true) where
     -- else the rules of ranges answer
-    past-first : {A : Type 0} (done : A) (refuse : ℕ → ℕ → A) → verdict tests done refuse ≡ verdict (listTests s g n rs ++ startShared s (v .counts) (v .units) x) done refuse
-    past-first done refuse = verdict-rest (take 8 tests) (listTests s g n rs ++ startShared s (v .counts) (v .units) x) done refuse e
+    past-first : {A : Type 0} (done : A) (refuse : ℕ → ℕ → A) → verdict tests done refuse ≡ verdict (listTests s g n rs ++ startShared s m (v .units) (v .managed m) (v .counts) x) done refuse
+    past-first done refuse = verdict-rest (take 9 tests) (listTests s g n rs ++ startShared s m (v .units) (v .managed m) (v .counts) x) done refuse e
 
     -- past the count, the rows and then the others
     past-count : {A : Type 0} (done : A) (refuse : ℕ → ℕ → A) → 1 ≤ n → n ≤ 16 → verdict tests done refuse ≡ verdict (rowsTests g 0 rs ++ others) done refuse
     unfolding rangeTests
-    past-count done refuse h k = past-first done refuse ∙ rw (le-leb 1 n h, le-leb n 16 k) (ap (λ (ts : List Test). verdict ts done refuse) (append-assoc (rowsTests g 0 rs) ((powersOk s rs else 10) ∷ []) (startShared s (v .counts) (v .units) x)))
+    past-count done refuse h k = past-first done refuse ∙ rw (le-leb 1 n h, le-leb n 16 k) (ap (λ (ts : List Test). verdict ts done refuse) (append-assoc (rowsTests g 0 rs) ((powersOk s rs else 10) ∷ []) (startShared s m (v .units) (v .managed m) (v .counts) x)))
 
     no-count : {A : Type 0} (done : A) (refuse : ℕ → ℕ → A) → n < 1 → verdict tests done refuse ≡ refuse 18 0
     unfolding rangeTests
@@ -73,7 +73,7 @@ module _ (s : Settings) (v : Seen) (x : List ℕ) where
     bad-count (inl h) = let l : n < 1 = omega (arith, size) in (no-count 0 (λ k i. k) l, no-count 0 (λ k i. i) l)
     bad-count (inr h) = let l : 16 < n = omega (arith, size) in (over-count 0 (λ k i. k) l, over-count 0 (λ k i. i) l)
 
-    pub names : Names s (v .counts) (v .units) g rs (refusal tests) (placeIn tests)
+    pub names : Names s m (v .units) (v .managed m) (v .counts) g rs (refusal tests) (placeIn tests)
     names =
         record {
           count = bad-count;
@@ -91,5 +91,5 @@ module _ (s : Settings) (v : Seen) (x : List ℕ) where
               let h : 1 ≤ n = omega (arith, size) in
               let k : n ≤ 16 = omega (arith, size) in
               rw (past-count 0 (λ k i. k) h k ∙ rows-good (λ k i. k) 0 others g 0 rs good, past-count 0 (λ k i. i) h k ∙ rows-good (λ k i. i) 0 others g 0 rs good)
-              (verdict-both Rowless others 0 0 (λ k i. k) (λ k i. i) ((inl (omega arith), refl), ((inl (omega arith), refl), ((inl (omega arith), refl), tt))) (λ q. (inl (omega arith), refl)));
+              (verdict-both Rowless others 0 0 (λ k i. k) (λ k i. i) ((inl (omega arith), refl), ((inl (omega arith), refl), ((inl (omega arith), refl), ((inr (omega arith), refl), tt)))) (λ q. (inl (omega arith), refl)));
         }

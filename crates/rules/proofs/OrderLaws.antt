@@ -9,7 +9,8 @@ use lib.Dec.{leb, ltb, eqb}
 use lib.ListN.{length, length-append}
 use borrow.Author.Tests.{leb-true, le-leb, ltb-true, eqb-true}
 use Rattle.rules.specs.Refusals.{Test, _else_}
-use Rattle.rules.specs.Settings.{mostUnits, granularityOk, unitSize}
+use Rattle.rules.specs.Lists.{isSome}
+use Rattle.rules.specs.Settings.{mostUnits, isManager, limitOf, granularityOk, unitSize}
 use Rattle.rules.specs.Units.{units}
 use Rattle.rules.specs.Ranges.{rowsTests, rangeTests, listTests, powersOk}
 use Rattle.rules.specs.StartData.{granularityOf, countOf, rangesOf}
@@ -34,32 +35,36 @@ rangeTests-aligned g n rs h = rowsTests-aligned g 0 rs (h .1 .1)
 
 -- ---- a start
 
--- what the tests of a start say of the start structure and of the limit, where they are passed
-pub record StartPassed (s : Settings) (v : Seen) (x : List ℕ) : Type 0 where
-  pub untracked : not (v .tracked) ≡ true
+-- what the tests of a start say of its manager, the start structure and the limits, where they are passed
+pub record StartPassed (s : Settings) (m : ℕ) (v : Seen) (x : List ℕ) : Type 0 where
+  pub manager : isManager s m ≡ true
+  pub untracked : not (isSome (v .tracker)) ≡ true
   pub granularity : granularityOk s (granularityOf x) ≡ true
   pub list : Passed (listTests s (granularityOf x) (countOf x) (rangesOf x))
   pub room : length (units (granularityOf x) (rangesOf x)) + v .units ≤ mostUnits
-  pub limit : countOf x + v .counts ≤ s .limit
+  pub limit : countOf x + v .managed m ≤ limitOf s m
+  pub shelf : countOf x + v .counts ≤ s .shelf
 
-pub startOrder-passed : (s : Settings) (v : Seen) (x : List ℕ) → Passed (startOrder s v x) → StartPassed s v x
-startOrder-passed s v x h =
+pub startOrder-passed : (s : Settings) (m : ℕ) (v : Seen) (x : List ℕ) → Passed (startOrder s m v x) → StartPassed s m v x
+startOrder-passed s m v x h =
     record {
-      untracked = h .1 .1 .1 .0;
-      granularity = h .1 .1 .1 .1 .1 .1 .0;
+      manager = h .1 .0;
+      untracked = h .1 .1 .1 .1 .0;
+      granularity = h .1 .1 .1 .1 .1 .1 .1 .0;
       list = All-left (λ (t : Test). t .ok ≡ true) tests last rest;
       room = leb-true (length (units (granularityOf x) (rangesOf x)) + v .units) mostUnits (All-right (λ (t : Test). t .ok ≡ true) tests last rest .0);
-      limit = leb-true (countOf x + v .counts) (s .limit) (All-right (λ (t : Test). t .ok ≡ true) tests last rest .1 .0);
+      limit = leb-true (countOf x + v .managed m) (limitOf s m) (All-right (λ (t : Test). t .ok ≡ true) tests last rest .1 .0);
+      shelf = leb-true (countOf x + v .counts) (s .shelf) (All-right (λ (t : Test). t .ok ≡ true) tests last rest .1 .1 .0);
     }
   where
     tests : List Test
     tests = listTests s (granularityOf x) (countOf x) (rangesOf x)
 
     last : List Test
-    last = startShared s (v .counts) (v .units) x
+    last = startShared s m (v .units) (v .managed m) (v .counts) x
 
     rest : Passed (tests ++ last)
-    rest = h .1 .1 .1 .1 .1 .1 .1 .1
+    rest = h .1 .1 .1 .1 .1 .1 .1 .1 .1
 
 pub listTests-aligned : (s : Settings) (g n : ℕ) (rs : List Range) → Passed (listTests s g n rs) → All (Aligned (unitSize g)) rs
 listTests-aligned s g n rs h =
@@ -76,9 +81,9 @@ pub record PartPassed (v : Seen) (a : Arriving) (p : Part) : Type 0 where
   pub follow : follows (a .front) p ≡ true
   pub within : joinedOk (a .front) p ≡ true
 
-pub partOrder-passed : (v : Seen) (a : Arriving) (p : Part) → Passed (partOrder v a p) → PartPassed v a p
-partOrder-passed v a p h =
-    let r = h .1 .1 in
+pub partOrder-passed : (s : Settings) (m : ℕ) (v : Seen) (a : Arriving) (p : Part) → Passed (partOrder s m v a p) → PartPassed v a p
+partOrder-passed s m v a p h =
+    let r = h .1 .1 .1 in
     record { suspended = r .0; alone = r .1 .0; offset = r .1 .1 .0; bytes = r .1 .1 .1 .0; follow = r .1 .1 .1 .1 .0; within = r .1 .1 .1 .1 .1 .0 }
 
 -- a part that does not end its sequence has whole dwords, and one at least

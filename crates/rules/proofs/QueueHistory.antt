@@ -146,13 +146,13 @@ closed-by [] es b k = k
 closed-by (d ∷ h) es b k = go (isAccepted (d .answer)) (λ es b. closed-by h es b)
   where
     told : (es : List (List ℕ)) (b : Bool) (o : Op) (a : Answer) → Closed es b → Closed (onQueue storesAfter es o a) (onQueue stopsAfter b o a)
-    told es b (start y) a k = k
-    told es b stop a k = k
+    told es b (start m y) a k = k
+    told es b (stop m) a k = k
     told es b (write w) a k = k
-    told es b (receive y) a k = k
-    told es b (suspend kind) a k = k
-    told es b resume a k = k
-    told es b (part p) a k = k
+    told es b (receive m y) a k = k
+    told es b (suspend m kind) a k = k
+    told es b (resume m) a k = k
+    told es b (part m p) a k = k
     told es b (queue bytes make) a k = λ e. absurd (true≢false (sym e))
     told es b (queue bytes (post x)) a k = λ e. (es, ap (λ c. es ++ cond c closingEntry x ∷ []) e)
     told es b (queue bytes (order.take asked x)) a k = k

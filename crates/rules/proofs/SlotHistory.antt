@@ -15,7 +15,7 @@ use Rattle.rules.specs.Report.{room, reportOn, marksLeft}
 use Rattle.rules.specs.Order.{Op, start, stop, write, receive, suspend, resume, part, queue, QueueCall, make, post, take, Part, offsetOf, isFirst, isLast, followsOn, follows, soFar, joinedWith, Seen, Arriving, order}
 use Rattle.rules.specs.Machine.{Answer, refused, done, wrote, reported, assembled, Marks, off, on, Slot, freshSlot, placesIn, wroteIn, reportedIn, queueIn, accepted, slotStep}
 use Rattle.rules.specs.Queue.{Queued}
-use Rattle.rules.specs.History.{Did, isAccepted, touchedBy, startedBy, reportedBy, quietSince, pendingBy, PendingBy, toldBy, tracksAfter, tracksBy, suspendsAfter, suspendedBy, opensAfter, openBy, joinsAfter, joinedBy, frontBy, queueBy, marksBy, slotBy}
+use Rattle.rules.specs.History.{Did, isAccepted, touchedBy, startedBy, reportedBy, quietSince, pendingBy, PendingBy, toldBy, tracksAfter, tracksBy, suspendsAfter, suspendedBy, managesAfter, managerBy, opensAfter, openBy, joinsWith, joinsAfter, joinedBy, frontBy, queueBy, marksBy, slotBy}
 use Rattle.rules.specs.declared.Range.{Range}
 use Rattle.rules.specs.declared.Settings.{Settings}
 use Rattle.rules.proofs.ListLaws.{map-same}
@@ -87,6 +87,7 @@ tracking (on g rs p) = some (g, rs)
 pub record Known (h : List Did) (c : Slot) : Type 0 where
   pub marks : Told h (c .marks)
   pub tracked : tracking (c .marks) ≡ tracksBy none h
+  pub manager : c .manager ≡ managerBy h
   pub suspended : c .suspended ≡ suspendedBy false h
   pub front : c .front ≡ frontBy h
   pub queue : Logged h (c .queue)
@@ -98,11 +99,12 @@ told-is h (on g rs p) k = ap (on g rs) (k .0)
 
 pub known-is : (h : List Did) (c : Slot) → Known h c → c ≡ slotBy h
 known-is h c k =
-    ap₂ (λ b t. record { suspended = b; marks = t; front = c .front; queue = c .queue }) (k .suspended) (told-is h (c .marks) (k .marks) ∙ ap (marksBy h) (k .tracked))
-    ∙ ap₂ (λ (f : Option (List ℕ)) (q : Option Queued). record { suspended = suspendedBy false h; marks = marksBy h (tracksBy none h); front = f; queue = q }) (k .front) (logged-is h (c .queue) (k .queue))
+    ap₂ (λ b t. record { suspended = b; manager = c .manager; marks = t; front = c .front; queue = c .queue }) (k .suspended) (told-is h (c .marks) (k .marks) ∙ ap (marksBy h) (k .tracked))
+    ∙ ap (λ m. record { suspended = suspendedBy false h; manager = m; marks = marksBy h (tracksBy none h); front = c .front; queue = c .queue }) (k .manager)
+    ∙ ap₂ (λ (f : Option (List ℕ)) (q : Option Queued). record { suspended = suspendedBy false h; manager = managerBy h; marks = marksBy h (tracksBy none h); front = f; queue = q }) (k .front) (logged-is h (c .queue) (k .queue))
 
 pub known-fresh : Known [] freshSlot
-known-fresh = record { marks = tt; tracked = refl; suspended = refl; front = refl; queue = logged-fresh }
+known-fresh = record { marks = tt; tracked = refl; manager = refl; suspended = refl; front = refl; queue = logged-fresh }
 
 abbrev pub did : Op → Answer → Did
 did o a = record { op = o; answer = a }
@@ -123,6 +125,7 @@ known-refused h o n i c k =
     record {
       marks = told-idle h d (c .marks) (λ u. refl) (λ u. refl) (k .marks);
       tracked = k .tracked ∙ sym (toldBy-snoc tracksAfter h d none);
+      manager = k .manager ∙ sym (toldBy-snoc managesAfter h d 0);
       suspended = k .suspended ∙ sym (toldBy-snoc suspendsAfter h d false);
       front = k .front ∙ ap₂ (λ b x. cond b (some x) none) (sym (toldBy-snoc opensAfter h d false)) (sym (toldBy-snoc joinsAfter h d []));
       queue = logged-refused h o n i (c .queue) (k .queue);
@@ -132,12 +135,12 @@ known-refused h o n i c k =
     d = did o (refused n i)
 
 -- the marks after each accepted call
-told-start : (h : List Did) (x : List ℕ) → Apart (units (granularityOf x) (rangesOf x))
-    → Told (h ++ did (start x) done ∷ []) (on (granularityOf x) (rangesOf x) (clear (units (granularityOf x) (rangesOf x))))
-told-start h x free = (map-same none-pending (units (granularityOf x) (rangesOf x)), free)
+told-start : (h : List Did) (m : ℕ) (x : List ℕ) → Apart (units (granularityOf x) (rangesOf x))
+    → Told (h ++ did (start m x) done ∷ []) (on (granularityOf x) (rangesOf x) (clear (units (granularityOf x) (rangesOf x))))
+told-start h m x free = (map-same none-pending (units (granularityOf x) (rangesOf x)), free)
   where
-    none-pending : (u : Unit) → false ≡ pendingBy (h ++ did (start x) done ∷ []) u
-    none-pending u = sym (pendingBy-snoc h (did (start x) done) u ∙ or-false (pendingBy h u && false) ∙ and-false (pendingBy h u))
+    none-pending : (u : Unit) → false ≡ pendingBy (h ++ did (start m x) done ∷ []) u
+    none-pending u = sym (pendingBy-snoc h (did (start m x) done) u ∙ or-false (pendingBy h u && false) ∙ and-false (pendingBy h u))
 
 told-write : (h : List Did) (w : Write) (t : Marks) → Told h t → Told (h ++ did (write w) ((wroteIn w t) .0) ∷ []) ((wroteIn w t) .1)
 told-write h w off i = tt
@@ -149,10 +152,10 @@ told-write h w (on g rs p) i = (ap (mark w (units g rs)) (i .0) ∙ mark-map w (
     more : (u : Unit) → (pendingBy h u || touches w u) ≡ pendingBy (h ++ d ∷ []) u
     more u = sym (pendingBy-snoc h d u ∙ ap (λ z. z || touches w u) (and-true (pendingBy h u)))
 
-told-receive : (h : List Did) (x : List ℕ) (b : Bool) (t : Marks) → Told h t
-    → Told (h ++ did (receive x) ((reportedIn b (length x) t) .0) ∷ []) ((reportedIn b (length x) t) .1)
-told-receive h x b off i = tt
-told-receive h x b (on g rs p) i = (left ∙ map-same same us, i .1)
+told-receive : (h : List Did) (m : ℕ) (x : List ℕ) (b : Bool) (t : Marks) → Told h t
+    → Told (h ++ did (receive m x) ((reportedIn b (length x) t) .0) ∷ []) ((reportedIn b (length x) t) .1)
+told-receive h m x b off i = tt
+told-receive h m x b (on g rs p) i = (left ∙ map-same same us, i .1)
   where
     k : ℕ
     k = room (length x)
@@ -161,11 +164,11 @@ told-receive h x b (on g rs p) i = (left ∙ map-same same us, i .1)
     us = units g rs
 
     d : Did
-    d = did (receive x) (reported (reportOn b g k us p))
+    d = did (receive m x) (reported (reportOn b g k us p))
 
     left : marksLeft k us p ≡ map (λ u. pendingBy h u && not (reportedBy d u)) us
     left =
-        subst (λ (q : List Bool). marksLeft k us q ≡ map (λ u. pendingBy h u && not (reportedBy (did (receive x) (reported (reportOn b g k us q))) u)) us) (sym (i .0))
+        subst (λ (q : List Bool). marksLeft k us q ≡ map (λ u. pendingBy h u && not (reportedBy (did (receive m x) (reported (reportOn b g k us q))) u)) us) (sym (i .0))
         (marksLeft-map (pendingBy h) g k us (unitsFrom-sized (unitSize g) 0 [] rs) (i .1))
 
     same : (u : Unit) → (pendingBy h u && not (reportedBy d u)) ≡ pendingBy (h ++ d ∷ []) u
@@ -173,44 +176,44 @@ told-receive h x b (on g rs p) i = (left ∙ map-same same us, i .1)
 
 -- what the tests of a call give its slot: the units of a start are apart, a part follows, and a post or a take has a queue
 abbrev Allowed : Slot → Op → Type 0
-Allowed c (start x) = Apart (units (granularityOf x) (rangesOf x))
-Allowed c stop = Prim.Unit {0}
+Allowed c (start m x) = Apart (units (granularityOf x) (rangesOf x))
+Allowed c (stop m) = Prim.Unit {0}
 Allowed c (write w) = Prim.Unit {0}
-Allowed c (receive x) = Prim.Unit {0}
-Allowed c (suspend kind) = Prim.Unit {0}
-Allowed c resume = Prim.Unit {0}
-Allowed c (part p) = follows (c .front) p ≡ true
+Allowed c (receive m x) = Prim.Unit {0}
+Allowed c (suspend m kind) = Prim.Unit {0}
+Allowed c (resume m) = Prim.Unit {0}
+Allowed c (part m p) = follows (c .front) p ≡ true
 Allowed c (queue bytes k) = Ready bytes k (c .queue)
 
 allowed : (s : Settings) (v : Seen) (a : Arriving) (c : Slot) (o : Op) → a .front ≡ c .front → v .places ≡ placesIn (c .queue) → Passed (order s v a o) → Allowed c o
 unfolding order
-allowed s v a c (start x) e f h =
-    unitsFrom-apart (unitSize (granularityOf x)) 0 [] (rangesOf x) (unitSize-pos (granularityOf x)) (listTests-aligned s (granularityOf x) (countOf x) (rangesOf x) (startOrder-passed s v x h .list))
-allowed s v a c stop e f h = tt
+allowed s v a c (start m x) e f h =
+    unitsFrom-apart (unitSize (granularityOf x)) 0 [] (rangesOf x) (unitSize-pos (granularityOf x)) (listTests-aligned s (granularityOf x) (countOf x) (rangesOf x) (startOrder-passed s m v x h .list))
+allowed s v a c (stop m) e f h = tt
 allowed s v a c (write w) e f h = tt
-allowed s v a c (receive x) e f h = tt
-allowed s v a c (suspend kind) e f h = tt
-allowed s v a c resume e f h = tt
-allowed s v a c (part p) e f h = subst (λ y. follows y p ≡ true) e (partOrder-passed v a p h .follow)
+allowed s v a c (receive m x) e f h = tt
+allowed s v a c (suspend m kind) e f h = tt
+allowed s v a c (resume m) e f h = tt
+allowed s v a c (part m p) e f h = subst (λ y. follows y p ≡ true) e (partOrder-passed s m v a p h .follow)
 allowed s v a c (queue bytes k) e f h = queue-ready v bytes k (c .queue) f h
 
 -- an accepted call: its answer, and what becomes of its ranges, its flag and its marks
 pub accepted-done : (c : Slot) (o : Op) → isAccepted ((accepted c o) .0) ≡ true
-accepted-done c (start x) = refl
-accepted-done c stop = refl
+accepted-done c (start m x) = refl
+accepted-done c (stop m) = refl
 accepted-done c (write w) = go (c .marks)
   where
     go : (t : Marks) → isAccepted ((wroteIn w t) .0) ≡ true
     go off = refl
     go (on g rs p) = refl
-accepted-done c (receive x) = go (c .marks)
+accepted-done c (receive m x) = go (c .marks)
   where
     go : (t : Marks) → isAccepted ((reportedIn (c .suspended) (length x) t) .0) ≡ true
     go off = refl
     go (on g rs p) = refl
-accepted-done c (suspend kind) = refl
-accepted-done c resume = refl
-accepted-done c (part p) = go (isLast p)
+accepted-done c (suspend m kind) = refl
+accepted-done c (resume m) = refl
+accepted-done c (part m p) = go (isLast p)
   where
     go : (b : Bool) → isAccepted ((cond {A = Answer × Option (List ℕ)} b (assembled (joinedWith (c .front) p), none) (done, some (joinedWith (c .front) p))) .0) ≡ true
     go true = refl
@@ -225,35 +228,45 @@ accepted-done c (queue bytes k) = go k (c .queue)
     go (take asked x) (some q) = refl
 
 accepted-tracks : (c : Slot) (o : Op) → tracking ((accepted c o) .1 .marks) ≡ tracksAfter (tracking (c .marks)) o
-accepted-tracks c (start x) = refl
-accepted-tracks c stop = refl
+accepted-tracks c (start m x) = refl
+accepted-tracks c (stop m) = refl
 accepted-tracks c (write w) = go (c .marks)
   where
     go : (t : Marks) → tracking ((wroteIn w t) .1) ≡ tracking t
     go off = refl
     go (on g rs p) = refl
-accepted-tracks c (receive x) = go (c .marks)
+accepted-tracks c (receive m x) = go (c .marks)
   where
     go : (t : Marks) → tracking ((reportedIn (c .suspended) (length x) t) .1) ≡ tracking t
     go off = refl
     go (on g rs p) = refl
-accepted-tracks c (suspend kind) = refl
-accepted-tracks c resume = refl
-accepted-tracks c (part p) = refl
+accepted-tracks c (suspend m kind) = refl
+accepted-tracks c (resume m) = refl
+accepted-tracks c (part m p) = refl
 accepted-tracks c (queue bytes k) = refl
 
+accepted-manages : (c : Slot) (o : Op) → (accepted c o) .1 .manager ≡ managesAfter (c .manager) o
+accepted-manages c (start m x) = refl
+accepted-manages c (stop m) = refl
+accepted-manages c (write w) = refl
+accepted-manages c (receive m x) = refl
+accepted-manages c (suspend m kind) = refl
+accepted-manages c (resume m) = refl
+accepted-manages c (part m p) = refl
+accepted-manages c (queue bytes k) = refl
+
 accepted-suspends : (c : Slot) (o : Op) → (accepted c o) .1 .suspended ≡ suspendsAfter (c .suspended) o
-accepted-suspends c (start x) = refl
-accepted-suspends c stop = refl
+accepted-suspends c (start m x) = refl
+accepted-suspends c (stop m) = refl
 accepted-suspends c (write w) = refl
-accepted-suspends c (receive x) = refl
-accepted-suspends c (suspend kind) = refl
-accepted-suspends c resume = refl
-accepted-suspends c (part p) = refl
+accepted-suspends c (receive m x) = refl
+accepted-suspends c (suspend m kind) = refl
+accepted-suspends c (resume m) = refl
+accepted-suspends c (part m p) = refl
 accepted-suspends c (queue bytes k) = refl
 
 -- what a part that follows makes of the bytes so far is what the history tells
-pub joinedWith-told : (h : List Did) (p : Part) (y : Option (List ℕ)) → y ≡ frontBy h → follows y p ≡ true → joinedWith y p ≡ joinsAfter (joinedBy h) (part p)
+pub joinedWith-told : (h : List Did) (p : Part) (y : Option (List ℕ)) → y ≡ frontBy h → follows y p ≡ true → joinedWith y p ≡ joinsWith (joinedBy h) p
 joinedWith-told h p y e o = go (isFirst p) (openBy h) e o
   where
     go : (f b : Bool) → y ≡ cond b (some (joinedBy h)) none → cond f (eqb (offsetOf p) 0) (followsOn y p) ≡ true
@@ -264,14 +277,14 @@ joinedWith-told h p y e o = go (isFirst p) (openBy h) e o
 
 accepted-front : (h : List Did) (c : Slot) (o : Op) → Allowed c o → c .front ≡ frontBy h
     → (accepted c o) .1 .front ≡ cond (opensAfter (openBy h) o) (some (joinsAfter (joinedBy h) o)) none
-accepted-front h c (start x) free k = k
-accepted-front h c stop free k = k
+accepted-front h c (start m x) free k = k
+accepted-front h c (stop m) free k = k
 accepted-front h c (write w) free k = k
-accepted-front h c (receive x) free k = k
-accepted-front h c (suspend kind) free k = k
-accepted-front h c resume free k = refl
+accepted-front h c (receive m x) free k = k
+accepted-front h c (suspend m kind) free k = k
+accepted-front h c (resume m) free k = refl
 accepted-front h c (queue bytes j) free k = k
-accepted-front h c (part p) free k = go (isLast p) (joinedWith-told h p (c .front) k free)
+accepted-front h c (part m p) free k = go (isLast p) (joinedWith-told h p (c .front) k free)
   where
     go : (l : Bool) {x : List ℕ} → joinedWith (c .front) p ≡ x
         → (cond {A = Answer × Option (List ℕ)} l (assembled (joinedWith (c .front) p), none) (done, some (joinedWith (c .front) p))) .1 ≡ cond (not l) (some x) none
@@ -279,17 +292,17 @@ accepted-front h c (part p) free k = go (isLast p) (joinedWith-told h p (c .fron
     go false e = ap some e
 
 accepted-told : (h : List Did) (c : Slot) (o : Op) → Allowed c o → Told h (c .marks) → Told (h ++ did o ((accepted c o) .0) ∷ []) ((accepted c o) .1 .marks)
-accepted-told h c (start x) free i = told-start h x free
-accepted-told h c stop free i = tt
+accepted-told h c (start m x) free i = told-start h m x free
+accepted-told h c (stop m) free i = tt
 accepted-told h c (write w) free i = told-write h w (c .marks) i
-accepted-told h c (receive x) free i = told-receive h x (c .suspended) (c .marks) i
-accepted-told h c (suspend kind) free i = told-idle h (did (suspend kind) done) (c .marks) (λ u. refl) (λ u. refl) i
-accepted-told h c resume free i = told-idle h (did resume done) (c .marks) (λ u. refl) (λ u. refl) i
-accepted-told h c (part p) free i = go (isLast p)
+accepted-told h c (receive m x) free i = told-receive h m x (c .suspended) (c .marks) i
+accepted-told h c (suspend m kind) free i = told-idle h (did (suspend m kind) done) (c .marks) (λ u. refl) (λ u. refl) i
+accepted-told h c (resume m) free i = told-idle h (did (resume m) done) (c .marks) (λ u. refl) (λ u. refl) i
+accepted-told h c (part m p) free i = go (isLast p)
   where
-    go : (b : Bool) → Told (h ++ did (part p) ((cond {A = Answer × Option (List ℕ)} b (assembled (joinedWith (c .front) p), none) (done, some (joinedWith (c .front) p))) .0) ∷ []) (c .marks)
-    go true = told-idle h (did (part p) (assembled (joinedWith (c .front) p))) (c .marks) (λ u. refl) (λ u. refl) i
-    go false = told-idle h (did (part p) done) (c .marks) (λ u. refl) (λ u. refl) i
+    go : (b : Bool) → Told (h ++ did (part m p) ((cond {A = Answer × Option (List ℕ)} b (assembled (joinedWith (c .front) p), none) (done, some (joinedWith (c .front) p))) .0) ∷ []) (c .marks)
+    go true = told-idle h (did (part m p) (assembled (joinedWith (c .front) p))) (c .marks) (λ u. refl) (λ u. refl) i
+    go false = told-idle h (did (part m p) done) (c .marks) (λ u. refl) (λ u. refl) i
 accepted-told h c (queue bytes k) free i = go k (c .queue)
   where
     go : (k : QueueCall) (q : Option Queued) → Told (h ++ did (queue bytes k) ((queueIn bytes k q) .0) ∷ []) (c .marks)
@@ -300,13 +313,13 @@ accepted-told h c (queue bytes k) free i = go k (c .queue)
     go (take asked x) (some q) = told-idle h _ (c .marks) (λ u. refl) (λ u. refl) i
 
 accepted-logged : (h : List Did) (c : Slot) (o : Op) → Allowed c o → Logged h (c .queue) → Logged (h ++ did o ((accepted c o) .0) ∷ []) ((accepted c o) .1 .queue)
-accepted-logged h c (start x) free k = logged-idle h _ (c .queue) (λ A f y. refl) k
-accepted-logged h c stop free k = logged-idle h _ (c .queue) (λ A f y. refl) k
+accepted-logged h c (start m x) free k = logged-idle h _ (c .queue) (λ A f y. refl) k
+accepted-logged h c (stop m) free k = logged-idle h _ (c .queue) (λ A f y. refl) k
 accepted-logged h c (write w) free k = logged-idle h _ (c .queue) (λ A f y. refl) k
-accepted-logged h c (receive x) free k = logged-idle h _ (c .queue) (λ A f y. refl) k
-accepted-logged h c (suspend kind) free k = logged-idle h _ (c .queue) (λ A f y. refl) k
-accepted-logged h c resume free k = logged-idle h _ (c .queue) (λ A f y. refl) k
-accepted-logged h c (part p) free k = logged-idle h _ (c .queue) (λ A f y. refl) k
+accepted-logged h c (receive m x) free k = logged-idle h _ (c .queue) (λ A f y. refl) k
+accepted-logged h c (suspend m kind) free k = logged-idle h _ (c .queue) (λ A f y. refl) k
+accepted-logged h c (resume m) free k = logged-idle h _ (c .queue) (λ A f y. refl) k
+accepted-logged h c (part m p) free k = logged-idle h _ (c .queue) (λ A f y. refl) k
 accepted-logged h c (queue bytes j) free k = logged-queue h bytes j (c .queue) free k
 
 known-accepted : (h : List Did) (c : Slot) (o : Op) → Allowed c o → Known h c → Known (h ++ did o ((accepted c o) .0) ∷ []) ((accepted c o) .1)
@@ -314,6 +327,7 @@ known-accepted h c o free k =
     record {
       marks = accepted-told h c o free (k .marks);
       tracked = accepted-tracks c o ∙ ap (λ x. tracksAfter x o) (k .tracked) ∙ sym (told tracksAfter none);
+      manager = accepted-manages c o ∙ ap (λ x. managesAfter x o) (k .manager) ∙ sym (told managesAfter 0);
       suspended = accepted-suspends c o ∙ ap (λ x. suspendsAfter x o) (k .suspended) ∙ sym (told suspendsAfter false);
       front = accepted-front h c o free (k .front) ∙ ap₂ (λ b x. cond b (some x) none) (sym (told opensAfter false)) (sym (told joinsAfter []));
       queue = accepted-logged h c o free (k .queue);

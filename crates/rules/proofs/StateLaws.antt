@@ -10,7 +10,7 @@ use native.Mathlib.Omega.{arith}
 use lib.ListN.{length, take, getD, length-set, length-map, replicate}
 use lib.Seq.{getD-set-same, getD-set-other}
 use Rattle.rules.specs.Lists.{placeFrom}
-use Rattle.rules.specs.Settings.{identifiersOf, placeOf}
+use Rattle.rules.specs.Settings.{isManager, identifiersOf, placeOf}
 use Rattle.rules.specs.Order.{Op, start, stop, write, receive, suspend, resume, part, queue, Seen, Arriving, freshOrder, order}
 use Rattle.rules.specs.Device.{cleaned, closedSettings}
 use Rattle.rules.specs.Machine.{Answer, refused, Slot, freshSlot, slotStep, State, closed, opened, fresh, slotAt, withSlot, slotOf, seenAt, arrivingAt, stepAt, Call, step, after}
@@ -53,21 +53,26 @@ pub slotStep-unknown : (s : Settings) (v : Seen) (a : Arriving) (c : Slot) (o : 
 unfolding order
 slotStep-unknown s v a c o e r = go o (v .sound)
   where
-    go : (o : Op) (b : Bool) → slotStep s (record { sound = b; known = v .known; suspended = v .suspended; tracked = v .tracked; places = v .places; stopped = v .stopped; counts = v .counts; units = v .units }) a c o ≡ (refused (cond b 2 1) 0, c)
-    go (start x) true = rw e
-    go (start x) false = refl
-    go stop true = rw e
-    go stop false = refl
+    -- 2 either way, for the manager or for the controller
+    both : (b : Bool) → cond {A = Answer × Slot} b (refused 2 0, c) (refused 2 0, c) ≡ (refused 2 0, c)
+    both true = refl
+    both false = refl
+
+    go : (o : Op) (b : Bool) → slotStep s (record { sound = b; known = v .known; suspended = v .suspended; tracker = v .tracker; places = v .places; stopped = v .stopped; managed = v .managed; counts = v .counts; units = v .units }) a c o ≡ (refused (cond b 2 1) 0, c)
+    go (start m x) true = rw e (both (isManager s m))
+    go (start m x) false = refl
+    go (stop m) true = rw e (both (isManager s m))
+    go (stop m) false = refl
     go (write w) true = rw e
     go (write w) false = refl
-    go (receive x) true = rw e
-    go (receive x) false = refl
-    go (suspend kind) true = rw e
-    go (suspend kind) false = refl
-    go resume true = rw e
-    go resume false = refl
-    go (part p) true = rw (r, e)
-    go (part p) false = refl
+    go (receive m x) true = rw e (both (isManager s m))
+    go (receive m x) false = refl
+    go (suspend m kind) true = rw e (both (isManager s m))
+    go (suspend m kind) false = refl
+    go (resume m) true = rw e (both (isManager s m))
+    go (resume m) false = refl
+    go (part m p) true = rw (r, e) (both (isManager s m))
+    go (part m p) false = refl
     go (queue bytes k) true = rw e
     go (queue bytes k) false = refl
 

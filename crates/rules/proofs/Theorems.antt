@@ -11,7 +11,7 @@ use lib.ListN.{length, getElem?}
 use Rattle.rules.specs.declared.Range.{Range}
 use lib.Pow.{pow-add, pow-mono, shl-lt}
 use Rattle.little.specs.Little.{numberAt, numberBytes, records, recordsAt}
-use Rattle.rules.specs.Settings.{settingsOk, placeOf, granularityOk, unitSize}
+use Rattle.rules.specs.Settings.{settingsOk, isManager, limitOf, placeOf, granularityOk, unitSize}
 use Rattle.rules.specs.Units.{Unit, Write, units, touches}
 use Rattle.rules.specs.Ranges.{rangeTests, powersOk}
 use Rattle.rules.specs.StartData.{rangesOf, startBytes}
@@ -97,14 +97,14 @@ shares-a-byte w u z = (
   (λ r. touches-iff w u z .1 (r .0, r .1, r .2, (r .3, r .4))),
 )
 
-reported-always : (st : State) (a : ℕ) (x : List ℕ) (g : ℕ) (rs : List Range) (p : List Bool) → slotOf st a .marks ≡ on g rs p
-    → numberOf ((step st (record { id = a; op = receive x })) .0) ≡ 0
-    → (step st (record { id = a; op = receive x })) .0 ≡ reported (reportOn (slotOf st a .suspended) g (room (length x)) (units g rs) p)
+reported-always : (st : State) (a m : ℕ) (x : List ℕ) (g : ℕ) (rs : List Range) (p : List Bool) → slotOf st a .marks ≡ on g rs p
+    → numberOf ((step st (record { id = a; op = receive m x })) .0) ≡ 0
+    → (step st (record { id = a; op = receive m x })) .0 ≡ reported (reportOn (slotOf st a .suspended) g (room (length x)) (units g rs) p)
 unfolding step order
-reported-always st a x g rs p e z =
+reported-always st a m x g rs p e z =
     let c = slotOf st a in
-    let r = verdict-done (λ (y : Answer × Slot). numberOf (y .0)) (receiveOrder (seenAt st (placeOf (st .settings) a)) x) (accepted c (receive x)) (λ n j. (refused n j, c)) (λ n j. refl)
-    (omega arith, (omega arith, (omega arith, (omega arith, tt)))) z in
+    let r = verdict-done (λ (y : Answer × Slot). numberOf (y .0)) (receiveOrder (st .settings) m (seenAt st (placeOf (st .settings) a)) x) (accepted c (receive m x)) (λ n j. (refused n j, c)) (λ n j. refl)
+    (omega arith, (omega arith, (omega arith, (omega arith, (omega arith, tt))))) z in
     ap (λ (y : Answer × Slot). y .0) (r .0) ∙ rw e
 
 pub demand-2 : Demand2
@@ -167,7 +167,7 @@ granularity g h =
 -- ---- the worked numbers
 
 pub worked : Worked
-unfolding cases closingEntry settingsOk placeOf granularityOk rangeTests powersOk rangesOf startBytes stateOk fresh step order sound heldOk numberAt numberBytes records recordsAt
+unfolding cases closingEntry settingsOk isManager limitOf placeOf granularityOk rangeTests powersOk rangesOf startBytes stateOk fresh step order sound heldOk numberAt numberBytes records recordsAt
 worked = refl
 
 pub worked-states : WorkedStates

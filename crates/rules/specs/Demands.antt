@@ -10,7 +10,7 @@ use lib.Dec.{leb}
 use lib.ListN.{length, take, drop, getD, getElem?}
 use Rattle.rules.specs.Lists.{all, any, join, member}
 use Rattle.rules.specs.Refusals.{_else_, refusal}
-use Rattle.rules.specs.Settings.{unitSize, bytesOf}
+use Rattle.rules.specs.Settings.{isManager, limitOf, unitSize, bytesOf}
 use Rattle.rules.specs.Units.{Unit, Write, units, touches, mark, newly, pending}
 use Rattle.rules.specs.Ranges.{rowsOk, powersOk}
 use Rattle.rules.specs.StartData.{noRange, startSize, startBytes, startData, startWritten, placed}
@@ -60,18 +60,18 @@ pub data Breaks (g : ℕ) (r : Range) : ℕ → Type 0 where
 abbrev pub Rowless : ℕ → ℕ → Type 0
 Rowless number row = ((number < 18) ⊎ (21 < number)) × (row ≡ 0)
 
--- number and row of a start on ranges rs that breaks nothing before their rules, with so many counts and units tracked now
-pub record Names (s : Settings) (counts held g : ℕ) (rs : List Range) (number row : ℕ) : Type 0 where
+-- number and row of a start by a manager on ranges rs that breaks nothing before their rules, with so many units tracked now, so many counts by that manager and by all
+pub record Names (s : Settings) (m held managed counts g : ℕ) (rs : List Range) (number row : ℕ) : Type 0 where
   pub count : (length rs ≡ 0) ⊎ (16 < length rs) → (number ≡ 18) × (row ≡ 0)
   -- the earliest row that breaks a rule: those before it are good
   pub rule : (i k : ℕ) → length rs ≤ 16 → i < length rs → ((j : ℕ) → j < i → Good g (getD rs j noRange)) → Breaks g (getD rs i noRange) k
       → (number ≡ k) × (row ≡ i)
   pub none : 1 ≤ length rs → length rs ≤ 16 → ((j : ℕ) → j < length rs → Good g (getD rs j noRange)) → Rowless number row
-  -- behind the rows 10, 11 and 12 answer, and nothing else
+  -- behind the rows 10, 11, 12 and 34 answer, and nothing else
   pub behind : 1 ≤ length rs → length rs ≤ 16 → ((j : ℕ) → j < length rs → Good g (getD rs j noRange))
-      → number ≡ refusal ((powersOk s rs else 10) ∷ (leb (length (units g rs) + held) 16384 else 11) ∷ (leb (length rs + counts) (s .limit) else 12) ∷ [])
+      → number ≡ refusal ((powersOk s rs else 10) ∷ (leb (length (units g rs) + held) 16384 else 11) ∷ (leb (length rs + managed) (limitOf s m) else 12) ∷ (leb (length rs + counts) (s .shelf) else 34) ∷ [])
 
--- what soundness asks of a tracked controller by itself is what a start asks: 7, 18 to 21 and 10
+-- what soundness asks of a tracked controller's granularity and ranges is what a start asks: 7, 18 to 21 and 10
 pub record Lawful (s : Settings) (g n : ℕ) (rs : List Range) : Type 0 where
   pub granularity : (s .least ≤ g) × (g ≤ s .greatest)
   pub count : (1 ≤ n) × (n ≤ 16)
@@ -89,8 +89,10 @@ pub record Lying (shares : List Share) : Type 0 where
 abbrev pub Lie : Type 0
 Lie = (shares : List Share) → (sharesOk shares ≡ true) ↔ Lying shares
 
+-- and of its manager that it is one (W12)
 abbrev pub Held : Type 0
-Held = (s : Settings) (g n : ℕ) (rs : List Range) → (heldOk s (some (record { granularity = g; count = n; ranges = rs })) ≡ true) ↔ Lawful s g n rs
+Held = (s : Settings) (m g n : ℕ) (rs : List Range)
+    → (heldOk s (some (record { manager = m; granularity = g; count = n; ranges = rs })) ≡ true) ↔ ((isManager s m ≡ true) × Lawful s g n rs)
 
 -- "From a fresh device no sequence of calls leads to an unsound record, save the closed device of a refused fresh", which answers 1 to every call
 pub record Soundness : Type 0 where
@@ -227,9 +229,9 @@ pub record Demand2 : Type 1 where
   pub reports : (s : Settings) (words : ℕ) (ks : List Call) (a : ℕ) (b : Bool) (g : ℕ) (rs : List Range) (p : List Bool)
       → slotOf (sessionEnd s words ks) a .suspended ≡ b → slotOf (sessionEnd s words ks) a .marks ≡ on g rs p → (k : ℕ) → Reports b g k (units g rs) p
   -- and of any device, made by a session or not: a receive that is not refused answers this report
-  pub answers : (st : State) (a : ℕ) (x : List ℕ) (g : ℕ) (rs : List Range) (p : List Bool) → slotOf st a .marks ≡ on g rs p
-      → numberOf ((step st (record { id = a; op = receive x })) .0) ≡ 0
-      → (step st (record { id = a; op = receive x })) .0 ≡ reported (reportOn (slotOf st a .suspended) g (room (length x)) (units g rs) p)
+  pub answers : (st : State) (a m : ℕ) (x : List ℕ) (g : ℕ) (rs : List Range) (p : List Bool) → slotOf st a .marks ≡ on g rs p
+      → numberOf ((step st (record { id = a; op = receive m x })) .0) ≡ 0
+      → (step st (record { id = a; op = receive m x })) .0 ≡ reported (reportOn (slotOf st a .suspended) g (room (length x)) (units g rs) p)
   pub runs : Runs
   pub room : (bytes : ℕ) → 16 ≤ bytes → Room bytes
   pub touches : (w : Write) (u : Unit) → Touches w u
@@ -275,16 +277,16 @@ pub record ReadBack (id : ℕ) (r : Report) (x : List ℕ) : Type 0 where
 
 -- ---- demand 3
 
--- the refusals of a call that tell of what controllers share: of a start the pool (W7) and the descriptor limit, of a part of a state that another's is under way (W6), and of no
--- other call any
+-- the refusals of a call that tell of what controllers share: of a start the pool (W7), its manager's descriptor limit and the shelf's (W12), of a part of a state that
+-- another's is under way (W6), and of no other call any
 abbrev pub sharedRefusals : Op → List ℕ
-sharedRefusals (start x) = 11 ∷ 12 ∷ []
-sharedRefusals stop = []
+sharedRefusals (start m x) = 11 ∷ 12 ∷ 34 ∷ []
+sharedRefusals (stop m) = []
 sharedRefusals (write w) = []
-sharedRefusals (receive x) = []
-sharedRefusals (suspend kind) = []
-sharedRefusals resume = []
-sharedRefusals (part p) = 23 ∷ []
+sharedRefusals (receive m x) = []
+sharedRefusals (suspend m kind) = []
+sharedRefusals (resume m) = []
+sharedRefusals (part m p) = 23 ∷ []
 sharedRefusals (queue bytes k) = []
 
 -- none of a controller's calls was refused for what it shares

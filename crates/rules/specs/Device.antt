@@ -1,14 +1,14 @@
 -- Document 01, "Refusal numbers": when a record is sound (refusal 1), a fresh device and the closed one. Unused places are not looked at, and
 -- fresh fills them with zeros.
 use Prim.Native.Nat.{ℕ, _+_, _-_, _%_}
-use mathlib.Core.Bool.{Bool, true, false, _&&_, _||_}
+use mathlib.Core.Bool.{Bool, true, false, _&&_, _||_, cond}
 use mathlib.Core.List.{List, [], _∷_, _++_, map}
 use mathlib.Core.Option.{Option, none, some}
 use lib.Dec.{leb, eqb}
 use lib.ListN.{length, take, getD, replicate}
 use Rattle.rules.specs.Lists.{all, every, sum}
 use Rattle.rules.specs.Refusals.{_else_, passes, verdict}
-use Rattle.rules.specs.Settings.{mostUnits, settingsOk, granularityOk, identifiersOf, placeOf}
+use Rattle.rules.specs.Settings.{mostUnits, settingsOk, managersOf, isManager, limitOf, granularityOk, identifiersOf, placeOf}
 use Rattle.rules.specs.Units.{units}
 use Rattle.rules.specs.Ranges.{listTests}
 use Rattle.rules.specs.StartData.{placed}
@@ -22,27 +22,34 @@ use Rattle.rules.specs.declared.Share.{Share}
 use Rattle.rules.specs.declared.Sequence.{Sequence}
 use Rattle.rules.specs.declared.Sequence.the-variants.{Nothing, Open}
 use Rattle.rules.specs.declared.Queue.the-variants as queue
+use Rattle.rules.specs.declared.Second.the-variants as second
 use Rattle.rules.specs.declared.Controller.{Controller}
 use Rattle.rules.specs.declared.Settings.{Settings}
 use Rattle.rules.specs.declared.Device.{Device}
 
 -- ---- soundness
 
--- what a tracked controller holds
+-- what a tracked controller holds, and the manager that tracks it (W12)
 pub record Held : Type 0 where
+  pub manager : ℕ
   pub granularity : ℕ
   pub count : ℕ
   pub ranges : List Range
 
--- whether a controller is not tracked, or its granularity and ranges pass 7, 18 to 21 and 10
+-- whether a controller is not tracked, or its manager is in the settings and its granularity and ranges pass 7, 18 to 21 and 10
 unfoldable pub heldOk : Settings → Option Held → Bool
 heldOk s none = true
-heldOk s (some h) = passes ((granularityOk s (h .granularity) else 7) ∷ listTests s (h .granularity) (h .count) (h .ranges))
+heldOk s (some h) = isManager s (h .manager) && passes ((granularityOk s (h .granularity) else 7) ∷ listTests s (h .granularity) (h .count) (h .ranges))
 
 -- how many ranges it holds
 abbrev pub heldCount : Option Held → ℕ
 heldCount none = 0
 heldCount (some h) = h .count
+
+-- W12: how many of these a manager tracks
+abbrev pub heldCountBy : ℕ → Option Held → ℕ
+heldCountBy m none = 0
+heldCountBy m (some h) = cond (eqb (h .manager) m) (h .count) 0
 
 -- how many different units they have
 abbrev pub heldUnits : Option Held → ℕ
@@ -68,13 +75,21 @@ sharesOk (a ∷ as′) = isInside a && (all (areApart a) as′ && sharesOk as′
 abbrev pub frontOk : ℕ → Bool
 frontOk n = leb 4 n && (leb n stateMost && eqb (n % 4) 0)
 
--- the settings pass 16, each controller holds what it may, the counts together are within the limit and the units together within the pool, and an open sequence,
--- the shares and the queues are as they may be
+-- W12: the counts of those that a manager tracks, together, and whether they are within its limit
+abbrev pub countsBy : ℕ → List (Option Held) → ℕ
+countsBy m hs = sum (map (heldCountBy m) hs)
+
+abbrev pub isWithin : Settings → List (Option Held) → ℕ → Bool
+isWithin s hs m = leb (countsBy m hs) (limitOf s m)
+
+-- the settings pass 16, each controller holds what it may, each manager's counts together are within its limit and all counts within the shelf's (W12), the units
+-- together are within the pool, and an open sequence, the shares and the queues are as they may be
 abbrev pub soundRules : Settings → List (Option Held) → Bool → List Bool
 soundRules s hs rest =
     settingsOk s
     ∷ all (heldOk s) hs
-    ∷ leb (sum (map heldCount hs)) (s .limit)
+    ∷ all (isWithin s hs) (managersOf s)
+    ∷ leb (sum (map heldCount hs)) (s .shelf)
     ∷ leb (sum (map heldUnits hs)) mostUnits
     ∷ rest
     ∷ []
@@ -85,12 +100,12 @@ sound s hs rest = every (soundRules s hs rest)
 -- ---- the record
 
 -- what a controller of the record holds: of its ranges as many as it counts
-abbrev pub heldIn : Tracking → List Range → Option Held
-heldIn Off rs = none
-heldIn (On g n) rs = some (record { granularity = g; count = n; ranges = take n rs })
+abbrev pub heldIn : Tracking → ℕ → List Range → Option Held
+heldIn Off m rs = none
+heldIn (On g n) m rs = some (record { manager = m; granularity = g; count = n; ranges = take n rs })
 
 abbrev pub heldOf : Controller → Option Held
-heldOf c = heldIn (c .tracking) (c .ranges)
+heldOf c = heldIn (c .tracking) (c .manager) (c .ranges)
 
 -- its share: one that is not tracked has none, whatever its base
 abbrev pub shareIn : ℕ → Option Held → Share
@@ -102,7 +117,7 @@ shareOf c = shareIn (c .base) (heldOf c)
 
 -- a controller that is neither tracked nor suspended, and has no queue
 abbrev pub freshController : Controller
-freshController = record { tracking = Off; base = 0; suspended = false; ranges = placed []; queue = queue.Nothing }
+freshController = record { tracking = Off; manager = 0; base = 0; suspended = false; ranges = placed []; queue = queue.Nothing }
 
 -- the controllers in use
 abbrev pub controllersOf : Device → List Controller
@@ -142,6 +157,8 @@ cleaned s =
       greatest = s .greatest;
       powers = s .powers;
       limit = s .limit;
+      second = s .second;
+      shelf = s .shelf;
       count = s .count;
       identifiers = identifiersOf s ++ replicate (length (s .identifiers) - s .count) 0;
     }
@@ -151,7 +168,7 @@ freshDevice s = record { settings = cleaned s; controllers = replicate 8 freshCo
 
 -- the device of a refused fresh: all zeros, which no settings rule passes
 abbrev pub closedSettings : Settings
-closedSettings = record { manager = 0; least = 0; greatest = 0; powers = false; limit = 0; count = 0; identifiers = replicate 8 0 }
+closedSettings = record { manager = 0; least = 0; greatest = 0; powers = false; limit = 0; second = second.Nothing; shelf = 0; count = 0; identifiers = replicate 8 0 }
 
 abbrev pub closedDevice : Device
 closedDevice = record { settings = closedSettings; controllers = replicate 8 freshController; sequence = Nothing }

@@ -13,7 +13,7 @@ use Rattle.rules.specs.Units.{Unit, covers, touches, units}
 use Rattle.rules.specs.StartData.{granularityOf, rangesOf}
 use Rattle.rules.specs.Report.{Descriptor, rangeOf}
 use Rattle.rules.specs.Queue.{entryBytes, closingEntry, Queued}
-use Rattle.rules.specs.Order.{QueueCall, make, post, take, Op, start, stop, write, receive, suspend, resume, part, queue, isFirst, isLast}
+use Rattle.rules.specs.Order.{QueueCall, make, post, take, Op, start, stop, write, receive, suspend, resume, part, queue, Part, isFirst, isLast}
 use Rattle.rules.specs.Machine.{Answer, refused, done, wrote, reported, assembled, posted, taken, reportOf, stoppedOf, entriesOf, Call, Event, Marks, off, on, Slot}
 use Rattle.rules.specs.declared.Range.{Range}
 
@@ -44,22 +44,22 @@ isAccepted (taken es b) = true
 
 abbrev pub writes : Op → Unit → Bool
 writes (write w) u = touches w u
-writes (start x) u = false
-writes stop u = false
-writes (receive x) u = false
-writes (suspend kind) u = false
-writes resume u = false
-writes (part p) u = false
+writes (start m x) u = false
+writes (stop m) u = false
+writes (receive m x) u = false
+writes (suspend m kind) u = false
+writes (resume m) u = false
+writes (part m p) u = false
 writes (queue bytes k) u = false
 
 abbrev pub starts : Op → Bool
-starts (start x) = true
-starts stop = false
+starts (start m x) = true
+starts (stop m) = false
 starts (write w) = false
-starts (receive x) = false
-starts (suspend kind) = false
-starts resume = false
-starts (part p) = false
+starts (receive m x) = false
+starts (suspend m kind) = false
+starts (resume m) = false
+starts (part m p) = false
 starts (queue bytes k) = false
 
 -- an accepted write touched the unit
@@ -108,27 +108,41 @@ toldBy f x (d ∷ h) = toldBy f (cond (isAccepted (d .answer)) (f x (d .op)) x) 
 
 -- with what granularity and ranges it is tracked: those of the last accepted start, unless a stop was accepted after it
 abbrev pub tracksAfter : Option (ℕ × List Range) → Op → Option (ℕ × List Range)
-tracksAfter t (start x) = some (granularityOf x, rangesOf x)
-tracksAfter t stop = none
+tracksAfter t (start m x) = some (granularityOf x, rangesOf x)
+tracksAfter t (stop m) = none
 tracksAfter t (write w) = t
-tracksAfter t (receive x) = t
-tracksAfter t (suspend kind) = t
-tracksAfter t resume = t
-tracksAfter t (part p) = t
+tracksAfter t (receive m x) = t
+tracksAfter t (suspend m kind) = t
+tracksAfter t (resume m) = t
+tracksAfter t (part m p) = t
 tracksAfter t (queue bytes k) = t
 
 abbrev pub tracksBy : Option (ℕ × List Range) → List Did → Option (ℕ × List Range)
 tracksBy t h = toldBy tracksAfter t h
 
+-- W12: by which manager, 0 where by none
+abbrev pub managesAfter : ℕ → Op → ℕ
+managesAfter t (start m x) = m
+managesAfter t (stop m) = 0
+managesAfter t (write w) = t
+managesAfter t (receive m x) = t
+managesAfter t (suspend m kind) = t
+managesAfter t (resume m) = t
+managesAfter t (part m p) = t
+managesAfter t (queue bytes k) = t
+
+abbrev pub managerBy : List Did → ℕ
+managerBy h = toldBy managesAfter 0 h
+
 -- whether it is suspended: by the last accepted suspend of type 1 or resume
 abbrev pub suspendsAfter : Bool → Op → Bool
-suspendsAfter b (suspend kind) = b || eqb kind 1
-suspendsAfter b resume = false
-suspendsAfter b (start x) = b
-suspendsAfter b stop = b
+suspendsAfter b (suspend m kind) = b || eqb kind 1
+suspendsAfter b (resume m) = false
+suspendsAfter b (start m x) = b
+suspendsAfter b (stop m) = b
 suspendsAfter b (write w) = b
-suspendsAfter b (receive x) = b
-suspendsAfter b (part p) = b
+suspendsAfter b (receive m x) = b
+suspendsAfter b (part m p) = b
 suspendsAfter b (queue bytes k) = b
 
 abbrev pub suspendedBy : Bool → List Did → Bool
@@ -136,27 +150,30 @@ suspendedBy b h = toldBy suspendsAfter b h
 
 -- W6: whether a state of its own is under way: from an accepted part that is not the last one on, until a last or only one or a resume is accepted
 abbrev pub opensAfter : Bool → Op → Bool
-opensAfter b (part p) = not (isLast p)
-opensAfter b resume = false
-opensAfter b (start x) = b
-opensAfter b stop = b
+opensAfter b (part m p) = not (isLast p)
+opensAfter b (resume m) = false
+opensAfter b (start m x) = b
+opensAfter b (stop m) = b
 opensAfter b (write w) = b
-opensAfter b (receive x) = b
-opensAfter b (suspend kind) = b
+opensAfter b (receive m x) = b
+opensAfter b (suspend m kind) = b
 opensAfter b (queue bytes k) = b
 
 abbrev pub openBy : List Did → Bool
 openBy h = toldBy opensAfter false h
 
 -- and its bytes so far: the data of the accepted parts since and with the last accepted first or only one, joined
+abbrev pub joinsWith : List ℕ → Part → List ℕ
+joinsWith x p = cond (isFirst p) (p .bytes) (x ++ p .bytes)
+
 abbrev pub joinsAfter : List ℕ → Op → List ℕ
-joinsAfter x (part p) = cond (isFirst p) (p .bytes) (x ++ p .bytes)
-joinsAfter x (start y) = x
-joinsAfter x stop = x
+joinsAfter x (part m p) = joinsWith x p
+joinsAfter x (start m y) = x
+joinsAfter x (stop m) = x
 joinsAfter x (write w) = x
-joinsAfter x (receive y) = x
-joinsAfter x (suspend kind) = x
-joinsAfter x resume = x
+joinsAfter x (receive m y) = x
+joinsAfter x (suspend m kind) = x
+joinsAfter x (resume m) = x
 joinsAfter x (queue bytes k) = x
 
 abbrev pub joinedBy : List Did → List ℕ
@@ -170,13 +187,13 @@ frontBy h = cond (openBy h) (some (joinedBy h)) none
 -- what a call to its queue makes of something; any other call leaves that
 abbrev pub onQueue : {A : Type 0} → (A → ℕ → QueueCall → Answer → A) → A → Op → Answer → A
 onQueue f x (queue bytes k) a = f x bytes k a
-onQueue f x (start y) a = x
-onQueue f x stop a = x
+onQueue f x (start m y) a = x
+onQueue f x (stop m) a = x
 onQueue f x (write w) a = x
-onQueue f x (receive y) a = x
-onQueue f x (suspend kind) a = x
-onQueue f x resume a = x
-onQueue f x (part p) a = x
+onQueue f x (receive m y) a = x
+onQueue f x (suspend m kind) a = x
+onQueue f x (resume m) a = x
+onQueue f x (part m p) a = x
 
 -- what its accepted calls, with their answers, make of something, one after another
 abbrev pub loggedBy : {A : Type 0} → (A → ℕ → QueueCall → Answer → A) → A → List Did → A
@@ -233,4 +250,4 @@ marksBy h none = off
 marksBy h (some t) = on (t .0) (t .1) (map (pendingBy h) (units (t .0) (t .1)))
 
 abbrev pub slotBy : List Did → Slot
-slotBy h = record { suspended = suspendedBy false h; marks = marksBy h (tracksBy none h); front = frontBy h; queue = queueBy h }
+slotBy h = record { suspended = suspendedBy false h; manager = managerBy h; marks = marksBy h (tracksBy none h); front = frontBy h; queue = queueBy h }

@@ -10,7 +10,6 @@ pub mod ControllerState
 pub mod Queue
 pub mod Order
 pub mod Device
-pub mod Shelf
 pub mod Machine
 pub mod History
 pub mod Demands

@@ -15,7 +15,7 @@ use Rattle.rules.specs.StartData.{granularityOf, rangesOf}
 use Rattle.rules.specs.Report.{Report, room, reportOn, marksLeft, reportBytes}
 use Rattle.rules.specs.Queue.{joined, Queued, madeOf, closesAt, postedTo, takenOf, closesWith, takenFrom}
 use Rattle.rules.specs.Order.{QueueCall, make, post, take, Op, start, stop, write, receive, suspend, resume, part, queue, Part, isLast, joinedWith, Seen, Arriving, freshOrder, order}
-use Rattle.rules.specs.Device.{Held, heldCount, heldUnits, frontOk, sound, cleaned, closedSettings}
+use Rattle.rules.specs.Device.{Held, heldCount, countsBy, heldUnits, frontOk, sound, cleaned, closedSettings}
 use Rattle.rules.specs.declared.Range.{Range}
 use Rattle.rules.specs.declared.Settings.{Settings}
 
@@ -26,47 +26,52 @@ pub data Marks : Type 0 where
   off : Marks
   on : ℕ → List Range → List Bool → Marks
 
--- suspended or running, how it is tracked, the bytes so far of a state of its own that arrives in parts (W6), if one does, and its queue (W8), if it has one
+-- suspended or running, how it is tracked and by which manager (W12), which is 0 where it is not, the bytes so far of a state of its own that arrives in parts (W6), if one
+-- does, and its queue (W8), if it has one
 pub record Slot : Type 0 where
   pub suspended : Bool
+  pub manager : ℕ
   pub marks : Marks
   pub front : Option (List ℕ)
   pub queue : Option Queued
 
 abbrev pub freshSlot : Slot
-freshSlot = record { suspended = false; marks = off; front = none; queue = none }
+freshSlot = record { suspended = false; manager = 0; marks = off; front = none; queue = none }
 
--- the same slot with other marks, with its flag set or clear, with other bytes so far, and with another queue
+-- the same slot tracked by another manager with other marks, with other marks alone, with its flag set or clear, with other bytes so far, and with another queue
+abbrev pub trackedWith : Slot → ℕ → Marks → Slot
+trackedWith c m t = record { suspended = c .suspended; manager = m; marks = t; front = c .front; queue = c .queue }
+
 abbrev pub withMarksOf : Slot → Marks → Slot
-withMarksOf c t = record { suspended = c .suspended; marks = t; front = c .front; queue = c .queue }
+withMarksOf c t = trackedWith c (c .manager) t
 
 abbrev pub withFlag : Slot → Bool → Slot
-withFlag c b = record { suspended = b; marks = c .marks; front = c .front; queue = c .queue }
+withFlag c b = record { suspended = b; manager = c .manager; marks = c .marks; front = c .front; queue = c .queue }
 
 abbrev pub withFront : Slot → Option (List ℕ) → Slot
-withFront c f = record { suspended = c .suspended; marks = c .marks; front = f; queue = c .queue }
+withFront c f = record { suspended = c .suspended; manager = c .manager; marks = c .marks; front = f; queue = c .queue }
 
 abbrev pub withQueued : Slot → Option Queued → Slot
-withQueued c q = record { suspended = c .suspended; marks = c .marks; front = c .front; queue = q }
+withQueued c q = record { suspended = c .suspended; manager = c .manager; marks = c .marks; front = c .front; queue = q }
 
 abbrev pub isSuspended : Slot → Bool
 isSuspended c = c .suspended
 
--- whether it is tracked
-abbrev pub areOn : Marks → Bool
-areOn off = false
-areOn (on g rs p) = true
+-- the manager that tracks it, if one does
+abbrev pub trackerOn : ℕ → Marks → Option ℕ
+trackerOn m off = none
+trackerOn m (on g rs p) = some m
 
-abbrev pub isTracked : Slot → Bool
-isTracked c = areOn (c .marks)
+abbrev pub trackerIn : Slot → Option ℕ
+trackerIn c = trackerOn (c .manager) (c .marks)
 
 -- what it holds
-abbrev pub heldOn : Marks → Option Held
-heldOn off = none
-heldOn (on g rs p) = some (record { granularity = g; count = length rs; ranges = rs })
+abbrev pub heldOn : ℕ → Marks → Option Held
+heldOn m off = none
+heldOn m (on g rs p) = some (record { manager = m; granularity = g; count = length rs; ranges = rs })
 
 abbrev pub heldBy : Slot → Option Held
-heldBy c = heldOn (c .marks)
+heldBy c = heldOn (c .manager) (c .marks)
 
 -- whether a state of its own is under way, and whether that is as it may be: of a suspended controller, and as long as parts can be
 abbrev pub isOpen : Slot → Bool
@@ -150,13 +155,13 @@ leaving c r = (r .0, withMarksOf c (r .1))
 
 -- what a call that is not refused answers and leaves
 abbrev pub accepted : Slot → Op → Answer × Slot
-accepted c (start x) = (done, withMarksOf c (on (granularityOf x) (rangesOf x) (clear (units (granularityOf x) (rangesOf x)))))
-accepted c stop = (done, withMarksOf c off)
+accepted c (start m x) = (done, trackedWith c m (on (granularityOf x) (rangesOf x) (clear (units (granularityOf x) (rangesOf x)))))
+accepted c (stop m) = (done, trackedWith c 0 off)
 accepted c (write w) = leaving c (wroteIn w (c .marks))
-accepted c (receive x) = leaving c (reportedIn (c .suspended) (length x) (c .marks))
-accepted c (suspend kind) = (done, withFlag c (c .suspended || eqb kind 1))
-accepted c resume = (done, withFront (withFlag c false) none)
-accepted c (part p) = ((arrivedIn p (c .front)) .0, withFront c ((arrivedIn p (c .front)) .1))
+accepted c (receive m x) = leaving c (reportedIn (c .suspended) (length x) (c .marks))
+accepted c (suspend m kind) = (done, withFlag c (c .suspended || eqb kind 1))
+accepted c (resume m) = (done, withFront (withFlag c false) none)
+accepted c (part m p) = ((arrivedIn p (c .front)) .0, withFront c ((arrivedIn p (c .front)) .1))
 accepted c (queue bytes k) = ((queueIn bytes k (c .queue)) .0, withQueued c ((queueIn bytes k (c .queue)) .1))
 
 -- a refused call leaves the slot as it was
@@ -185,7 +190,10 @@ fresh s words = verdict (freshOrder s words) (opened s) (λ n i. closed)
 abbrev pub soundState : State → Bool
 soundState st = sound (st .settings) (map heldBy (st .slots)) (not (st .amiss) && all openOk (st .slots))
 
--- the counts of all controllers now tracked
+-- the counts of the controllers now tracked by a manager, and of all
+abbrev pub managedIn : State → ℕ → ℕ
+managedIn st m = countsBy m (map heldBy (st .slots))
+
 abbrev pub countsIn : State → ℕ
 countsIn st = sum (map heldCount (map heldBy (st .slots)))
 
@@ -213,9 +221,10 @@ seenAt st i =
       sound = soundState st;
       known = isSome i;
       suspended = isSuspended (slotAt st i);
-      tracked = isTracked (slotAt st i);
+      tracker = trackerIn (slotAt st i);
       places = placesIn (slotAt st i .queue);
       stopped = stoppedIn (slotAt st i .queue);
+      managed = managedIn st;
       counts = countsIn st;
       units = unitsIn st;
     }
@@ -266,13 +275,13 @@ lentTo (post e) = e
 lentTo (take asked x) = x
 
 abbrev pub lent : Op → List ℕ
-lent (start x) = x
-lent stop = []
+lent (start m x) = x
+lent (stop m) = []
 lent (write w) = []
-lent (receive x) = x
-lent (suspend kind) = []
-lent resume = []
-lent (part p) = p .bytes
+lent (receive m x) = x
+lent (suspend m kind) = []
+lent (resume m) = []
+lent (part m p) = p .bytes
 lent (queue bytes k) = lentTo k
 
 -- lent bytes after an answer to a controller's call: a report, and entries that were taken, are stored at the buffer's front, all else is as it was

@@ -8,7 +8,7 @@ use lib.Dec.{leb, ltb, eqb}
 use lib.ListN.{length}
 use Rattle.rules.specs.Lists.{isSome}
 use Rattle.rules.specs.Refusals.{Test, _else_}
-use Rattle.rules.specs.Settings.{markWords, mostUnits, mostNotes, settingsOk, granularityOk}
+use Rattle.rules.specs.Settings.{markWords, mostUnits, mostNotes, settingsOk, isManager, limitOf, granularityOk}
 use Rattle.rules.specs.Units.{Write, units}
 use Rattle.rules.specs.Ranges.{listTests}
 use Rattle.rules.specs.StartData.{headerTests, rangesThere, granularityOf, countOf, rangesOf}
@@ -30,28 +30,29 @@ pub data QueueCall : Type 0 where
   post : List ℕ → QueueCall
   take : ℕ → List ℕ → QueueCall
 
--- a call to one controller, with the bytes that are lent with it: a start structure, a report's buffer, a part's data, or an entry or a buffer of a queue's call, which
--- also lends so many bytes of the queue's area
+-- a call to one controller. Commands of a manager name it first (W12); a controller's write and a call to its queue name none. Then come the bytes that are lent with the
+-- call: a start structure, a report's buffer, a part's data, or an entry or a buffer of a queue's call, which also lends so many bytes of the queue's area
 pub data Op : Type 0 where
-  start : List ℕ → Op
-  stop : Op
+  start : ℕ → List ℕ → Op
+  stop : ℕ → Op
   write : Write → Op
-  receive : List ℕ → Op
-  suspend : ℕ → Op
-  resume : Op
-  part : Part → Op
+  receive : ℕ → List ℕ → Op
+  suspend : ℕ → ℕ → Op
+  resume : ℕ → Op
+  part : ℕ → Part → Op
   queue : ℕ → QueueCall → Op
 
--- what a call sees of its device: whether the record is sound and the marks are there, whether the identifier is in the settings (the manager's
--- own never is in sound ones), how its controller stands, how many places its queue has, if there is one, and whether that has stopped (W8), and the counts of all
--- controllers now tracked, and their different units (W7), together
+-- what a call sees of its device: whether the record is sound and the marks are there, whether the identifier is in the settings (a manager's
+-- own never is in sound ones), whether its controller is suspended, which manager tracks it, if one does (W12), how many places its queue has, if there is one, and whether
+-- that has stopped (W8); and of the controllers now tracked, together, the counts of those that a manager tracks (W12), the counts of all, and their different units (W7)
 pub record Seen : Type 0 where
   pub sound : Bool
   pub known : Bool
   pub suspended : Bool
-  pub tracked : Bool
+  pub tracker : Option ℕ
   pub places : Option ℕ
   pub stopped : Bool
+  pub managed : ℕ → ℕ
   pub counts : ℕ
   pub units : ℕ
 
@@ -68,15 +69,16 @@ freshOrder s words =
     ∷ (eqb words markWords else 1)
     ∷ []
 
--- ---- start, in parts that follow one another
+-- ---- start by a manager, in parts that follow one another
 
--- the controller: running, and not tracked yet
-abbrev pub startWho : Seen → List Test
-startWho v =
+-- the controller: running, and tracked by no manager yet
+abbrev pub startWho : Settings → ℕ → Seen → List Test
+startWho s m v =
     (v .sound else 1)
+    ∷ (isManager s m else 2)
     ∷ (v .known else 2)
     ∷ (not (v .suspended) else 4)
-    ∷ (not (v .tracked) else 3)
+    ∷ (not (isSome (v .tracker)) else 3)
     ∷ []
 
 -- the structure behind its header, by itself: 7, 8 (listed ranges), 18 to 21 with their rows (W3), 10
@@ -87,27 +89,36 @@ startListed s x =
     ∷ listTests s (granularityOf x) (countOf x) (rangesOf x)
 
 -- what concerns the controller alone
-abbrev pub startOwn : Settings → Seen → List ℕ → List Test
-startOwn s v x = startWho v ++ (headerTests x ++ startListed s x)
+abbrev pub startOwn : Settings → ℕ → Seen → List ℕ → List Test
+startOwn s m v x = startWho s m v ++ (headerTests x ++ startListed s x)
 
--- what controllers share, with so many counts and units tracked now: 11, "exactly if the request and all tracked units together pass 16,384" (W7), and 12
-abbrev pub startShared : Settings → ℕ → ℕ → List ℕ → List Test
-startShared s counts held x =
+-- what controllers share, with so many units tracked now, so many counts by that manager and so many by all: 11, "exactly if the request and all tracked units together
+-- pass 16,384" (W7), 12, "exactly if the request and that manager's tracked counts together pass its limit", and 34, "exactly if the request and both managers' tracked
+-- counts together pass the shelf's" (W12)
+abbrev pub startShared : Settings → ℕ → ℕ → ℕ → ℕ → List ℕ → List Test
+startShared s m held managed counts x =
     (leb (length (units (granularityOf x) (rangesOf x)) + held) mostUnits else 11)
-    ∷ (leb (countOf x + counts) (s .limit) else 12)
+    ∷ (leb (countOf x + managed) (limitOf s m) else 12)
+    ∷ (leb (countOf x + counts) (s .shelf) else 34)
     ∷ []
 
-abbrev pub startOrder : Settings → Seen → List ℕ → List Test
-startOrder s v x = startOwn s v x ++ startShared s (v .counts) (v .units) x
+abbrev pub startOrder : Settings → ℕ → Seen → List ℕ → List Test
+startOrder s m v x = startOwn s m v x ++ startShared s m (v .units) (v .managed m) (v .counts) x
 
 -- ---- the other calls
 
-abbrev pub stopOrder : Seen → List Test
-stopOrder v =
+-- whether it is that manager who tracks
+abbrev pub isTracker : ℕ → Option ℕ → Bool
+isTracker m none = false
+isTracker m (some t) = eqb t m
+
+abbrev pub stopOrder : Settings → ℕ → Seen → List Test
+stopOrder s m v =
     (v .sound else 1)
+    ∷ (isManager s m else 2)
     ∷ (v .known else 2)
     ∷ (not (v .suspended) else 4)
-    ∷ (v .tracked else 5)
+    ∷ (isTracker m (v .tracker) else 5)
     ∷ []
 
 -- Write. It ends at most at 2^64
@@ -127,24 +138,28 @@ batchOrder sound total =
     ∷ []
 
 -- Receive, into a buffer
-abbrev pub receiveOrder : Seen → List ℕ → List Test
-receiveOrder v x =
+abbrev pub receiveOrder : Settings → ℕ → Seen → List ℕ → List Test
+receiveOrder s m v x =
     (v .sound else 1)
+    ∷ (isManager s m else 2)
     ∷ (v .known else 2)
-    ∷ (v .tracked else 5)
+    ∷ (isTracker m (v .tracker) else 5)
     ∷ (leb 32 (length x) else 8)
     ∷ []
 
-abbrev pub suspendOrder : Seen → ℕ → List Test
-suspendOrder v kind =
+-- W12: suspension belongs to the controller, whichever manager asks
+abbrev pub suspendOrder : Settings → ℕ → Seen → ℕ → List Test
+suspendOrder s m v kind =
     (v .sound else 1)
+    ∷ (isManager s m else 2)
     ∷ (v .known else 2)
     ∷ (leb kind 1 else 15)
     ∷ []
 
-abbrev pub resumeOrder : Seen → List Test
-resumeOrder v =
+abbrev pub resumeOrder : Settings → ℕ → Seen → List Test
+resumeOrder s m v =
     (v .sound else 1)
+    ∷ (isManager s m else 2)
     ∷ (v .known else 2)
     ∷ (v .suspended else 13)
     ∷ []
@@ -211,9 +226,10 @@ partTests a p =
     ∷ (joinedOk (a .front) p else 27)
     ∷ []
 
-abbrev pub partOrder : Seen → Arriving → Part → List Test
-partOrder v a p =
+abbrev pub partOrder : Settings → ℕ → Seen → Arriving → Part → List Test
+partOrder s m v a p =
     (v .sound && a .area else 1)
+    ∷ (isManager s m else 2)
     ∷ (v .known else 2)
     ∷ (v .suspended else 13)
     ∷ partTests a p
@@ -249,11 +265,11 @@ queueOrder v bytes c =
 
 -- the table of a call
 unfoldable pub order : Settings → Seen → Arriving → Op → List Test
-order s v a (start x) = startOrder s v x
-order s v a stop = stopOrder v
+order s v a (start m x) = startOrder s m v x
+order s v a (stop m) = stopOrder s m v
 order s v a (write w) = writeOrder v w
-order s v a (receive x) = receiveOrder v x
-order s v a (suspend kind) = suspendOrder v kind
-order s v a resume = resumeOrder v
-order s v a (part p) = partOrder v a p
+order s v a (receive m x) = receiveOrder s m v x
+order s v a (suspend m kind) = suspendOrder s m v kind
+order s v a (resume m) = resumeOrder s m v
+order s v a (part m p) = partOrder s m v a p
 order s v a (queue bytes c) = queueOrder v bytes c

@@ -1,5 +1,5 @@
--- Document 01, "Settled by worked numbers": the marked cases (*), in their order, as one table of sessions with the answers that the document gives; then
--- the numbers and rows of document 02, W3, parts of states, W6, and reports with their groups, W10; states of controllers as W6 judges them; and groups of W10.
+-- Document 01, "Settled by worked numbers": the marked cases (*), in their order, as one table of sessions with the answers that the document gives; then of document 02
+-- the numbers and rows of W3, parts of states, W6, queues, W8, reports with their groups, W10, and two managers, W12; states of controllers as W6 judges them; and groups of W10.
 -- That the rules give these answers is a claim for each table, `Worked`, `WorkedStates` and `WorkedGroups`, proved by computing (proofs/Theorems.antt).
 use Prim.Native.Nat.{ℕ, zero, suc, _+_, _-_, _^_}
 use mathlib.Core.Path.{_≡_}
@@ -14,6 +14,7 @@ use Rattle.rules.specs.Order.{start, stop, write, receive, suspend, resu
 use Rattle.rules.specs.Order as order
 use Rattle.rules.specs.Machine.{Answer, refused, done, wrote, reported, assembled, posted, taken, Call, Event, events, fresh}
 use Rattle.rules.specs.declared.Range.{Range}
+use Rattle.rules.specs.declared.Second.the-variants.{Nothing, Is}
 use Rattle.rules.specs.declared.Settings.{Settings}
 
 -- ---- words for the table
@@ -26,28 +27,47 @@ abbrev singles : ℕ → ℕ → List Range
 singles a zero = []
 singles a (suc n) = range a 1 ∷ singles (a + 4096) n
 
--- calls to controller 5, and to controller 6
+-- calls by manager 1 to controller 5, and to controller 6
 abbrev starts : ℕ → List Range → Call
-starts g rs = record { id = 5; op = start (startBytes g rs) }
+starts g rs = record { id = 5; op = start 1 (startBytes g rs) }
 
 abbrev otherStarts : ℕ → List Range → Call
-otherStarts g rs = record { id = 6; op = start (startBytes g rs) }
+otherStarts g rs = record { id = 6; op = start 1 (startBytes g rs) }
 
 abbrev writes : ℕ → ℕ → Call
 writes a n = record { id = 5; op = write (record { address = a; bytes = n }) }
 
 abbrev receives : ℕ → Call
-receives bytes = record { id = 5; op = receive (replicate bytes 0) }
+receives bytes = record { id = 5; op = receive 1 (replicate bytes 0) }
 
 -- W6: calls to a controller: suspended, resumed, and sent a part by its indicator, offset, count of dwords and data
 abbrev suspends : ℕ → Call
-suspends id = record { id = id; op = suspend 1 }
+suspends id = record { id = id; op = suspend 1 1 }
 
 abbrev resumes : ℕ → Call
-resumes id = record { id = id; op = resume }
+resumes id = record { id = id; op = resume 1 }
 
 abbrev sends : ℕ → ℕ → ℕ → ℕ → List ℕ → Call
-sends id indicator offset count bytes = record { id = id; op = part (record { indicator = indicator; low = offset; high = 0; count = count; bytes = bytes }) }
+sends id indicator offset count bytes = record { id = id; op = part 1 (record { indicator = indicator; low = offset; high = 0; count = count; bytes = bytes }) }
+
+-- W12: a manager starts a controller with n ranges of one unit each, stops it, asks for its report into so many bytes, suspends and resumes it
+abbrev startsBy : ℕ → ℕ → ℕ → Call
+startsBy m id n = record { id = id; op = start m (startBytes 0 (singles 0 n)) }
+
+abbrev stopsBy : ℕ → ℕ → Call
+stopsBy m id = record { id = id; op = stop m }
+
+abbrev receivesBy : ℕ → ℕ → ℕ → Call
+receivesBy m id bytes = record { id = id; op = receive m (replicate bytes 0) }
+
+abbrev suspendsBy : ℕ → ℕ → Call
+suspendsBy m id = record { id = id; op = suspend m 1 }
+
+abbrev resumesBy : ℕ → ℕ → Call
+resumesBy m id = record { id = id; op = resume m }
+
+abbrev sendsBy : ℕ → ℕ → Call
+sendsBy m id = record { id = id; op = part m (record { indicator = 3; low = 0; high = 0; count = 12; bytes = replicate 48 0 }) }
 
 -- W8: calls to a controller's queue: it is made, posted to and taken from, with so many bytes of its area
 abbrev makes : ℕ → ℕ → Call
@@ -89,15 +109,51 @@ run a n = record { address = a; length = n }
 abbrev usual : Call
 usual = starts 0 (range 65536 4 ∷ [])
 
+-- ---- settings
+
+-- those of document 01's example: `dev 1 0 8 RULE 16 5 6`
+abbrev settings : Bool → Settings
+settings powers =
+    record {
+      manager = 1;
+      least = 0;
+      greatest = 8;
+      powers = powers;
+      limit = 16;
+      second = Nothing;
+      shelf = 128;
+      count = 2;
+      identifiers = 5 ∷ 6 ∷ 0 ∷ 0 ∷ 0 ∷ 0 ∷ 0 ∷ 0 ∷ [];
+    }
+
+-- W12: manager 1 with limit 16 and 2 with limit 4, the shelf's 18, controllers 5, 6 and 7
+abbrev twoManagers : Settings
+twoManagers =
+    record {
+      manager = 1;
+      least = 0;
+      greatest = 8;
+      powers = false;
+      limit = 16;
+      second = Is 2 4;
+      shelf = 18;
+      count = 3;
+      identifiers = 5 ∷ 6 ∷ 7 ∷ 0 ∷ 0 ∷ 0 ∷ 0 ∷ 0 ∷ [];
+    }
+
+-- one manager with limit 16, the shelf's 3
+abbrev smallShelf : Settings
+smallShelf = record { manager = 1; least = 0; greatest = 8; powers = false; limit = 16; second = Nothing; shelf = 3; count = 2; identifiers = 5 ∷ 6 ∷ 0 ∷ 0 ∷ 0 ∷ 0 ∷ 0 ∷ 0 ∷ [] }
+
 -- ---- the table
 
 pub record Case : Type 0 where
-  pub powers : Bool
+  pub settings : Settings
   pub calls : List Call
   pub answers : List Answer
 
 abbrev case : List Call → List Answer → Case
-case ks as′ = record { powers = false; calls = ks; answers = as′ }
+case ks as′ = record { settings = settings false; calls = ks; answers = as′ }
 
 unfoldable pub cases : List Case
 cases =
@@ -120,7 +176,7 @@ cases =
     ∷ case (starts 0 (range 65536 1 ∷ range 69632 1 ∷ []) ∷ writes 65536 8192 ∷ receives 64 ∷ [])
     (done ∷ wrote 2 ∷ report false (run 65536 1 ∷ run 69632 1 ∷ []) ∷ [])
     -- power-of-two rule on: length 3 is refusal 10, length 4 allowed
-    ∷ record { powers = true; calls = starts 0 (range 65536 3 ∷ []) ∷ usual ∷ []; answers = refused 10 0 ∷ done ∷ [] }
+    ∷ record { settings = settings true; calls = starts 0 (range 65536 3 ∷ []) ∷ usual ∷ []; answers = refused 10 0 ∷ done ∷ [] }
     -- limit 16, another controller holds 10: a start with 7 is refusal 12, with 6 done
     ∷ case (otherStarts 0 (singles 0 10) ∷ starts 0 (singles 0 7) ∷ starts 0 (singles 0 6) ∷ []) (done ∷ refused 12 0 ∷ done ∷ [])
     -- W3: no range, and 17 of which the first has no units: 18
@@ -131,17 +187,17 @@ cases =
     -- within a row length 0, unaligned, past the end
     ∷ case (starts 0 (range 4097 0 ∷ []) ∷ starts 0 (range (2 ^ 64 - 1) 0 ∷ []) ∷ starts 0 (range (2 ^ 64 - 1) 1 ∷ []) ∷ []) (refused 19 0 ∷ refused 19 0 ∷ refused 20 0 ∷ [])
     -- all of it before the power-of-two rule, and behind the granularity, which name no row
-    ∷ record { powers = true; calls = starts 0 (range 65536 3 ∷ range 4096 0 ∷ []) ∷ starts 9 (range 0 0 ∷ []) ∷ []; answers = refused 19 1 ∷ refused 7 0 ∷ [] }
+    ∷ record { settings = settings true; calls = starts 0 (range 65536 3 ∷ range 4096 0 ∷ []) ∷ starts 9 (range 0 0 ∷ []) ∷ []; answers = refused 19 1 ∷ refused 7 0 ∷ [] }
     -- W7: 16,384 units in all, whoever has them: 11 before 12, and none after a stop
     ∷ case
-    (starts 0 (range 0 16384 ∷ range 0 16384 ∷ []) ∷ otherStarts 0 (range 0 1 ∷ []) ∷ otherStarts 0 (singles 0 16) ∷ record { id = 5; op = stop } ∷ otherStarts 0 (range 0 16384 ∷ []) ∷ [])
+    (starts 0 (range 0 16384 ∷ range 0 16384 ∷ []) ∷ otherStarts 0 (range 0 1 ∷ []) ∷ otherStarts 0 (singles 0 16) ∷ record { id = 5; op = stop 1 } ∷ otherStarts 0 (range 0 16384 ∷ []) ∷ [])
     (done ∷ refused 11 0 ∷ refused 11 0 ∷ done ∷ done ∷ [])
     ∷ case (starts 0 (range 0 16385 ∷ []) ∷ starts 0 (range 0 4097 ∷ []) ∷ otherStarts 0 (range 0 12288 ∷ []) ∷ otherStarts 0 (range 0 12287 ∷ []) ∷ [])
     (refused 11 0 ∷ done ∷ refused 11 0 ∷ done ∷ [])
     -- tracked units are different ones too: those of ranges listed twice count once
     ∷ case (starts 0 (range 0 8192 ∷ range 0 8192 ∷ []) ∷ otherStarts 0 (range 0 8193 ∷ []) ∷ otherStarts 0 (range 0 8192 ∷ []) ∷ []) (done ∷ refused 11 0 ∷ done ∷ [])
     -- the room of one that stopped is used again, in front of another
-    ∷ case (starts 0 (range 0 8192 ∷ []) ∷ otherStarts 0 (range 0 8192 ∷ []) ∷ record { id = 5; op = stop } ∷ starts 0 (range 0 8193 ∷ []) ∷ starts 0 (range 0 8192 ∷ []) ∷ [])
+    ∷ case (starts 0 (range 0 8192 ∷ []) ∷ otherStarts 0 (range 0 8192 ∷ []) ∷ record { id = 5; op = stop 1 } ∷ starts 0 (range 0 8193 ∷ []) ∷ starts 0 (range 0 8192 ∷ []) ∷ [])
     (done ∷ done ∷ done ∷ refused 11 0 ∷ done ∷ [])
     -- W6: 13 for one that runs; a header alone is a state, and 4 bytes less or more are none
     ∷ case (sends 5 3 0 12 (zeros 48) ∷ suspends 5 ∷ sends 5 3 0 12 (zeros 48) ∷ sends 5 3 0 11 (zeros 44) ∷ sends 5 3 0 13 (zeros 52) ∷ [])
@@ -153,7 +209,7 @@ cases =
     -- 24: bits 1:0, past the area, a high word; before 25
     ∷ case
     (suspends 5 ∷ sends 5 1 2 1 (zeros 4) ∷ sends 5 1 4100 1 (zeros 4) ∷ sends 5 4 2 1 (zeros 4)
-    ∷ record { id = 5; op = part (record { indicator = 1; low = 0; high = 1; count = 1; bytes = zeros 4 }) } ∷ [])
+    ∷ record { id = 5; op = part 1 (record { indicator = 1; low = 0; high = 1; count = 1; bytes = zeros 4 }) } ∷ [])
     (done ∷ refused 24 0 ∷ refused 24 0 ∷ refused 24 0 ∷ refused 24 0 ∷ [])
     -- 25: an indicator above 3, no dwords but in a last part, data that are not the counted dwords; before 26
     ∷ case
@@ -173,7 +229,7 @@ cases =
     ∷ case (sends 9 3 0 12 (zeros 48) ∷ suspends 5 ∷ sends 5 1 0 4 (zeros 16) ∷ sends 6 1 0 1 (zeros 4) ∷ sends 5 1 4 1024 (zeros 4096) ∷ [])
     (refused 2 0 ∷ done ∷ done ∷ refused 13 0 ∷ refused 26 0 ∷ [])
     -- a suspend of its owner leaves it, of either type
-    ∷ case (suspends 5 ∷ sends 5 1 0 4 (zeros 16) ∷ suspends 5 ∷ record { id = 5; op = suspend 0 } ∷ sends 5 0 16 1 (zeros 4) ∷ []) (done ∷ done ∷ done ∷ done ∷ done ∷ [])
+    ∷ case (suspends 5 ∷ sends 5 1 0 4 (zeros 16) ∷ suspends 5 ∷ record { id = 5; op = suspend 1 0 } ∷ sends 5 0 16 1 (zeros 4) ∷ []) (done ∷ done ∷ done ∷ done ∷ done ∷ [])
     -- a refused only part leaves what is open; an accepted one begins anew and ends it
     ∷ case
     (suspends 5 ∷ sends 5 1 0 5 (zeros 20) ∷ sends 5 3 0 12 (with 48 1 1) ∷ sends 5 2 20 7 (zeros 28) ∷ sends 5 1 0 1 (replicate 4 238) ∷ sends 5 3 0 12 (zeros 48) ∷ sends 5 2 48 0 [] ∷ [])
@@ -204,32 +260,40 @@ cases =
     (refused 28 0 ∷ refused 29 0 ∷ refused 29 0 ∷ refused 28 0 ∷ refused 29 0 ∷ done ∷ refused 28 0 ∷ refused 28 0 ∷ refused 28 0 ∷ [])
     -- 2 for one that the settings lack; each controller has its own; tracking and suspending leave it
     ∷ case
-    (makes 9 64 ∷ makes 5 96 ∷ posts 5 96 (entry 1) ∷ makes 6 96 ∷ takes 6 96 9 96 ∷ posts 6 96 (entry 2) ∷ usual ∷ suspends 5 ∷ posts 5 96 (entry 3) ∷ resumes 5 ∷ record { id = 5; op = stop } ∷ takes 5 96 9 96 ∷ [])
+    (makes 9 64 ∷ makes 5 96 ∷ posts 5 96 (entry 1) ∷ makes 6 96 ∷ takes 6 96 9 96 ∷ posts 6 96 (entry 2) ∷ usual ∷ suspends 5 ∷ posts 5 96 (entry 3) ∷ resumes 5 ∷ record { id = 5; op = stop 1 } ∷ takes 5 96 9 96 ∷ [])
     (refused 2 0 ∷ done ∷ posted false ∷ done ∷ taken [] false ∷ posted false ∷ done ∷ done ∷ posted false ∷ done ∷ done ∷ taken (entry 1 ∷ entry 3 ∷ []) false ∷ [])
     -- W10: 200 units, of which 0, 70 and 130 are pending, with room for one run
     ∷ case
     (starts 0 (range 65536 200 ∷ []) ∷ writes 65536 1 ∷ writes 352256 1 ∷ writes 598016 1 ∷ receives 47 ∷ receives 47 ∷ receives 47 ∷ receives 47 ∷ [])
     (done ∷ wrote 1 ∷ wrote 1 ∷ wrote 1 ∷ reportIn 2 true (run 65536 1 ∷ []) ∷ reportIn 3 true (run 352256 1 ∷ []) ∷ reportIn 4 false (run 598016 1 ∷ []) ∷ reportIn 4 false [] ∷ [])
+    -- W12: 3 whoever tracks it, 5 for the other manager, before 8; 2 for one that is no manager, and a manager is no controller
+    ∷ record {
+      settings = twoManagers;
+      calls =
+          startsBy 1 5 10 ∷ startsBy 2 5 1 ∷ startsBy 1 5 1 ∷ stopsBy 2 5 ∷ receivesBy 2 5 16 ∷ receivesBy 1 5 16 ∷ startsBy 3 6 1 ∷ startsBy 5 6 1 ∷ stopsBy 3 5 ∷ receivesBy 3 5 64 ∷ suspendsBy 3 5
+          ∷ resumesBy 3 5 ∷ sendsBy 3 5 ∷ startsBy 1 1 1 ∷ startsBy 1 2 1 ∷ [];
+      answers =
+          done ∷ refused 3 0 ∷ refused 3 0 ∷ refused 5 0 ∷ refused 5 0 ∷ refused 8 0 ∷ refused 2 0 ∷ refused 2 0 ∷ refused 2 0 ∷ refused 2 0 ∷ refused 2 0 ∷ refused 2 0 ∷ refused 2 0
+          ∷ refused 2 0 ∷ refused 2 0 ∷ [];
+    }
+    -- 12 over that manager's counts, then 34 over all; suspension belongs to the controller; what a stop gives back serves both managers
+    ∷ record {
+      settings = twoManagers;
+      calls =
+          startsBy 1 5 10 ∷ startsBy 2 6 5 ∷ startsBy 2 6 4 ∷ startsBy 1 7 7 ∷ startsBy 1 7 5 ∷ startsBy 1 7 4 ∷ suspendsBy 2 5 ∷ stopsBy 1 5 ∷ stopsBy 2 5 ∷ sendsBy 1 5 ∷ resumesBy 1 5 ∷ stopsBy 1 5
+          ∷ startsBy 2 5 10 ∷ startsBy 1 5 10 ∷ [];
+      answers =
+          done ∷ refused 12 0 ∷ done ∷ refused 12 0 ∷ refused 34 0 ∷ done ∷ done ∷ refused 4 0 ∷ refused 4 0 ∷ assembled (zeros 48) ∷ done ∷ done ∷ refused 12 0 ∷ done ∷ [];
+    }
+    -- 34 with one manager
+    ∷ record { settings = smallShelf; calls = startsBy 1 5 4 ∷ startsBy 1 5 3 ∷ startsBy 1 6 1 ∷ []; answers = refused 34 0 ∷ done ∷ refused 34 0 ∷ [] }
     ∷ []
 
 -- ---- the claim
 
--- the settings of document 01's example: `dev 1 0 8 RULE 16 5 6`
-abbrev settings : Bool → Settings
-settings powers =
-    record {
-      manager = 1;
-      least = 0;
-      greatest = 8;
-      powers = powers;
-      limit = 16;
-      count = 2;
-      identifiers = 5 ∷ 6 ∷ 0 ∷ 0 ∷ 0 ∷ 0 ∷ 0 ∷ 0 ∷ [];
-    }
-
 -- what the rules answer
 abbrev pub answered : Case → List Answer
-answered c = map (λ (e : Event). e .answer) (events (fresh (settings (c .powers)) 256) (c .calls))
+answered c = map (λ (e : Event). e .answer) (events (fresh (c .settings) 256) (c .calls))
 
 -- each case is answered as the document says
 abbrev pub Worked : Type 0

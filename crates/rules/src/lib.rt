@@ -56,10 +56,11 @@ pub enum Queue {
     Is(Ring),
 }
 
-// A migratable controller. Its marks stand from bit `base` of the pool on, and of its ranges the first so many are in use as its tracking says; of one that is off,
-// neither is looked at.
+// A migratable controller. Tracked, it says which manager tracks it; its marks stand from bit `base` of the pool on, and of its ranges the first so many are in use as its
+// tracking says. Of one that is off, none of these is looked at.
 pub struct Controller {
     pub tracking: Tracking,
+    pub manager: u16,
     pub base: u16,
     pub suspended: bool,
     pub ranges: [Range; 16],
@@ -72,28 +73,23 @@ pub struct Share {
     pub size: usize,
 }
 
-// The settings. Of the identifiers the first `count` are in use.
-pub struct Settings {
-    pub manager: u16,
-    pub least: u8,
-    pub greatest: u8,
-    pub powers: bool,
-    pub limit: u16,
-    pub count: usize,
-    pub identifiers: [u16; 8],
-}
-
 // A second managing controller (document 02, W12): none, or its identifier and its descriptor limit.
 pub enum Second {
     Nothing,
     Is(u16, u16),
 }
 
-// The settings of a shelf: those of document 01 with the first manager, the second manager, and the limit over both.
-pub struct ShelfSettings {
-    pub first: Settings,
+// The settings: the first manager and its limit, a second one, the limit over both. Of the identifiers the first `count` are in use.
+pub struct Settings {
+    pub manager: u16,
+    pub least: u8,
+    pub greatest: u8,
+    pub powers: bool,
+    pub limit: u16,
     pub second: Second,
     pub shelf: u16,
+    pub count: usize,
+    pub identifiers: [u16; 8],
 }
 
 // A controller's state that arrives in parts: none is under way, or one of the controller with this identifier, whose parts so far end at this byte.

@@ -16,6 +16,8 @@ cleanedFrom s i =
       greatest = s .greatest;
       powers = s .powers;
       limit = s .limit;
+      second = s .second;
+      shelf = s .shelf;
       count = s .count;
       identifiers = take i (s .identifiers) ++ replicate (length (s .identifiers) - i) 0;
     }

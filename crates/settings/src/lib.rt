@@ -1,11 +1,13 @@
-// Checks of the settings: rule 16, where an identifier stands, and which granularities they allow (document 01, "Settings and sizes"); and their unused places made zeros.
+// Checks of the settings: rule 16, with one or two managers (document 02, W12), where an identifier stands, and which granularities they allow (document 01, "Settings and
+// sizes"); and their unused places made zeros.
 
+use rules::Second;
 use rules::Settings;
 ghost use mathlib.Core.Path.{_≡_};
 ghost use Prim.Native.Nat.{_≤_, min};
 ghost use lib.ListN.{drop};
-ghost use Rattle.rules.specs.Lists.{different, member};
-ghost use Rattle.rules.specs.Settings.{identifiersOf, settingsOk, placeOf, granularityOk};
+ghost use Rattle.rules.specs.Lists.{different, member, every};
+ghost use Rattle.rules.specs.Settings.{identifiersOf, secondRules, settingsOk, isManager, secondLimit, limitOf, placeOf, granularityOk};
 ghost use Rattle.rules.specs.Device.{cleaned, closedSettings};
 ghost use Rattle.settings.specs.Found.{foundAt};
 
@@ -63,6 +65,24 @@ fn all_different(s: Settings) -> bool
     true
 }
 
+// Whether there is no second manager, or it is another than the first, not among the controllers, and its limit passes.
+fn second_ok(s: Settings) -> bool
+    requires { ⌜ s .count ≤ 8 ⌝ }
+    ensures { λ r. ⌜ r ≡ every (secondRules s (s .second)) ⌝ }
+{
+    let second = s.second;
+    let Second::Is(id, limit) = second else {
+        return true;
+    };
+    if id == s.manager {
+        return false;
+    }
+    if limit > 128 {
+        return false;
+    }
+    !among(s, id, 0)
+}
+
 // Whether settings pass 16. The cheap rules are asked first; which one is broken makes no difference.
 pub fn settings_ok(s: Settings) -> bool
     ensures { λ r. ⌜ r ≡ settingsOk s ⌝ }
@@ -82,10 +102,51 @@ pub fn settings_ok(s: Settings) -> bool
     if s.limit > 128 {
         return false;
     }
+    if s.shelf > 128 {
+        return false;
+    }
+    if !second_ok(s) {
+        return false;
+    }
     if among(s, s.manager, 0) {
         return false;
     }
     all_different(s)
+}
+
+// Whether an identifier is a manager's.
+pub fn is_manager(s: Settings, m: u16) -> bool
+    ensures { λ r. ⌜ r ≡ isManager s m ⌝ }
+{
+    if m == s.manager {
+        return true;
+    }
+    let second = s.second;
+    let Second::Is(id, _) = second else {
+        return false;
+    };
+    id == m
+}
+
+// The limit of a second manager, 0 where there is none.
+pub fn second_limit(second: Second) -> u16
+    ensures { λ r. ⌜ r ≡ secondLimit second ⌝ }
+{
+    match second {
+        Second::Nothing => 0,
+        Second::Is(_, limit) => limit,
+    }
+}
+
+// The limit of a manager.
+pub fn limit_of(s: Settings, m: u16) -> u16
+    ensures { λ r. ⌜ r ≡ limitOf s m ⌝ }
+{
+    if m == s.manager {
+        return s.limit;
+    }
+    let second = s.second;
+    second_limit(second)
 }
 
 // Whether a granularity passes 7: not below the settings' least, and not above their greatest.
@@ -102,12 +163,15 @@ pub fn granularity_ok(s: Settings, g: u8) -> bool
 pub fn no_settings() -> Settings
     ensures { λ r. ⌜ r ≡ closedSettings ⌝ }
 {
+    let second = Second::Nothing;
     Settings {
         manager: 0,
         least: 0,
         greatest: 0,
         powers: false,
         limit: 0,
+        second,
+        shelf: 0,
         count: 0,
         identifiers: [0; 8],
     }

@@ -1,25 +1,27 @@
 -- Laws of the file's fields: the loops over the identifiers' places, and each field's cases as `search` finds them. The crate's own. Assumes nothing.
-use Prim.Native.Nat.{ℕ, suc, _+_, _-_, _≤_, _<_}
-use mathlib.Core.Path.{_≡_, sym, ap, _∙_}
-use mathlib.Core.Bool.{Bool, true, false, cond, and-true}
-use mathlib.Core.List.{List, [], _++_, append-assoc, append-nil}
+use Prim.Native.Nat.{ℕ, zero, suc, _+_, _-_, _≤_, _<_}
+use mathlib.Core.Path.{_≡_, refl, sym, ap, _∙_}
+use mathlib.Core.Logic.{_↔_}
+use mathlib.Core.Bool.{Bool, true, false, cond, and-true, true≢false}
+use mathlib.Core.List.{List, [], _∷_, _++_, append-nil}
 use native.Mathlib.Numerals.{add-one}
 use native.Mathlib.Omega.{arith}
-use lib.Dec.{eqb}
-use lib.ListN.{length, getD, take, drop, set, replicate, length-set, length-append, drop-of-length-le}
-use lib.Seq.{drop-cons, take-all, take-suc-set}
-use borrow.Author.Tests.{le-leb, lt-leb, eq-eqb, ne-eqb}
+use lib.Dec.{leb, eqb}
+use lib.ListN.{length, getD, take, drop, replicate, length-append, length-replicate, drop-of-length-le}
+use lib.Seq.{drop-cons, take-all}
+use borrow.Author.Tests.{le-leb, lt-leb, eq-eqb, ne-eqb, eqb-true, eqb-false}
 use Rattle.little.specs.Little.{numberAt, numberBytes, put, records}
 use Rattle.little.proofs.Put.{put-take-front, put-length, put-append}
 use Rattle.little.proofs.Numbers.{numberBytes-length, put-number}
 use Rattle.little.proofs.Records.{records-done, records-length}
 use Rattle.rules.specs.Lists.{all, every}
+use Rattle.rules.specs.Settings.{managersOf, seconds}
 use Rattle.rules.specs.Device.{cleaned}
 use Rattle.rules.specs.declared.Settings.{Settings}
-use Rattle.rules.proofs.ListLaws.{every-not}
-use Rattle.settings_file.specs.File.{fileSize, markRules, markOk, knownVersion, ruleIn, secondIn, spareOk, plainFirst, plainSecond, mark, identifierBytes, numbersBytes, firstBytes, headBytes, secondBytes, fileBytes, holds}
+use Rattle.rules.proofs.ListLaws.{every-not, and-left, and-right}
+use Rattle.rules.specs.declared.Second.{Second}
 use Rattle.rules.specs.declared.Second.the-variants.{Nothing, Is}
-use Rattle.rules.specs.declared.ShelfSettings.{ShelfSettings}
+use Rattle.settings_file.specs.File.{fileSize, markRules, markOk, knownVersion, ruleIn, secondOf, secondIn, shelfIn, spareOk, plainRules, mark, identifierBytes, numbersBytes, commonBytes, headBytes, secondBytes, fileBytes, holds}
 
 -- ---- sizes and versions
 
@@ -43,17 +45,20 @@ fileSize-two v n h e = omega (arith, size-two v e)
 pub size-least : (v n m : ℕ) → n ≡ fileSize v → m ≡ n → 29 ≤ m
 size-least v n m e h = fileSize-least v m (omega arith)
 
+pub size-whole : (v n m : ℕ) → n ≡ fileSize v → m ≡ n → fileSize v ≤ m
+size-whole v n m e h = omega arith
+
 pub room-second : (v : ℕ) (l l′ bs : List ℕ) → (v ≡ 1 → ⊥) → fileSize v ≤ length l → l′ ≡ put l 0 bs → 35 ≤ length l′
 room-second v l l′ bs two h k = rw (k, put-length l 0 bs) (fileSize-two v (length l) h two)
 
 pub room-whole : (v n m : ℕ) → n ≡ fileSize v → n ≤ m → fileSize v ≤ m
 room-whole v n m e h = rw (← e) h
 
-pub known-one : (v : ℕ) → v ≡ 1 → true ≡ knownVersion v
-known-one v e = rw (eq-eqb v 1 e)
+pub known-none : (last v : ℕ) → v < 1 → false ≡ knownVersion last v
+known-none last v h = rw (lt-leb 1 v h)
 
-pub known-two : (v : ℕ) → (v ≡ 1 → ⊥) → eqb v 2 ≡ knownVersion v
-known-two v e = rw (ne-eqb v 1 e)
+pub known-last : (last v : ℕ) → 1 ≤ v → leb v last ≡ knownVersion last v
+known-last last v h = rw (le-leb 1 v h)
 
 -- ---- the mark
 
@@ -101,38 +106,61 @@ module _ (l : List ℕ) (i : ℕ) where
 -- ---- one encoding
 
 module _ (x : List ℕ) (s : Settings) (rule : ℕ) (e : rule ≡ ruleIn x) where
-  pub plain-rule : 1 < rule → false ≡ every (plainFirst x s)
-  plain-rule h = sym (every-not (plainFirst x s) 0 (lt-leb (ruleIn x) 1 (omega arith)))
+  pub plain-rule : 1 < rule → false ≡ every (plainRules x s)
+  plain-rule h = sym (every-not (plainRules x s) 0 (lt-leb (ruleIn x) 1 (omega arith)))
 
-  pub plain-spare : (b : Bool) → rule ≤ 1 → b ≡ spareOk s → b ≡ every (plainFirst x s)
+  pub plain-spare : (b : Bool) → rule ≤ 1 → b ≡ spareOk s → b ≡ every (plainRules x s)
   plain-spare b h k = let few : ruleIn x ≤ 1 = omega arith in rw (le-leb (ruleIn x) 1 few, k) (sym (and-true (spareOk s)))
 
+-- ---- the second manager, and the shelf's limit
+
+module _ (manager id limit : ℕ) where
+  pub second-other : (id ≡ manager → ⊥) → Is id limit ≡ secondOf manager id limit
+  unfolding secondOf
+  second-other h = rw (ne-eqb id manager h)
+
+  pub second-limited : id ≡ manager → (limit ≡ 0 → ⊥) → Is id limit ≡ secondOf manager id limit
+  unfolding secondOf
+  second-limited e h = rw (eq-eqb id manager e, ne-eqb limit 0 h)
+
+  pub second-none : id ≡ manager → limit ≡ 0 → Nothing ≡ secondOf manager id limit
+  unfolding secondOf
+  second-none e h = rw (eq-eqb id manager e, eq-eqb limit 0 h)
+
 module _ (v : ℕ) (x : List ℕ) where
-  pub plain-one : v ≡ 1 → true ≡ plainSecond v x
-  unfolding plainSecond
-  plain-one e = rw (eq-eqb v 1 e)
-
-  module _ (manager id limit : ℕ) (m : manager ≡ numberAt x 5 2) (i : id ≡ numberAt x 29 2) (l : limit ≡ numberAt x 31 2) (two : v ≡ 1 → ⊥) where
-    pub plain-other : (id ≡ manager → ⊥) → true ≡ plainSecond v x
-    unfolding plainSecond
-    plain-other h = rw (ne-eqb v 1 two, ← i, ← m, ne-eqb id manager h)
-
-    pub plain-same : id ≡ manager → eqb limit 0 ≡ plainSecond v x
-    unfolding plainSecond
-    plain-same h = rw (ne-eqb v 1 two, ← i, ← m, ← l, eq-eqb id manager h)
-
-module _ (x : List ℕ) (manager id limit : ℕ) (m : manager ≡ numberAt x 5 2) (i : id ≡ numberAt x 29 2) (l : limit ≡ numberAt x 31 2) where
-  pub second-none : id ≡ manager → Nothing ≡ secondIn x
+  pub second-one : v ≡ 1 → Nothing ≡ secondIn v x
   unfolding secondIn
-  second-none h = rw (← i, ← m, eq-eqb id manager h)
+  second-one e = rw (eq-eqb v 1 e)
 
-  pub second-is : (id ≡ manager → ⊥) → Is id limit ≡ secondIn x
+  pub second-two : (v ≡ 1 → ⊥) → (manager id limit : ℕ) (m : Second) → manager ≡ numberAt x 5 2 → id ≡ numberAt x 29 2 → limit ≡ numberAt x 31 2 → m ≡ secondOf manager id limit
+      → m ≡ secondIn v x
   unfolding secondIn
-  second-is h = rw (← i, ← m, ← l, ne-eqb id manager h)
+  second-two two manager id limit m em ei el e = rw (ne-eqb v 1 two, ← em, ← ei, ← el) e
+
+  pub shelf-one : v ≡ 1 → 128 ≡ shelfIn v x
+  unfolding shelfIn
+  shelf-one e = rw (eq-eqb v 1 e)
+
+  pub shelf-two : (v ≡ 1 → ⊥) → (n : ℕ) → n ≡ numberAt x 33 2 → n ≡ shelfIn v x
+  unfolding shelfIn
+  shelf-two two n e = rw (ne-eqb v 1 two) e
 
 -- ---- which version holds what
 
-module _ (v : ℕ) (s : ShelfSettings) where
+one-manager : (first : ℕ) (m : Second) → eqb (length (first ∷ seconds m)) 1 ≡ true → m ≡ Nothing
+one-manager first Nothing e = refl
+one-manager first (Is id limit) e = absurd (true≢false (sym e))
+
+pub holds-one : (s : Settings) → (holds 1 s ≡ true) ↔ ((s .second ≡ Nothing) × (s .shelf ≡ 128))
+unfolding holds
+holds-one s =
+    let few = eqb (length (managersOf s)) 1 in
+    let most = eqb (s .shelf) 128 in (
+      (λ e. (one-manager (s .manager) (s .second) (and-left few most e), eqb-true (s .shelf) 128 (and-right few most e))),
+      (λ h. rw (h .0, eq-eqb (s .shelf) 128 (h .1))),
+    )
+
+module _ (v : ℕ) (s : Settings) where
   pub holds-two : (v ≡ 1 → ⊥) → eqb v 2 ≡ holds v s
   unfolding holds
   holds-two h = rw (ne-eqb v 1 h)
@@ -158,8 +186,8 @@ head-stored v s l l₁ l₂ l₃ l₄ a b c d =
       c,
       b,
       a,
-      put-append l 0 mark (numberBytes 2 v ++ firstBytes s),
-      put-number (put l 0 mark) 3 2 v (firstBytes s),
+      put-append l 0 mark (numberBytes 2 v ++ commonBytes s),
+      put-number (put l 0 mark) 3 2 v (commonBytes s),
       put-append (put (put l 0 mark) 3 (numberBytes 2 v)) 5 (numbersBytes s) (records identifierBytes (s .identifiers)),
       numbersBytes-length s,
     )
@@ -167,7 +195,7 @@ head-stored v s l l₁ l₂ l₃ l₄ a b c d =
 pub headBytes-length : (v : ℕ) (s : Settings) → length (s .identifiers) ≡ 8 → length (headBytes v s) ≡ 29
 headBytes-length v s e =
     rw (
-      length-append (numberBytes 2 v) (firstBytes s),
+      length-append (numberBytes 2 v) (commonBytes s),
       numberBytes-length 2 v,
       length-append (numbersBytes s) (records identifierBytes (s .identifiers)),
       numbersBytes-length s,
@@ -179,11 +207,32 @@ headBytes-length v s e =
 pub head-more : (l : List ℕ) (v : ℕ) (s : Settings) (b : List ℕ) → length (s .identifiers) ≡ 8 → put l 0 (headBytes v s ++ b) ≡ put (put l 0 (headBytes v s)) 29 b
 head-more l v s b e = put-append l 0 (headBytes v s) b ∙ ap (λ n. put (put l 0 (headBytes v s)) (0 + n) b) (headBytes-length v s e)
 
-module _ (v : ℕ) (s : ShelfSettings) where
-  pub fileBytes-one : v ≡ 1 → fileBytes v s ≡ headBytes v (cleaned (s .first))
-  unfolding fileBytes
-  fileBytes-one e = ap (λ b. headBytes v (cleaned (s .first)) ++ cond b [] (secondBytes s)) (eq-eqb v 1 e) ∙ append-nil (headBytes v (cleaned (s .first)))
+pub secondBytes-length : (s : Settings) → length (secondBytes s) ≡ 6
+secondBytes-length s = simp (length-append, numberBytes-length)
 
-  pub fileBytes-two : (v ≡ 1 → ⊥) → fileBytes v s ≡ headBytes v (cleaned (s .first)) ++ secondBytes s
+module _ (v : ℕ) (s : Settings) where
+  pub fileBytes-one : v ≡ 1 → fileBytes v s ≡ headBytes v (cleaned s)
   unfolding fileBytes
-  fileBytes-two e = ap (λ b. headBytes v (cleaned (s .first)) ++ cond b [] (secondBytes s)) (ne-eqb v 1 e)
+  fileBytes-one e = ap (λ b. headBytes v (cleaned s) ++ cond b [] (secondBytes s)) (eq-eqb v 1 e) ∙ append-nil (headBytes v (cleaned s))
+
+  pub fileBytes-two : (v ≡ 1 → ⊥) → fileBytes v s ≡ headBytes v (cleaned s) ++ secondBytes s
+  unfolding fileBytes
+  fileBytes-two e = ap (λ b. headBytes v (cleaned s) ++ cond b [] (secondBytes s)) (ne-eqb v 1 e)
+
+-- places that are cleaned stay as many
+pub cleaned-length : (n : ℕ) (xs : List ℕ) → length (take n xs ++ replicate (length xs - n) 0) ≡ length xs
+cleaned-length zero xs = let z : length xs - 0 ≡ length xs = omega arith in rw z (length-replicate (length xs) 0)
+cleaned-length (suc n) [] = let z : 0 - suc n ≡ 0 = omega arith in rw z
+cleaned-length (suc n) (x ∷ xs) = let z : suc (length xs) - suc n ≡ length xs - n = omega arith in rw z (ap suc (cleaned-length n xs))
+
+-- a file has its version's length
+pub fileBytes-length : (v : ℕ) (s : Settings) → length (s .identifiers) ≡ 8 → length (fileBytes v s) ≡ fileSize v
+fileBytes-length v s e = go (eqb v 1) refl
+  where
+    head : length (headBytes v (cleaned s)) ≡ 29
+    head = headBytes-length v (cleaned s) (cleaned-length (s .count) (s .identifiers) ∙ e)
+
+    go : (b : Bool) → eqb v 1 ≡ b → length (fileBytes v s) ≡ fileSize v
+    go true q = rw q (ap length (fileBytes-one v s (eqb-true v 1 q)) ∙ head)
+    go false q =
+        rw q (omega (arith, head, ap length (fileBytes-two v s (eqb-false v 1 q)), length-append (headBytes v (cleaned s)) (secondBytes s), secondBytes-length s))

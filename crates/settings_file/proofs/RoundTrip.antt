@@ -1,38 +1,36 @@
 -- One encoding: the readers and the writer rest on one description of the fields, so that what is written is read and what is read is written.
 -- Assumes nothing.
-use Prim.Native.Nat.{ℕ, zero, suc, _+_, _*_, _-_, _^_, _≤_, _<_}
+use Prim.Native.Nat.{ℕ, zero, suc, _+_, _-_, _^_, _≤_, _<_}
 use mathlib.Core.Path.{_≡_, refl, sym, ap, _∙_}
-use mathlib.Core.Bool.{Bool, true, false, not, _||_, _&&_, cond}
+use mathlib.Core.Logic.{_⊎_, inl, inr}
+use mathlib.Core.Bool.{Bool, true, false, _&&_, cond}
 use mathlib.Core.List.{List, [], _∷_, _++_, append-assoc, append-nil}
 use native.Mathlib.Omega.{arith}
 use lib.Dec.{eqb}
-use lib.ListN.{length, getD, take, drop, replicate, length-append, length-replicate}
+use lib.ListN.{length, getD, take, drop, replicate}
 use lib.Seq.{take-add, take-all, drop-drop, drop-at}
-use borrow.Author.Tests.{le-leb, eq-eqb, ne-eqb, leb-true, eqb-true, eqb-false, not-true}
+use borrow.Author.Tests.{le-leb, eq-eqb, ne-eqb, leb-true, eqb-true}
 use Rattle.little.specs.Little.{numberAt, numberBytes, put, records, recordsAt}
 use Rattle.little.proofs.Put.{put-take-front}
-use Rattle.little.proofs.Numbers.{numberBytes-length, numberAt-here, numberAt-next, numberAt-bound, numberBytes-numberAt}
+use Rattle.little.proofs.Numbers.{numberAt-here, numberAt-next, numberAt-bound, numberBytes-numberAt}
 use Rattle.little.proofs.Records.{recordsAt-here, recordsAt-at, recordsAt-length, records-recordsAt}
-use Rattle.rules.specs.Lists.{all, every}
+use Rattle.rules.specs.Lists.{all}
 use Rattle.rules.specs.Refusals.{refusal}
-use Rattle.rules.specs.Settings.{settingsOk}
+use Rattle.rules.specs.Settings.{secondRules, settingsOk, secondLimit}
 use Rattle.rules.specs.Device.{cleaned}
 use Rattle.rules.specs.Demands.{Bytes}
-use Rattle.rules.specs.declared.Settings.{Settings}
-use Rattle.rules.proofs.StateLaws.{cleaned-identifiers}
-use Rattle.rules.proofs.ListLaws.{every-at, or-cases, and-left, and-right}
-use Rattle.rules.proofs.RefusalLaws.{Passed, passes-Passed, refusal-none}
-use Rattle.settings.proofs.SettingsLaws.{settingsOk-at, settingsOk-count, settingsOk-greatest, settingsOk-limit}
-use Rattle.rules.specs.Shelf.{shelfRules, shelfSettingsOk, alone, cleanedShelf}
-use Rattle.settings_file.specs.File.{fileSize, mark, markRules, markOk, versionIn, ruleIn, identifierAt, identifiersIn, firstIn, secondIn, shelfIn, settingsIn, spareOk, plainSecond, newRead, identifierBytes, firstBytes, headBytes, secondPlace, secondLimit, secondBytes, fileBytes, holds, writeTests, fileWritten}
-use Rattle.settings_file.specs.Statements.{Fits, Begins, Laid, Layout, OneEncoding}
 use Rattle.rules.specs.declared.Second.{Second}
 use Rattle.rules.specs.declared.Second.the-variants.{Nothing, Is}
-use Rattle.rules.specs.declared.ShelfSettings.{ShelfSettings}
-use Rattle.settings_file.specs.declared.NewRead.{NewRead}
-use Rattle.settings_file.proofs.FieldLaws.{identifierBytes-length, headBytes-length, fileBytes-one, fileBytes-two}
-use Rattle.settings_file.proofs.ReaderLaws.{Accepted, accepted, newRead-whole}
-use Rattle.shelf_settings.proofs.ShelfLaws.{shelfSettingsOk-first, shelfSettingsOk-shelf}
+use Rattle.rules.specs.declared.Settings.{Settings}
+use Rattle.rules.proofs.StateLaws.{cleaned-identifiers}
+use Rattle.rules.proofs.SoundLaws.{cleaned-ok}
+use Rattle.rules.proofs.RefusalLaws.{Passed, passes-Passed, refusal-none}
+use Rattle.settings.proofs.SettingsLaws.{settingsOk-at, settingsOk-count, settingsOk-greatest, settingsOk-limit, settingsOk-shelf, settingsOk-other}
+use Rattle.settings_file.specs.File.{fileSize, mark, markOk, versionIn, ruleIn, identifierAt, identifiersIn, secondOf, secondPlace, secondIn, shelfIn, settingsIn, spareOk, knownVersion, newRead, identifierBytes, commonBytes, headBytes, secondBytes, fileBytes, holds, writeTests, fileWritten}
+use Rattle.settings_file.specs.Statements.{Fits, Begins, Laid, Layout, OneEncoding}
+use Rattle.settings_file.specs.declared.Read.{Read}
+use Rattle.settings_file.proofs.FieldLaws.{identifierBytes-length, headBytes-length, fileBytes-one, fileBytes-two, cleaned-length, fileBytes-length, holds-one}
+use Rattle.settings_file.proofs.ReaderLaws.{marked, Accepted, accepted, newRead-whole}
 
 -- ---- writing what was read
 
@@ -59,21 +57,29 @@ bit-back zero h = refl
 bit-back (suc zero) h = refl
 bit-back (suc (suc k)) h = absurd (omega arith)
 
-take-3 : (x : List ℕ) → 3 ≤ length x → take 3 x ≡ getD x 0 0 ∷ getD x 1 0 ∷ getD x 2 0 ∷ []
-take-3 [] h = absurd (omega arith)
-take-3 (a ∷ []) h = absurd (omega arith)
-take-3 (a ∷ b ∷ []) h = absurd (omega arith)
-take-3 (a ∷ b ∷ c ∷ x) h = refl
-
-mark-back : (x : List ℕ) → 3 ≤ length x → markOk x ≡ true → take 3 x ≡ mark
-unfolding markOk
-mark-back x h e =
-    take-3 x h
-    ∙ rw (eqb-true (getD x 0 0) 84 (every-at (markRules x) 0 e), eqb-true (getD x 1 0) 82 (every-at (markRules x) 1 e), eqb-true (getD x 2 0) 75 (every-at (markRules x) 2 e))
-
 clean-back : (s : Settings) → spareOk s ≡ true → cleaned s ≡ s
 unfolding spareOk
 clean-back s e = rw (spare-clean (s .count) (s .identifiers) e)
+
+-- the two numbers of a second manager
+module _ (manager id limit : ℕ) where
+  place-back : secondPlace manager (secondOf manager id limit) ≡ id
+  unfolding secondOf
+  place-back = go (eqb id manager) refl (eqb limit 0)
+    where
+      go : (t : Bool) → eqb id manager ≡ t → (u : Bool) → secondPlace manager (cond (t && u) Nothing (Is id limit)) ≡ id
+      go true e true = sym (eqb-true id manager e)
+      go true e false = refl
+      go false e u = refl
+
+  limit-back : secondLimit (secondOf manager id limit) ≡ limit
+  unfolding secondOf
+  limit-back = go (eqb id manager) (eqb limit 0) refl
+    where
+      go : (t u : Bool) → eqb limit 0 ≡ u → secondLimit (cond (t && u) Nothing (Is id limit)) ≡ limit
+      go true true e = sym (eqb-true limit 0 e)
+      go true false e = refl
+      go false u e = refl
 
 module _ (x : List ℕ) (b : Bytes x) where
   -- a field before bytes of the file
@@ -86,8 +92,8 @@ module _ (x : List ℕ) (b : Bytes x) where
   places-back : 29 ≤ length x → records identifierBytes (identifiersIn x) ≡ take 16 (drop 13 x)
   places-back h = records-recordsAt identifierBytes identifierAt 2 x identifier-back 13 8 h
 
-  first-back : 29 ≤ length x → ruleIn x ≤ 1 → firstBytes (firstIn x) ≡ take 24 (drop 5 x)
-  first-back h r =
+  common-back : (v : ℕ) → 29 ≤ length x → ruleIn x ≤ 1 → commonBytes (settingsIn v x) ≡ take 24 (drop 5 x)
+  common-back v h r =
       rw (
         append-assoc,
         append-assoc,
@@ -104,69 +110,53 @@ module _ (x : List ℕ) (b : Bytes x) where
         field 5 2 22 (omega arith),
       )
 
-  head-back : 29 ≤ length x → ruleIn x ≤ 1 → markOk x ≡ true → headBytes (versionIn x) (firstIn x) ≡ take 29 x
+  head-back : 29 ≤ length x → ruleIn x ≤ 1 → markOk x ≡ true → headBytes (versionIn x) (settingsIn (versionIn x) x) ≡ take 29 x
   head-back h r m =
-      ap (λ f. mark ++ (numberBytes 2 (versionIn x) ++ f)) (first-back h r)
+      ap (λ f. mark ++ (numberBytes 2 (versionIn x) ++ f)) (common-back (versionIn x) h r)
       ∙ ap (λ f. mark ++ f) (field 3 2 24 (omega arith))
-      ∙ ap (λ f. f ++ take 26 (drop 3 x)) (sym (mark-back x (omega arith) m))
+      ∙ ap (λ f. f ++ take 26 (drop 3 x)) (sym (marked x (omega arith) m))
       ∙ sym (take-add 3 26 x)
 
-  module _ (two : versionIn x ≡ 1 → ⊥) (plain : plainSecond (versionIn x) x ≡ true) where
-    place-back : secondPlace (numberAt x 5 2) (secondIn x) ≡ numberAt x 29 2
-    unfolding secondIn
-    place-back = go (eqb (numberAt x 29 2) (numberAt x 5 2)) refl
-      where
-        go : (t : Bool) → eqb (numberAt x 29 2) (numberAt x 5 2) ≡ t
-            → secondPlace (numberAt x 5 2) (cond t Nothing (Is (numberAt x 29 2) (numberAt x 31 2))) ≡ numberAt x 29 2
-        go true e = sym (eqb-true (numberAt x 29 2) (numberAt x 5 2) e)
-        go false e = refl
-
-    limit-back : secondLimit (secondIn x) ≡ numberAt x 31 2
-    unfolding secondIn plainSecond
-    limit-back = go (eqb (numberAt x 29 2) (numberAt x 5 2)) (rw (ne-eqb (versionIn x) 1 two) at plain)
-      where
-        go : (t : Bool) → (not t || eqb (numberAt x 31 2) 0) ≡ true
-            → secondLimit (cond t Nothing (Is (numberAt x 29 2) (numberAt x 31 2))) ≡ numberAt x 31 2
-        go true e = sym (eqb-true (numberAt x 31 2) 0 e)
-        go false e = refl
-
-    second-back : 35 ≤ length x → secondBytes (settingsIn (versionIn x) x) ≡ take 6 (drop 29 x)
-    second-back h =
-        rw (ne-eqb (versionIn x) 1 two, place-back, limit-back, numberBytes-numberAt x b 33 2 (omega arith), field 31 2 2 (omega arith), field 29 2 4 (omega arith))
+  second-back : (v : ℕ) → v ≡ 2 → 35 ≤ length x → secondBytes (settingsIn v x) ≡ take 6 (drop 29 x)
+  unfolding secondIn shelfIn
+  second-back v two h =
+      rw (
+        two,
+        place-back (numberAt x 5 2) (numberAt x 29 2) (numberAt x 31 2),
+        limit-back (numberAt x 5 2) (numberAt x 29 2) (numberAt x 31 2),
+        numberBytes-numberAt x b 33 2 (omega arith),
+        field 31 2 2 (omega arith),
+        field 29 2 4 (omega arith),
+      )
 
   -- the bytes of the settings of an accepted file are the file
   file-back : Accepted x → fileBytes (versionIn x) (settingsIn (versionIn x) x) ≡ x
-  file-back a = or-cases (eqb (versionIn x) 1) (eqb (versionIn x) 2) (fileBytes (versionIn x) (settingsIn (versionIn x) x) ≡ x) (a .version) one two
+  file-back a = go (a .version)
     where
-      one : eqb (versionIn x) 1 ≡ true → fileBytes (versionIn x) (settingsIn (versionIn x) x) ≡ x
-      one e =
-          let v : versionIn x ≡ 1 = eqb-true (versionIn x) 1 e in
-          let n : length x ≡ 29 = a .size ∙ rw e in
-          fileBytes-one (versionIn x) (settingsIn (versionIn x) x) v
-          ∙ ap (headBytes (versionIn x)) (clean-back (firstIn x) (a .spare))
+      s : Settings
+      s = settingsIn (versionIn x) x
+
+      go : (versionIn x ≡ 1) ⊎ (versionIn x ≡ 2) → fileBytes (versionIn x) s ≡ x
+      go (inl one) =
+          let n : length x ≡ 29 = a .size ∙ rw one in
+          fileBytes-one (versionIn x) s one
+          ∙ ap (headBytes (versionIn x)) (clean-back s (a .spare))
           ∙ head-back (omega arith) (a .rule) (a .marked)
           ∙ take-all 29 x (omega arith)
-
-      two : eqb (versionIn x) 2 ≡ true → fileBytes (versionIn x) (settingsIn (versionIn x) x) ≡ x
-      two e =
-          let v : versionIn x ≡ 1 → ⊥ = λ z. omega (arith, eqb-true (versionIn x) 2 e) in
-          let n : length x ≡ 35 = a .size ∙ rw (ne-eqb (versionIn x) 1 v) in
-          fileBytes-two (versionIn x) (settingsIn (versionIn x) x) v
-          ∙ ap (λ s. headBytes (versionIn x) s ++ secondBytes (settingsIn (versionIn x) x)) (clean-back (firstIn x) (a .spare))
-          ∙ ap (λ h. h ++ secondBytes (settingsIn (versionIn x) x)) (head-back (omega arith) (a .rule) (a .marked))
-          ∙ ap (λ h. take 29 x ++ h) (second-back v (a .second) (omega arith))
+      go (inr two) =
+          let n : length x ≡ 35 = a .size ∙ rw two in
+          fileBytes-two (versionIn x) s (λ z. omega arith)
+          ∙ ap (λ c. headBytes (versionIn x) c ++ secondBytes s) (clean-back s (a .spare))
+          ∙ ap (λ h. h ++ secondBytes s) (head-back (omega arith) (a .rule) (a .marked))
+          ∙ ap (λ h. take 29 x ++ h) (second-back (versionIn x) two (omega arith))
           ∙ sym (take-add 29 6 x)
           ∙ take-all 35 x (omega arith)
 
--- an accepted file's version holds its settings
-holds-back : (x : List ℕ) → Accepted x → holds (versionIn x) (settingsIn (versionIn x) x) ≡ true
-unfolding holds
-holds-back x a = go (eqb (versionIn x) 1) refl (a .version)
-  where
-    go : (t : Bool) → eqb (versionIn x) 1 ≡ t → (t || eqb (versionIn x) 2) ≡ true
-        → cond t (alone (cond t Nothing (secondIn x)) && eqb (cond t 128 (shelfIn x)) 128) (eqb (versionIn x) 2) ≡ true
-    go true e k = refl
-    go false e k = k
+-- a file's version holds its settings
+holds-back : (v : ℕ) (x : List ℕ) → (v ≡ 1) ⊎ (v ≡ 2) → holds v (settingsIn v x) ≡ true
+unfolding holds secondIn shelfIn
+holds-back v x (inl one) = rw one
+holds-back v x (inr two) = rw two
 
 written-read : (buffer x : List ℕ) → Bytes x → newRead x .number ≡ 0 → length x ≤ length buffer
     → (refusal (writeTests (length buffer) (versionIn x) (newRead x .settings)) ≡ 0) × (fileWritten buffer (versionIn x) (newRead x .settings) ≡ put buffer 0 x)
@@ -175,14 +165,15 @@ written-read buffer x b e room =
     let a = accepted x e in
     let fits : fileSize (versionIn x) ≤ length buffer = omega (arith, a .size) in
     let there = le-leb (fileSize (versionIn x)) (length buffer) fits in
-    (rw (a .read, a .rules, holds-back x a, there), rw (a .read, a .rules, holds-back x a, there) (ap (put buffer 0) (file-back x b a)))
+    let can = holds-back (versionIn x) x (a .version) in
+    (rw (a .read, a .rules, can, there), rw (a .read, a .rules, can, there) (ap (put buffer 0) (file-back x b a)))
 
 one : (x y : List ℕ) → Bytes x → Bytes y → newRead x .number ≡ 0 → newRead y .number ≡ 0 → versionIn x ≡ versionIn y
     → newRead x .settings ≡ newRead y .settings → x ≡ y
 one x y bx by ex ey v s =
     let ax = accepted x ex in
     let ay = accepted y ey in
-    let sx : settingsIn (versionIn x) x ≡ settingsIn (versionIn y) y = sym (ap (λ (r : NewRead). r .settings) (ax .read)) ∙ s ∙ ap (λ (r : NewRead). r .settings) (ay .read) in
+    let sx : settingsIn (versionIn x) x ≡ settingsIn (versionIn y) y = sym (ap (λ (r : Read). r .settings) (ax .read)) ∙ s ∙ ap (λ (r : Read). r .settings) (ay .read) in
     sym (file-back x bx ax) ∙ ap (λ k. fileBytes k (settingsIn (versionIn x) x)) v ∙ ap (fileBytes (versionIn y)) sx ∙ file-back y by ay
 
 -- ---- reading what was written
@@ -209,7 +200,7 @@ record Small (s : Settings) : Type 0 where
   identifiers : (i : ℕ) → getD (s .identifiers) i 0 < 2 ^ 16
 
 -- read where they were written, and the rule's byte is 0 or 1
-module _ (x q : List ℕ) (s : Settings) (f : Small s) (h : drop 5 x ≡ firstBytes s ++ q) where
+module _ (x q : List ℕ) (s : Settings) (f : Small s) (h : drop 5 x ≡ commonBytes s ++ q) where
   h5 : drop 5 x ≡ numberBytes 2 (s .manager) ++ (numberBytes 1 (s .least) ++ (numberBytes 1 (s .greatest) ++ (numberBytes 1 (cond (s .powers) 1 0)
       ++ (numberBytes 2 (s .limit) ++ (numberBytes 1 (s .count) ++ (records identifierBytes (s .identifiers) ++ q))))))
   h5 = h ∙ simp append-assoc
@@ -241,15 +232,20 @@ module _ (x q : List ℕ) (s : Settings) (f : Small s) (h : drop 5 x ≡ firstBy
   places-here =
       recordsAt-here identifierBytes identifierAt 2 identifierBytes-length (λ id. id < 2 ^ 16) identifier-here x q 13 8 (s .identifiers) 0 (f .places) (λ i l. f .identifiers i) h13
 
-  first-here : firstIn x ≡ s
-  first-here =
+  manager-here : numberAt x 5 2 ≡ s .manager
+  manager-here = numberAt-here x 5 2 _ _ h5 (f .manager)
+
+  settings-here : (v : ℕ) → secondIn v x ≡ s .second → shelfIn v x ≡ s .shelf → settingsIn v x ≡ s
+  settings-here v second shelf =
       rw (
-        numberAt-here x 5 2 _ _ h5 (f .manager),
+        manager-here,
         numberAt-here x 7 1 _ _ h7 (f .least),
         numberAt-here x 8 1 _ _ h8 (f .greatest),
         rule-here,
         bit-here (s .powers),
         numberAt-here x 10 2 _ _ h10 (f .limit),
+        second,
+        shelf,
         numberAt-here x 12 1 _ _ h12 (f .count),
         places-here,
       )
@@ -268,11 +264,6 @@ cleaned-spare : (s : Settings) → spareOk (cleaned s) ≡ true
 unfolding spareOk
 cleaned-spare s = spare-cleaned (s .count) (s .identifiers)
 
-pub cleaned-length : (n : ℕ) (xs : List ℕ) → length (take n xs ++ replicate (length xs - n) 0) ≡ length xs
-cleaned-length zero xs = let z : length xs - 0 ≡ length xs = omega arith in rw z (length-replicate (length xs) 0)
-cleaned-length (suc n) [] = let z : 0 - suc n ≡ 0 = omega arith in rw z
-cleaned-length (suc n) (x ∷ xs) = let z : suc (length xs) - suc n ≡ length xs - n = omega arith in rw z (ap suc (cleaned-length n xs))
-
 cleaned-small : (n : ℕ) (xs : List ℕ) → ((i : ℕ) → getD xs i 0 < 2 ^ 16) → (i : ℕ) → getD (take n xs ++ replicate (length xs - n) 0) i 0 < 2 ^ 16
 cleaned-small zero xs f i = zeros-small (length xs - 0) i
   where
@@ -285,131 +276,65 @@ cleaned-small (suc n) (x ∷ xs) f zero = f 0
 cleaned-small (suc n) (x ∷ xs) f (suc i) =
     let z : suc (length xs) - suc n ≡ length xs - n = omega arith in rw z (cleaned-small n xs (λ j. f (suc j)) i)
 
-cleaned-rules : (s : ShelfSettings) → shelfSettingsOk (cleanedShelf s) ≡ shelfSettingsOk s
-unfolding shelfSettingsOk settingsOk
-cleaned-rules s = go (s .second)
-  where
-    go : (m : Second) → every (shelfRules (record { first = cleaned (s .first); second = m; shelf = s .shelf })) ≡ every (shelfRules (record { first = s .first; second = m; shelf = s .shelf }))
-    go Nothing = rw (cleaned-identifiers (s .first))
-    go (Is id limit) = simp (cleaned-identifiers (s .first))
-
-alone-is : (m : Second) → alone m ≡ true → m ≡ Nothing
-alone-is Nothing e = refl
-alone-is (Is id limit) e = let z : _≡_ {A = ℕ} 0 1 = cc in absurd (omega arith)
-
-limit-small : (s : ShelfSettings) → shelfSettingsOk s ≡ true → secondLimit (s .second) ≤ 128
-unfolding shelfSettingsOk
-limit-small s ok = go (s .second) (λ k. every-at (shelfRules s) k ok)
-  where
-    go : (m : Second) → ((k : ℕ) → getD (shelfRules (record { first = s .first; second = m; shelf = s .shelf })) k true ≡ true) → secondLimit m ≤ 128
-    go Nothing f = omega arith
-    go (Is id limit) f = leb-true limit 128 (f 4)
-
--- a second manager in the file, told from none
-module _ (s : ShelfSettings) (ok : shelfSettingsOk s ≡ true) where
-  differs : (id limit : ℕ) → s .second ≡ Is id limit → eqb id (s .first .manager) ≡ false
-  unfolding shelfSettingsOk
-  differs id limit e = not-true (eqb id (s .first .manager)) (go (s .second) e (every-at (shelfRules s) 2 ok))
-    where
-      go : (m : Second) → m ≡ Is id limit → getD (shelfRules (record { first = s .first; second = m; shelf = s .shelf })) 2 true ≡ true → not (eqb id (s .first .manager)) ≡ true
-      go Nothing e t = let z : _≡_ {A = ℕ} 0 1 = cc in absurd (omega arith)
-      go (Is a b) e t = let z : a ≡ id = cc in rw z at t
-
-  second-told : cond (eqb (secondPlace (s .first .manager) (s .second)) (s .first .manager)) Nothing (Is (secondPlace (s .first .manager) (s .second)) (secondLimit (s .second))) ≡ s .second
+-- a second manager that passes is told from none by its two numbers
+module _ (s : Settings) (ok : settingsOk s ≡ true) where
+  second-told : secondOf (s .manager) (secondPlace (s .manager) (s .second)) (secondLimit (s .second)) ≡ s .second
+  unfolding secondOf
   second-told = go (s .second) refl
     where
-      go : (m : Second) → s .second ≡ m → cond (eqb (secondPlace (s .first .manager) m) (s .first .manager)) Nothing (Is (secondPlace (s .first .manager) m) (secondLimit m)) ≡ m
-      go Nothing e = rw (eq-eqb (s .first .manager) (s .first .manager) refl)
-      go (Is id limit) e = rw (differs id limit e)
+      go : (m : Second) → s .second ≡ m → secondOf (s .manager) (secondPlace (s .manager) m) (secondLimit m) ≡ m
+      go Nothing e = rw (eq-eqb (s .manager) (s .manager) refl)
+      go (Is id limit) e = rw (ne-eqb id (s .manager) (settingsOk-other s id limit ok e .0))
 
-  second-plain : (not (eqb (secondPlace (s .first .manager) (s .second)) (s .first .manager)) || eqb (secondLimit (s .second)) 0) ≡ true
-  second-plain = go (s .second) refl
+  second-limit : secondLimit (s .second) ≤ 128
+  second-limit = go (s .second) refl
     where
-      go : (m : Second) → s .second ≡ m → (not (eqb (secondPlace (s .first .manager) m) (s .first .manager)) || eqb (secondLimit m) 0) ≡ true
-      go Nothing e = rw (eq-eqb (s .first .manager) (s .first .manager) refl)
-      go (Is id limit) e = rw (differs id limit e)
+      go : (m : Second) → s .second ≡ m → secondLimit m ≤ 128
+      go Nothing e = omega arith
+      go (Is id limit) e = settingsOk-other s id limit ok e .2
 
-secondBytes-length : (s : ShelfSettings) → length (secondBytes s) ≡ 6
-secondBytes-length s = simp (length-append, numberBytes-length)
-
-module _ (v : ℕ) (s : ShelfSettings) (fit : Fits s) (ok : shelfSettingsOk s ≡ true) where
-  abbrev first : Settings
-  first = cleaned (s .first)
-
+module _ (v : ℕ) (s : Settings) (fit : Fits s) (ok : settingsOk s ≡ true) where
   abbrev more : List ℕ
   more = cond (eqb v 1) [] (secondBytes s)
 
-  small : Small first
+  small : Small (cleaned s)
   small =
-      let inside = shelfSettingsOk-first s ok in
       record {
         manager = fit .manager;
-        least = omega (arith, settingsOk-greatest (s .first) inside, leb-true (s .first .least) (s .first .greatest) (settingsOk-at (s .first) 4 inside));
-        greatest = omega (arith, settingsOk-greatest (s .first) inside);
-        limit = omega (arith, settingsOk-limit (s .first) inside);
-        count = omega (arith, settingsOk-count (s .first) inside);
-        places = cleaned-length (s .first .count) (s .first .identifiers) ∙ fit .places;
-        identifiers = cleaned-small (s .first .count) (s .first .identifiers) (fit .identifiers);
+        least = omega (arith, settingsOk-greatest s ok, leb-true (s .least) (s .greatest) (settingsOk-at s 4 ok));
+        greatest = omega (arith, settingsOk-greatest s ok);
+        limit = omega (arith, settingsOk-limit s ok);
+        count = omega (arith, settingsOk-count s ok);
+        places = cleaned-length (s .count) (s .identifiers) ∙ fit .places;
+        identifiers = cleaned-small (s .count) (s .identifiers) (fit .identifiers);
       }
 
-  after-mark : drop 3 (fileBytes v s) ≡ numberBytes 2 v ++ (firstBytes first ++ more)
+  after-mark : drop 3 (fileBytes v s) ≡ numberBytes 2 v ++ (commonBytes (cleaned s) ++ more)
   unfolding fileBytes
-  after-mark = append-assoc (numberBytes 2 v) (firstBytes first) more
+  after-mark = append-assoc (numberBytes 2 v) (commonBytes (cleaned s)) more
 
-  after-version : drop 5 (fileBytes v s) ≡ firstBytes first ++ more
-  after-version = numberAt-next (fileBytes v s) 3 2 v (firstBytes first ++ more) after-mark
+  after-version : drop 5 (fileBytes v s) ≡ commonBytes (cleaned s) ++ more
+  after-version = numberAt-next (fileBytes v s) 3 2 v (commonBytes (cleaned s) ++ more) after-mark
 
   marked-here : markOk (fileBytes v s) ≡ true
   unfolding markOk fileBytes
   marked-here = refl
 
   version-here : v ≤ 2 → versionIn (fileBytes v s) ≡ v
-  version-here h = numberAt-here (fileBytes v s) 3 2 v (firstBytes first ++ more) after-mark (omega arith)
-
-  firstIn-here : firstIn (fileBytes v s) ≡ first
-  firstIn-here = first-here (fileBytes v s) more first small after-version
+  version-here h = numberAt-here (fileBytes v s) 3 2 v (commonBytes (cleaned s) ++ more) after-mark (omega arith)
 
   ruleIn-here : ruleIn (fileBytes v s) ≤ 1
-  ruleIn-here = rw (rule-here (fileBytes v s) more first small after-version) (go (s .first .powers))
+  ruleIn-here = rw (rule-here (fileBytes v s) more (cleaned s) small after-version) (go (s .powers))
     where
       go : (b : Bool) → cond b 1 0 ≤ 1
       go true = omega arith
       go false = omega arith
 
-  spare-here : spareOk (firstIn (fileBytes v s)) ≡ true
-  spare-here = rw firstIn-here (cleaned-spare (s .first))
-
-  head-length : length (headBytes v first) ≡ 29
-  head-length = headBytes-length v first (small .places)
-
-  -- version 1
-  module _ (one : v ≡ 1) (can : holds v s ≡ true) where
-    held : (alone (s .second) && eqb (s .shelf) 128) ≡ true
-    unfolding holds
-    held = rw (eq-eqb v 1 one) at can
-
-    size-one : length (fileBytes v s) ≡ 29
-    size-one = ap length (fileBytes-one v s one) ∙ head-length
-
-    settings-one : settingsIn v (fileBytes v s) ≡ cleanedShelf s
-    settings-one =
-        rw (eq-eqb v 1 one, firstIn-here, alone-is (s .second) (and-left (alone (s .second)) (eqb (s .shelf) 128) held), eqb-true (s .shelf) 128 (and-right (alone (s .second)) (eqb (s .shelf) 128) held))
-
-    read-one : newRead (fileBytes v s) ≡ record { number = 0; settings = cleanedShelf s }
-    unfolding plainSecond
-    read-one =
-        newRead-whole (fileBytes v s) v (version-here (omega arith)) (omega (arith, size-one)) marked-here (rw (eq-eqb v 1 one)) (size-one ∙ rw (eq-eqb v 1 one)) ruleIn-here spare-here
-        (rw (eq-eqb v 1 one)) (ap shelfSettingsOk settings-one ∙ cleaned-rules s ∙ ok)
-        ∙ ap (λ r. record { number = 0; settings = r }) settings-one
-
-  -- version 2
+  -- what version 2 adds
   module _ (two : v ≡ 2) where
-    not-one : v ≡ 1 → ⊥
-    not-one e = omega arith
-
-    after-head : drop 29 (fileBytes v s) ≡ numberBytes 2 (secondPlace (s .first .manager) (s .second)) ++ (numberBytes 2 (secondLimit (s .second)) ++ (numberBytes 2 (s .shelf) ++ []))
+    after-head : drop 29 (fileBytes v s) ≡ numberBytes 2 (secondPlace (s .manager) (s .second)) ++ (numberBytes 2 (secondLimit (s .second)) ++ (numberBytes 2 (s .shelf) ++ []))
     after-head =
-        rw (fileBytes-two v s not-one, append-nil) (drop-at (headBytes v first) (secondBytes s) 29 head-length)
+        rw (fileBytes-two v s (λ z. omega arith), append-nil) (drop-at (headBytes v (cleaned s)) (secondBytes s) 29 (headBytes-length v (cleaned s) (small .places)))
 
     after-place : drop 31 (fileBytes v s) ≡ numberBytes 2 (secondLimit (s .second)) ++ (numberBytes 2 (s .shelf) ++ [])
     after-place = numberAt-next (fileBytes v s) 29 2 _ _ after-head
@@ -417,76 +342,95 @@ module _ (v : ℕ) (s : ShelfSettings) (fit : Fits s) (ok : shelfSettingsOk s �
     after-limit : drop 33 (fileBytes v s) ≡ numberBytes 2 (s .shelf) ++ []
     after-limit = numberAt-next (fileBytes v s) 31 2 _ _ after-place
 
-    place-here : numberAt (fileBytes v s) 29 2 ≡ secondPlace (s .first .manager) (s .second)
+    place-here : numberAt (fileBytes v s) 29 2 ≡ secondPlace (s .manager) (s .second)
     place-here = numberAt-here (fileBytes v s) 29 2 _ _ after-head (place-small (s .second) refl)
       where
-        place-small : (m : Second) → s .second ≡ m → secondPlace (s .first .manager) m < 2 ^ 16
+        place-small : (m : Second) → s .second ≡ m → secondPlace (s .manager) m < 2 ^ 16
         place-small Nothing e = fit .manager
         place-small (Is id limit) e = fit .second id limit e
 
     limit-here : numberAt (fileBytes v s) 31 2 ≡ secondLimit (s .second)
-    limit-here = numberAt-here (fileBytes v s) 31 2 _ _ after-place (omega (arith, limit-small s ok))
+    limit-here = numberAt-here (fileBytes v s) 31 2 _ _ after-place (omega (arith, second-limit s ok))
 
-    shelf-here : shelfIn (fileBytes v s) ≡ s .shelf
-    shelf-here = numberAt-here (fileBytes v s) 33 2 _ _ after-limit (omega (arith, shelfSettingsOk-shelf s ok))
-
-    manager-here : numberAt (fileBytes v s) 5 2 ≡ s .first .manager
-    manager-here = ap (λ (t : Settings). t .manager) firstIn-here
-
-    second-here : secondIn (fileBytes v s) ≡ s .second
+    second-two : secondIn v (fileBytes v s) ≡ s .second
     unfolding secondIn
-    second-here = rw (place-here, limit-here, manager-here) (second-told s ok)
+    second-two = rw (ne-eqb v 1 (λ z. omega arith), place-here, limit-here, manager-here (fileBytes v s) more (cleaned s) small after-version) (second-told s ok)
 
-    plain-here : plainSecond v (fileBytes v s) ≡ true
-    unfolding plainSecond
-    plain-here = rw (ne-eqb v 1 not-one, place-here, limit-here, manager-here) (second-plain s ok)
+    shelf-two : shelfIn v (fileBytes v s) ≡ s .shelf
+    unfolding shelfIn
+    shelf-two = rw (ne-eqb v 1 (λ z. omega arith)) (numberAt-here (fileBytes v s) 33 2 _ _ after-limit (omega (arith, settingsOk-shelf s ok)))
 
-    settings-two : settingsIn v (fileBytes v s) ≡ cleanedShelf s
-    settings-two = rw (ne-eqb v 1 not-one, firstIn-here, second-here, shelf-here)
+  -- a version that holds the settings
+  module _ (can : holds v s ≡ true) where
+    which : (v ≡ 1) ⊎ (v ≡ 2)
+    unfolding holds
+    which = go (eqb v 1) refl
+      where
+        go : (b : Bool) → eqb v 1 ≡ b → (v ≡ 1) ⊎ (v ≡ 2)
+        go true e = inl (eqb-true v 1 e)
+        go false e = inr (eqb-true v 2 (rw e at can))
 
-    size-two : length (fileBytes v s) ≡ 35
-    size-two =
-        ap length (fileBytes-two v s not-one) ∙ length-append (headBytes v first) (secondBytes s) ∙ ap (λ n. n + length (secondBytes s)) head-length ∙ ap (λ n. 29 + n) (secondBytes-length s)
+    alone : v ≡ 1 → (s .second ≡ Nothing) × (s .shelf ≡ 128)
+    alone one = holds-one s .0 (rw one at can)
 
-    read-two : newRead (fileBytes v s) ≡ record { number = 0; settings = cleanedShelf s }
-    read-two =
-        newRead-whole (fileBytes v s) v (version-here (omega arith)) (omega (arith, size-two)) marked-here (rw two) (size-two ∙ rw two) ruleIn-here spare-here
-        plain-here (ap shelfSettingsOk settings-two ∙ cleaned-rules s ∙ ok)
-        ∙ ap (λ r. record { number = 0; settings = r }) settings-two
+    second-here : secondIn v (fileBytes v s) ≡ s .second
+    unfolding secondIn
+    second-here = go which
+      where
+        go : (v ≡ 1) ⊎ (v ≡ 2) → secondIn v (fileBytes v s) ≡ s .second
+        go (inl one) = rw (eq-eqb v 1 one) (sym (alone one .0))
+        go (inr two) = second-two two
 
--- either version
-module _ (v : ℕ) (s : ShelfSettings) (fit : Fits s) (ok : shelfSettingsOk s ≡ true) (can : holds v s ≡ true) where
-  version-two : (v ≡ 1 → ⊥) → v ≡ 2
-  unfolding holds
-  version-two h = eqb-true v 2 (rw (ne-eqb v 1 h) at can)
+    shelf-here : shelfIn v (fileBytes v s) ≡ s .shelf
+    unfolding shelfIn
+    shelf-here = go which
+      where
+        go : (v ≡ 1) ⊎ (v ≡ 2) → shelfIn v (fileBytes v s) ≡ s .shelf
+        go (inl one) = rw (eq-eqb v 1 one) (sym (alone one .1))
+        go (inr two) = shelf-two two
 
-  either : (C : Type 0) → (v ≡ 1 → C) → (v ≡ 2 → C) → C
-  either C f g = go (eqb v 1) refl
-    where
-      go : (b : Bool) → eqb v 1 ≡ b → C
-      go true e = f (eqb-true v 1 e)
-      go false e = g (version-two (eqb-false v 1 e))
+    known : knownVersion 2 v ≡ true
+    known = go which
+      where
+        go : (v ≡ 1) ⊎ (v ≡ 2) → knownVersion 2 v ≡ true
+        go (inl one) = rw one
+        go (inr two) = rw two
 
-  read-file : newRead (fileBytes v s) ≡ record { number = 0; settings = cleanedShelf s }
-  read-file = either (newRead (fileBytes v s) ≡ record { number = 0; settings = cleanedShelf s }) (λ e. read-one v s fit ok e can) (λ e. read-two v s fit ok e)
+    few : v ≤ 2
+    few = go which
+      where
+        go : (v ≡ 1) ⊎ (v ≡ 2) → v ≤ 2
+        go (inl one) = omega arith
+        go (inr two) = omega arith
 
-  file-length : length (fileBytes v s) ≡ fileSize v
-  file-length = either (length (fileBytes v s) ≡ fileSize v) (λ e. size-one v s fit ok e can ∙ rw e) (λ e. size-two v s fit ok e ∙ rw e)
+    whole : settingsIn v (fileBytes v s) ≡ cleaned s
+    whole = settings-here (fileBytes v s) more (cleaned s) small after-version v second-here shelf-here
+
+    sized : length (fileBytes v s) ≡ fileSize v
+    sized = fileBytes-length v s (fit .places)
+
+    read-file : newRead (fileBytes v s) ≡ record { number = 0; settings = cleaned s }
+    read-file =
+        newRead-whole (fileBytes v s) v (version-here few) (long (eqb v 1) sized) marked-here known sized ruleIn-here (ap spareOk whole ∙ cleaned-spare s) (ap settingsOk whole ∙ cleaned-ok s ∙ ok)
+        ∙ ap (λ r. record { number = 0; settings = r }) whole
+      where
+        long : (b : Bool) → length (fileBytes v s) ≡ cond b 29 35 → 5 ≤ length (fileBytes v s)
+        long true e = omega arith
+        long false e = omega arith
 
 -- what the writer's table says where it is passed
-writable : (size v : ℕ) (s : ShelfSettings) → refusal (writeTests size v s) ≡ 0 → Passed (writeTests size v s)
+writable : (size v : ℕ) (s : Settings) → refusal (writeTests size v s) ≡ 0 → Passed (writeTests size v s)
 writable size v s e =
     passes-Passed (writeTests size v s)
     (sym (refusal-none (writeTests size v s) (omega arith, (omega arith, (omega arith, tt)))) ∙ eq-eqb (refusal (writeTests size v s)) 0 e)
 
-read-written : (buffer : List ℕ) (v : ℕ) (s : ShelfSettings) → Fits s → refusal (writeTests (length buffer) v s) ≡ 0
-    → newRead (take (fileSize v) (fileWritten buffer v s)) ≡ record { number = 0; settings = cleanedShelf s }
+read-written : (buffer : List ℕ) (v : ℕ) (s : Settings) → Fits s → refusal (writeTests (length buffer) v s) ≡ 0
+    → newRead (take (fileSize v) (fileWritten buffer v s)) ≡ record { number = 0; settings = cleaned s }
 unfolding fileWritten
 read-written buffer v s fit e =
     let h = writable (length buffer) v s e in
     let room : fileSize v ≤ length buffer = leb-true (fileSize v) (length buffer) (h .1 .1 .0) in
-    let sized = file-length v s fit (h .0) (h .1 .0) in
-    rw (h .0, h .1 .0, h .1 .1 .0, put-take-front buffer (fileSize v) (fileBytes v s) sized room) (read-file v s fit (h .0) (h .1 .0))
+    rw (h .0, h .1 .0, h .1 .1 .0, put-take-front buffer (fileSize v) (fileBytes v s) (fileBytes-length v s (fit .places)) room) (read-file v s fit (h .0) (h .1 .0))
 
 -- ---- what was read, written again
 
@@ -499,9 +443,9 @@ identifiers-small x b = go 13 8
     go at (suc n) zero = numberAt-bound x b at 2
     go at (suc n) (suc i) = go (at + 2) n i
 
-second-small : (v : ℕ) (x : List ℕ) → Bytes x → (id limit : ℕ) → cond (eqb v 1) Nothing (secondIn x) ≡ Is id limit → id < 2 ^ 16
-unfolding secondIn
-second-small v x b id limit = go (eqb v 1) (eqb (numberAt x 29 2) (numberAt x 5 2))
+second-small : (v : ℕ) (x : List ℕ) → Bytes x → (id limit : ℕ) → secondIn v x ≡ Is id limit → id < 2 ^ 16
+unfolding secondIn secondOf
+second-small v x b id limit = go (eqb v 1) (eqb (numberAt x 29 2) (numberAt x 5 2) && eqb (numberAt x 31 2) 0)
   where
     go : (t u : Bool) → cond t Nothing (cond u Nothing (Is (numberAt x 29 2) (numberAt x 31 2))) ≡ Is id limit → id < 2 ^ 16
     go true u e = let z : _≡_ {A = ℕ} 0 1 = cc in absurd (omega arith)
@@ -522,7 +466,7 @@ survives : (buffer x : List ℕ) (v : ℕ) → Bytes x → newRead x .number ≡
 survives buffer x v b e =
     let a = accepted x e in
     rw (a .read) (λ w. read-written buffer v (settingsIn (versionIn x) x) (read-fits (versionIn x) x b) w
-    ∙ ap (λ (s : Settings). record { number = 0; settings = record { first = s; second = cond (eqb (versionIn x) 1) Nothing (secondIn x); shelf = cond (eqb (versionIn x) 1) 128 (shelfIn x) } }) (clean-back (firstIn x) (a .spare)))
+    ∙ ap (λ (s : Settings). record { number = 0; settings = s }) (clean-back (settingsIn (versionIn x) x) (a .spare)))
 
 -- ---- where the fields stand
 
@@ -530,25 +474,17 @@ pub begins : Begins
 unfolding numberAt
 begins = record { mark = refl; version = λ x. omega arith; one = refl; two = refl }
 
-module _ (x : List ℕ) (plain : plainSecond 2 x ≡ true) where
-  laid-none : secondIn x ≡ Nothing → (numberAt x 29 2 ≡ numberAt x 5 2) × (numberAt x 31 2 ≡ 0)
-  unfolding secondIn plainSecond
-  laid-none = go (eqb (numberAt x 29 2) (numberAt x 5 2)) refl plain
-    where
-      go : (t : Bool) → eqb (numberAt x 29 2) (numberAt x 5 2) ≡ t → (not t || eqb (numberAt x 31 2) 0) ≡ true
-          → cond t Nothing (Is (numberAt x 29 2) (numberAt x 31 2)) ≡ Nothing → (numberAt x 29 2 ≡ numberAt x 5 2) × (numberAt x 31 2 ≡ 0)
-      go true e p q = (eqb-true (numberAt x 29 2) (numberAt x 5 2) e, eqb-true (numberAt x 31 2) 0 p)
-      go false e p q = let z : _≡_ {A = ℕ} 0 1 = cc in absurd (omega arith)
-
-  laid-second : (id limit : ℕ) → secondIn x ≡ Is id limit → (numberAt x 29 2 ≡ id) × (numberAt x 31 2 ≡ limit)
+module _ (x : List ℕ) (m : Second) (e : secondIn 2 x ≡ m) where
+  laid-place : numberAt x 29 2 ≡ secondPlace (numberAt x 5 2) m
   unfolding secondIn
-  laid-second id limit = go (eqb (numberAt x 29 2) (numberAt x 5 2))
-    where
-      go : (t : Bool) → cond t Nothing (Is (numberAt x 29 2) (numberAt x 31 2)) ≡ Is id limit → (numberAt x 29 2 ≡ id) × (numberAt x 31 2 ≡ limit)
-      go true q = let z : _≡_ {A = ℕ} 0 1 = cc in absurd (omega arith)
-      go false q = let z : numberAt x 29 2 ≡ id = cc in let w : numberAt x 31 2 ≡ limit = cc in (z, w)
+  laid-place = sym (place-back (numberAt x 5 2) (numberAt x 29 2) (numberAt x 31 2)) ∙ ap (secondPlace (numberAt x 5 2)) e
+
+  laid-limit : numberAt x 31 2 ≡ secondLimit m
+  unfolding secondIn
+  laid-limit = sym (limit-back (numberAt x 5 2) (numberAt x 29 2) (numberAt x 31 2)) ∙ ap secondLimit e
 
 laid-at : (v : ℕ) (x : List ℕ) → versionIn x ≡ v → Accepted x → Laid x (settingsIn v x)
+unfolding shelfIn
 laid-at v x e a =
     record {
       manager = refl;
@@ -558,8 +494,8 @@ laid-at v x e a =
       limit = refl;
       count = refl;
       identifiers = λ i h. sym (recordsAt-at identifierAt 2 x 13 8 i 0 h);
-      none = λ two. let k : v ≡ 2 = sym e ∙ two in let p : plainSecond 2 x ≡ true = ap (λ w. plainSecond w x) (sym two) ∙ a .second in rw k (laid-none x p);
-      second = λ two. let k : v ≡ 2 = sym e ∙ two in let p : plainSecond 2 x ≡ true = ap (λ w. plainSecond w x) (sym two) ∙ a .second in rw k (laid-second x p);
+      none = λ two. let k : v ≡ 2 = sym e ∙ two in rw k (λ q. (laid-place x Nothing q, laid-limit x Nothing q));
+      second = λ two. let k : v ≡ 2 = sym e ∙ two in rw k (λ id limit q. (laid-place x (Is id limit) q, laid-limit x (Is id limit) q));
       shelf = λ two. let k : v ≡ 2 = sym e ∙ two in rw k;
     }
 

@@ -2,22 +2,19 @@
 -- The layout: `TRK` in bytes 0 to 2, version in 4:3, manager in 6:5, least in 7, greatest in 8, the powers' rule in 9, limit in 11:10, number of
 -- identifiers in 12, their 8 places in 28:13; version 2 adds the second manager in 30:29, its limit in 32:31 and the shelf's limit in 34:33.
 use Prim.Native.Nat.{ℕ}
-use mathlib.Core.Bool.{Bool, not, _&&_, _||_, cond}
+use mathlib.Core.Bool.{Bool, _&&_, cond}
 use mathlib.Core.List.{List, [], _∷_, _++_}
 use lib.Dec.{leb, eqb}
 use lib.ListN.{length, getD, drop}
 use Rattle.little.specs.Little.{numberAt, numberBytes, put, records, recordsAt}
 use Rattle.rules.specs.Lists.{all, every}
 use Rattle.rules.specs.Refusals.{Test, _else_, verdict}
-use Rattle.rules.specs.Settings.{settingsOk}
+use Rattle.rules.specs.Settings.{settingsOk, managersOf, secondLimit}
 use Rattle.rules.specs.Device.{cleaned, closedSettings}
-use Rattle.rules.specs.declared.Settings.{Settings}
-use Rattle.rules.specs.Shelf.{shelfSettingsOk, alone, noShelfSettings}
 use Rattle.rules.specs.declared.Second.{Second}
 use Rattle.rules.specs.declared.Second.the-variants.{Nothing, Is}
-use Rattle.rules.specs.declared.ShelfSettings.{ShelfSettings}
-use Rattle.settings_file.specs.declared.OldRead.{OldRead}
-use Rattle.settings_file.specs.declared.NewRead.{NewRead}
+use Rattle.rules.specs.declared.Settings.{Settings}
+use Rattle.settings_file.specs.declared.Read.{Read}
 
 -- the bytes of a file of version 1, and of version 2; no other is asked for its length
 abbrev pub fileSize : ℕ → ℕ
@@ -39,10 +36,6 @@ markOk x = every (markRules x)
 abbrev pub versionIn : List ℕ → ℕ
 versionIn x = numberAt x 3 2
 
--- the versions that the new reader takes
-abbrev pub knownVersion : ℕ → Bool
-knownVersion v = eqb v 1 || eqb v 2
-
 abbrev pub ruleIn : List ℕ → ℕ
 ruleIn x = numberAt x 9 1
 
@@ -53,29 +46,36 @@ identifierAt x at = numberAt x at 2
 abbrev pub identifiersIn : List ℕ → List ℕ
 identifiersIn x = recordsAt identifierAt 2 x 13 8
 
--- the fields that both versions have: the settings of document 01
-abbrev pub firstIn : List ℕ → Settings
-firstIn x =
+-- the second manager that an identifier and a limit stand for: the first manager again, with the limit 0, for none
+unfoldable pub secondOf : ℕ → ℕ → ℕ → Second
+secondOf manager id limit = cond (eqb id manager && eqb limit 0) Nothing (Is id limit)
+
+-- and the identifier that stands for it; the limit is `secondLimit`
+abbrev pub secondPlace : ℕ → Second → ℕ
+secondPlace manager Nothing = manager
+secondPlace manager (Is id limit) = id
+
+-- a file of version 1 has one manager, and the shelf's limit 128
+unfoldable pub secondIn : ℕ → List ℕ → Second
+secondIn v x = cond (eqb v 1) Nothing (secondOf (numberAt x 5 2) (numberAt x 29 2) (numberAt x 31 2))
+
+unfoldable pub shelfIn : ℕ → List ℕ → ℕ
+shelfIn v x = cond (eqb v 1) 128 (numberAt x 33 2)
+
+-- the settings of a file of a version
+abbrev pub settingsIn : ℕ → List ℕ → Settings
+settingsIn v x =
     record {
       manager = numberAt x 5 2;
       least = numberAt x 7 1;
       greatest = numberAt x 8 1;
       powers = eqb (ruleIn x) 1;
       limit = numberAt x 10 2;
+      second = secondIn v x;
+      shelf = shelfIn v x;
       count = numberAt x 12 1;
       identifiers = identifiersIn x;
     }
-
--- the second manager of version 2: one equal to the first means that there is none
-unfoldable pub secondIn : List ℕ → Second
-secondIn x = cond (eqb (numberAt x 29 2) (numberAt x 5 2)) Nothing (Is (numberAt x 29 2) (numberAt x 31 2))
-
-abbrev pub shelfIn : List ℕ → ℕ
-shelfIn x = numberAt x 33 2
-
--- the settings of a file of a version: those of version 1 have one manager, and the shelf's limit 128
-abbrev pub settingsIn : ℕ → List ℕ → ShelfSettings
-settingsIn v x = record { first = firstIn x; second = cond (eqb v 1) Nothing (secondIn x); shelf = cond (eqb v 1) 128 (shelfIn x) }
 
 -- ---- one encoding
 
@@ -84,50 +84,39 @@ unfoldable pub spareOk : Settings → Bool
 spareOk s = all (λ y. eqb y 0) (drop (s .count) (s .identifiers))
 
 -- the powers' rule is 0 or 1, and spare bytes are 0
-abbrev pub plainFirst : List ℕ → Settings → List Bool
-plainFirst x s = leb (ruleIn x) 1 ∷ spareOk s ∷ []
-
--- version 2: a second manager that is equal to the first has the limit 0
-unfoldable pub plainSecond : ℕ → List ℕ → Bool
-plainSecond v x = eqb v 1 || (not (eqb (numberAt x 29 2) (numberAt x 5 2)) || eqb (numberAt x 31 2) 0)
+abbrev pub plainRules : List ℕ → Settings → List Bool
+plainRules x s = leb (ruleIn x) 1 ∷ spareOk s ∷ []
 
 -- ---- reading
 
--- what both readers check first
-abbrev pub headTests : List ℕ → List Test
-headTests x = (leb 5 (length x) else 35) ∷ (markOk x else 31) ∷ []
+-- whether a reader that knows the versions 1 to `last` knows this one
+abbrev pub knownVersion : ℕ → ℕ → Bool
+knownVersion last v = leb 1 v && leb v last
 
--- what the reader of version 1 checks
-abbrev pub oldTests : List ℕ → List Test
-oldTests x =
-    headTests x
-    ++ (eqb (versionIn x) 1 else 32)
-    ∷ (eqb (length x) 29 else 35)
-    ∷ (every (plainFirst x (firstIn x)) else 16)
-    ∷ (settingsOk (firstIn x) else 16)
-    ∷ []
-
--- what it answers; a refusal comes with zeros in all fields
-unfoldable pub oldRead : List ℕ → OldRead
-oldRead x = verdict (oldTests x) (record { number = 0; settings = firstIn x }) (λ n i. record { number = n; settings = closedSettings })
-
--- what the reader of both versions checks
-abbrev pub newTests : List ℕ → List Test
-newTests x =
-    headTests x
-    ++ (knownVersion (versionIn x) else 32)
+-- what it checks
+abbrev pub readTests : ℕ → List ℕ → List Test
+readTests last x =
+    (leb 5 (length x) else 35)
+    ∷ (markOk x else 31)
+    ∷ (knownVersion last (versionIn x) else 32)
     ∷ (eqb (length x) (fileSize (versionIn x)) else 35)
-    ∷ (every (plainFirst x (firstIn x)) else 16)
-    ∷ (plainSecond (versionIn x) x else 16)
-    ∷ (shelfSettingsOk (settingsIn (versionIn x) x) else 16)
+    ∷ (every (plainRules x (settingsIn (versionIn x) x)) else 16)
+    ∷ (settingsOk (settingsIn (versionIn x) x) else 16)
     ∷ []
 
 -- what it answers; a refusal comes with zeros in all fields
-unfoldable pub newRead : List ℕ → NewRead
-newRead x =
-    verdict (newTests x)
+unfoldable pub readUpTo : ℕ → List ℕ → Read
+readUpTo last x =
+    verdict (readTests last x)
     (record { number = 0; settings = settingsIn (versionIn x) x })
-    (λ n i. record { number = n; settings = noShelfSettings })
+    (λ n i. record { number = n; settings = closedSettings })
+
+-- the reader of version 1, and that of both versions
+abbrev pub oldRead : List ℕ → Read
+oldRead x = readUpTo 1 x
+
+abbrev pub newRead : List ℕ → Read
+newRead x = readUpTo 2 x
 
 -- ---- writing
 
@@ -144,41 +133,32 @@ numbersBytes s =
     ++ (numberBytes 2 (s .limit)
     ++ numberBytes 1 (s .count)))))
 
-abbrev pub firstBytes : Settings → List ℕ
-firstBytes s = numbersBytes s ++ records identifierBytes (s .identifiers)
+abbrev pub commonBytes : Settings → List ℕ
+commonBytes s = numbersBytes s ++ records identifierBytes (s .identifiers)
 
 -- the mark, the version, and these fields
 abbrev pub headBytes : ℕ → Settings → List ℕ
-headBytes v s = mark ++ (numberBytes 2 v ++ firstBytes s)
-
--- what stands in the file for the second manager, and for its limit
-abbrev pub secondPlace : ℕ → Second → ℕ
-secondPlace manager Nothing = manager
-secondPlace manager (Is id limit) = id
-
-abbrev pub secondLimit : Second → ℕ
-secondLimit Nothing = 0
-secondLimit (Is id limit) = limit
+headBytes v s = mark ++ (numberBytes 2 v ++ commonBytes s)
 
 -- the fields that version 2 adds
-abbrev pub secondBytes : ShelfSettings → List ℕ
+abbrev pub secondBytes : Settings → List ℕ
 secondBytes s =
-    numberBytes 2 (secondPlace (s .first .manager) (s .second))
+    numberBytes 2 (secondPlace (s .manager) (s .second))
     ++ (numberBytes 2 (secondLimit (s .second))
     ++ numberBytes 2 (s .shelf))
 
 -- the bytes of a file, with zeros in the places that are not in use
-unfoldable pub fileBytes : ℕ → ShelfSettings → List ℕ
-fileBytes v s = headBytes v (cleaned (s .first)) ++ cond (eqb v 1) [] (secondBytes s)
+unfoldable pub fileBytes : ℕ → Settings → List ℕ
+fileBytes v s = headBytes v (cleaned s) ++ cond (eqb v 1) [] (secondBytes s)
 
 -- whether a version can hold settings: version 1 those with one manager and the shelf's limit 128, version 2 all
-unfoldable pub holds : ℕ → ShelfSettings → Bool
-holds v s = cond (eqb v 1) (alone (s .second) && eqb (s .shelf) 128) (eqb v 2)
+unfoldable pub holds : ℕ → Settings → Bool
+holds v s = cond (eqb v 1) (eqb (length (managersOf s)) 1 && eqb (s .shelf) 128) (eqb v 2)
 
 -- what the writer into a buffer of so many bytes checks
-abbrev pub writeTests : ℕ → ℕ → ShelfSettings → List Test
-writeTests size v s = (shelfSettingsOk s else 16) ∷ (holds v s else 32) ∷ (leb (fileSize v) size else 8) ∷ []
+abbrev pub writeTests : ℕ → ℕ → Settings → List Test
+writeTests size v s = (settingsOk s else 16) ∷ (holds v s else 32) ∷ (leb (fileSize v) size else 8) ∷ []
 
 -- what a buffer holds after the writer was asked: bytes after the file, or where it was refused all, are as they were
-unfoldable pub fileWritten : List ℕ → ℕ → ShelfSettings → List ℕ
+unfoldable pub fileWritten : List ℕ → ℕ → Settings → List ℕ
 fileWritten buffer v s = verdict (writeTests (length buffer) v s) (put buffer 0 (fileBytes v s)) (λ n i. buffer)

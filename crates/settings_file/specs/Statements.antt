@@ -8,21 +8,19 @@ use lib.Dec.{eqb}
 use lib.ListN.{length, getD, take, drop}
 use Rattle.little.specs.Little.{numberAt, put}
 use Rattle.rules.specs.Demands.{Bytes}
-use Rattle.rules.specs.Lists.{member}
 use Rattle.rules.specs.Refusals.{refusal}
-use Rattle.rules.specs.Settings.{identifiersOf, settingsOk}
+use Rattle.rules.specs.Settings.{settingsOk}
 use Rattle.rules.specs.Device.{cleaned, closedSettings}
-use Rattle.rules.specs.Shelf.{shelfSettingsOk}
-use Rattle.settings_file.specs.File.{fileSize, mark, versionIn, oldRead, newRead, holds, writeTests, fileWritten}
 use Rattle.rules.specs.declared.Second.the-variants.{Nothing, Is}
-use Rattle.rules.specs.declared.ShelfSettings.{ShelfSettings}
+use Rattle.rules.specs.declared.Settings.{Settings}
+use Rattle.settings_file.specs.File.{fileSize, mark, versionIn, oldRead, newRead, holds, writeTests, fileWritten}
 
 -- what the code's types hold: identifiers of 16 bits, 8 places for them
-pub record Fits (s : ShelfSettings) : Type 0 where
-  pub manager : s .first .manager < 2 ^ 16
+pub record Fits (s : Settings) : Type 0 where
+  pub manager : s .manager < 2 ^ 16
   pub second : (id limit : ℕ) → s .second ≡ Is id limit → id < 2 ^ 16
-  pub places : length (s .first .identifiers) ≡ 8
-  pub identifiers : (i : ℕ) → getD (s .first .identifiers) i 0 < 2 ^ 16
+  pub places : length (s .identifiers) ≡ 8
+  pub identifiers : (i : ℕ) → getD (s .identifiers) i 0 < 2 ^ 16
 
 -- the mark, the version's two bytes, and the lengths, in numbers
 pub record Begins : Type 0 where
@@ -32,31 +30,22 @@ pub record Begins : Type 0 where
   pub two : fileSize 2 ≡ 35
 
 -- a file and its settings: the bytes in which each stands (docs/SETTINGS-FILE.md)
-pub record Laid (x : List ℕ) (s : ShelfSettings) : Type 0 where
-  pub manager : numberAt x 5 2 ≡ s .first .manager
-  pub least : numberAt x 7 1 ≡ s .first .least
-  pub greatest : numberAt x 8 1 ≡ s .first .greatest
-  pub rule : numberAt x 9 1 ≡ cond (s .first .powers) 1 0
-  pub limit : numberAt x 10 2 ≡ s .first .limit
-  pub count : numberAt x 12 1 ≡ s .first .count
-  pub identifiers : (i : ℕ) → i < 8 → numberAt x (13 + 2 * i) 2 ≡ getD (s .first .identifiers) i 0
+pub record Laid (x : List ℕ) (s : Settings) : Type 0 where
+  pub manager : numberAt x 5 2 ≡ s .manager
+  pub least : numberAt x 7 1 ≡ s .least
+  pub greatest : numberAt x 8 1 ≡ s .greatest
+  pub rule : numberAt x 9 1 ≡ cond (s .powers) 1 0
+  pub limit : numberAt x 10 2 ≡ s .limit
+  pub count : numberAt x 12 1 ≡ s .count
+  pub identifiers : (i : ℕ) → i < 8 → numberAt x (13 + 2 * i) 2 ≡ getD (s .identifiers) i 0
   -- version 2: none is the first manager again with limit 0
-  pub none : versionIn x ≡ 2 → s .second ≡ Nothing → (numberAt x 29 2 ≡ s .first .manager) × (numberAt x 31 2 ≡ 0)
+  pub none : versionIn x ≡ 2 → s .second ≡ Nothing → (numberAt x 29 2 ≡ s .manager) × (numberAt x 31 2 ≡ 0)
   pub second : versionIn x ≡ 2 → (id limit : ℕ) → s .second ≡ Is id limit → (numberAt x 29 2 ≡ id) × (numberAt x 31 2 ≡ limit)
   pub shelf : versionIn x ≡ 2 → numberAt x 33 2 ≡ s .shelf
 
 -- each accepted file is laid out so
 abbrev pub Layout : Type 0
 Layout = (x : List ℕ) → newRead x .number ≡ 0 → Laid x (newRead x .settings)
-
--- rule 16 of settings with one or two managers: document 01's of the first one's; the limits are 0 to 128; a second manager is another, and none of the controllers
-pub record Lawful (s : ShelfSettings) : Type 0 where
-  pub first : settingsOk (s .first) ≡ true
-  pub shelf : s .shelf ≤ 128
-  pub second : (id limit : ℕ) → s .second ≡ Is id limit → (id ≢ s .first .manager) × (member id (identifiersOf (s .first)) ≡ false) × (limit ≤ 128)
-
-abbrev pub Rule : Type 0
-Rule = (s : ShelfSettings) → (shelfSettingsOk s ≡ true) ↔ Lawful s
 
 -- "Refusals: 35 for a wrong length, first where fewer than five bytes are there, else after 31 wrong mark and 32 version; then 16": of a reader's number, and of the versions
 -- that it takes
@@ -72,20 +61,20 @@ pub record Readers : Type 0 where
   pub new : Refuses (λ x. newRead x .number) (λ v. eqb v 1 || eqb v 2)
   -- a refusal comes with zeros
   pub old-zeros : (x : List ℕ) → oldRead x .number ≢ 0 → oldRead x .settings ≡ closedSettings
-  pub new-zeros : (x : List ℕ) → newRead x .number ≢ 0 → newRead x .settings ≡ record { first = closedSettings; second = Nothing; shelf = 0 }
+  pub new-zeros : (x : List ℕ) → newRead x .number ≢ 0 → newRead x .settings ≡ closedSettings
 
 -- the writer: 16, 32, 8, and otherwise it is done; which version can hold which settings
 pub record Writer : Type 0 where
-  pub rules : (size v : ℕ) (s : ShelfSettings) → shelfSettingsOk s ≡ false → refusal (writeTests size v s) ≡ 16
-  pub version : (size v : ℕ) (s : ShelfSettings) → shelfSettingsOk s ≡ true → holds v s ≡ false → refusal (writeTests size v s) ≡ 32
-  pub short : (size v : ℕ) (s : ShelfSettings) → shelfSettingsOk s ≡ true → holds v s ≡ true → size < fileSize v → refusal (writeTests size v s) ≡ 8
-  pub done : (size v : ℕ) (s : ShelfSettings) → shelfSettingsOk s ≡ true → holds v s ≡ true → fileSize v ≤ size → refusal (writeTests size v s) ≡ 0
-  pub one : (s : ShelfSettings) → (holds 1 s ≡ true) ↔ ((s .second ≡ Nothing) × (s .shelf ≡ 128))
-  pub two : (s : ShelfSettings) → holds 2 s ≡ true
-  pub other : (v : ℕ) (s : ShelfSettings) → v ≢ 1 → v ≢ 2 → holds v s ≡ false
+  pub rules : (size v : ℕ) (s : Settings) → settingsOk s ≡ false → refusal (writeTests size v s) ≡ 16
+  pub version : (size v : ℕ) (s : Settings) → settingsOk s ≡ true → holds v s ≡ false → refusal (writeTests size v s) ≡ 32
+  pub short : (size v : ℕ) (s : Settings) → settingsOk s ≡ true → holds v s ≡ true → size < fileSize v → refusal (writeTests size v s) ≡ 8
+  pub done : (size v : ℕ) (s : Settings) → settingsOk s ≡ true → holds v s ≡ true → fileSize v ≤ size → refusal (writeTests size v s) ≡ 0
+  pub one : (s : Settings) → (holds 1 s ≡ true) ↔ ((s .second ≡ Nothing) × (s .shelf ≡ 128))
+  pub two : (s : Settings) → holds 2 s ≡ true
+  pub other : (v : ℕ) (s : Settings) → v ≢ 1 → v ≢ 2 → holds v s ≡ false
   -- a refused one changes no byte, and a done one none after the file
-  pub refused : (buffer : List ℕ) (v : ℕ) (s : ShelfSettings) → refusal (writeTests (length buffer) v s) ≢ 0 → fileWritten buffer v s ≡ buffer
-  pub rest : (buffer : List ℕ) (v : ℕ) (s : ShelfSettings) → length (s .first .identifiers) ≡ 8 → drop (fileSize v) (fileWritten buffer v s) ≡ drop (fileSize v) buffer
+  pub refused : (buffer : List ℕ) (v : ℕ) (s : Settings) → refusal (writeTests (length buffer) v s) ≢ 0 → fileWritten buffer v s ≡ buffer
+  pub rest : (buffer : List ℕ) (v : ℕ) (s : Settings) → length (s .identifiers) ≡ 8 → drop (fileSize v) (fileWritten buffer v s) ≡ drop (fileSize v) buffer
 
 -- "Settings have one encoding at each version that can hold them"
 pub record OneEncoding : Type 0 where
@@ -93,8 +82,8 @@ pub record OneEncoding : Type 0 where
   pub survives : (buffer x : List ℕ) (v : ℕ) → Bytes x → newRead x .number ≡ 0 → refusal (writeTests (length buffer) v (newRead x .settings)) ≡ 0
       → newRead (take (fileSize v) (fileWritten buffer v (newRead x .settings))) ≡ newRead x
   -- reading what was written gives the settings, with zeros in the places that are not in use
-  pub read-written : (buffer : List ℕ) (v : ℕ) (s : ShelfSettings) → Fits s → refusal (writeTests (length buffer) v s) ≡ 0
-      → newRead (take (fileSize v) (fileWritten buffer v s)) ≡ record { number = 0; settings = record { first = cleaned (s .first); second = s .second; shelf = s .shelf } }
+  pub read-written : (buffer : List ℕ) (v : ℕ) (s : Settings) → Fits s → refusal (writeTests (length buffer) v s) ≡ 0
+      → newRead (take (fileSize v) (fileWritten buffer v s)) ≡ record { number = 0; settings = cleaned s }
   -- writing what was read, at its version, is done where there is room, and gives the file's bytes
   pub written-read : (buffer x : List ℕ) → Bytes x → newRead x .number ≡ 0 → length x ≤ length buffer
       → (refusal (writeTests (length buffer) (versionIn x) (newRead x .settings)) ≡ 0) × (fileWritten buffer (versionIn x) (newRead x .settings) ≡ put buffer 0 x)
@@ -104,9 +93,8 @@ pub record OneEncoding : Type 0 where
 
 -- "The new reader takes both; a version 1 file gives one manager and the shelf limit 128. The version 1 reader .. refuses version 2 by number."
 pub record BothReaders : Type 0 where
-  -- a file of version 1 is refused by both readers with one number, or by neither
-  pub number : (x : List ℕ) → versionIn x ≡ 1 → newRead x .number ≡ oldRead x .number
-  -- and means the same to both
-  pub settings : (x : List ℕ) → versionIn x ≡ 1 → oldRead x .number ≡ 0 → newRead x .settings ≡ record { first = oldRead x .settings; second = Nothing; shelf = 128 }
+  -- a file of version 1 means the same to both readers: they refuse it with one number, or take it with one manager and the shelf limit 128
+  pub same : (x : List ℕ) → versionIn x ≡ 1 → newRead x ≡ oldRead x
+  pub one : (x : List ℕ) → versionIn x ≡ 1 → newRead x .number ≡ 0 → (newRead x .settings .second ≡ Nothing) × (newRead x .settings .shelf ≡ 128)
   -- every file of version 2, and all else that begins like one, is refused by the old reader with 32
   pub version-two : (x : List ℕ) → 5 ≤ length x → take 3 x ≡ mark → versionIn x ≡ 2 → oldRead x ≡ record { number = 32; settings = closedSettings }

@@ -5,25 +5,19 @@ use mathlib.Core.Bool.{true, false}
 use mathlib.Core.Path.{_≡_}
 use mathlib.Core.List.{List, [], _∷_, _++_, map}
 use lib.ListN.{take, set, replicate}
-use Rattle.rules.specs.Shelf.{oneManager}
+use Rattle.rules.specs.declared.Second.the-variants.{Nothing, Is}
+use Rattle.rules.specs.declared.Settings.{Settings}
 use Rattle.settings_file.specs.File.{oldRead, newRead, fileBytes}
-use Rattle.rules.specs.declared.Second.the-variants.{Is}
-use Rattle.rules.specs.declared.ShelfSettings.{ShelfSettings}
 
 -- ---- settings and their files
 
 -- `dev 1 0 8 0 16 5 6`
-abbrev pub alone56 : ShelfSettings
-alone56 = oneManager (record { manager = 1; least = 0; greatest = 8; powers = false; limit = 16; count = 2; identifiers = 5 ∷ 6 ∷ replicate 6 0 })
+abbrev pub alone56 : Settings
+alone56 = record { manager = 1; least = 0; greatest = 8; powers = false; limit = 16; second = Nothing; shelf = 128; count = 2; identifiers = 5 ∷ 6 ∷ replicate 6 0 }
 
 -- managers 1 (limit 16) and 2 (limit 4), shelf limit 18, controllers 5, 6 and 7
-abbrev pub both567 : ShelfSettings
-both567 =
-    record {
-      first = record { manager = 1; least = 0; greatest = 8; powers = false; limit = 16; count = 3; identifiers = 5 ∷ 6 ∷ 7 ∷ replicate 5 0 };
-      second = Is 2 4;
-      shelf = 18;
-    }
+abbrev pub both567 : Settings
+both567 = record { manager = 1; least = 0; greatest = 8; powers = false; limit = 16; second = Is 2 4; shelf = 18; count = 3; identifiers = 5 ∷ 6 ∷ 7 ∷ replicate 5 0 }
 
 -- the file of `alone56` at version 1, at version 2, and that of `both567` at version 2
 abbrev pub aloneOne : List ℕ
@@ -36,12 +30,18 @@ abbrev pub bothTwo : List ℕ
 bothTwo = (84 ∷ 82 ∷ 75 ∷ 2 ∷ 0 ∷ 1 ∷ 0 ∷ 0 ∷ 8 ∷ 0 ∷ 16 ∷ 0 ∷ 3 ∷ 5 ∷ 0 ∷ 6 ∷ 0 ∷ 7 ∷ 0 ∷ replicate 10 0) ++ (2 ∷ 0 ∷ 4 ∷ 0 ∷ 18 ∷ 0 ∷ [])
 
 -- a number of its own in every field
-abbrev pub full : ShelfSettings
+abbrev pub full : Settings
 full =
     record {
-      first = record { manager = 0x0201; least = 3; greatest = 4; powers = true; limit = 5; count = 8; identifiers = 0x0706 ∷ 0x0908 ∷ 0x0b0a ∷ 0x0d0c ∷ 0x0f0e ∷ 0x1110 ∷ 0x1312 ∷ 0x1514 ∷ [] };
+      manager = 0x0201;
+      least = 3;
+      greatest = 4;
+      powers = true;
+      limit = 5;
       second = Is 0x1716 24;
       shelf = 25;
+      count = 8;
+      identifiers = 0x0706 ∷ 0x0908 ∷ 0x0b0a ∷ 0x0d0c ∷ 0x0f0e ∷ 0x1110 ∷ 0x1312 ∷ 0x1514 ∷ [];
     }
 
 abbrev pub fullTwo : List ℕ
@@ -85,9 +85,10 @@ cases =
     ∷ case (set aloneOne 9 2) 16 16
     ∷ case (set aloneOne 17 7) 16 16
     ∷ case (set aloneOne 12 9) 16 16
-    -- version 2: the first manager again with limit 3; a controller as second manager; the limits 128 and 129; the shelf's limits 0 and 129
+    -- version 2: the first manager again with limit 3; a controller as second manager; the limits 0, 128 and 129; the shelf's limits 0 and 129
     ∷ case (set aloneTwo 31 3) 32 16
     ∷ case (set bothTwo 29 5) 32 16
+    ∷ case (set bothTwo 31 0) 32 0
     ∷ case (set bothTwo 31 128) 32 0
     ∷ case (set bothTwo 31 129) 32 16
     ∷ case (set bothTwo 33 0) 32 0

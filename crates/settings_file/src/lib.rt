@@ -3,7 +3,6 @@
 
 use rules::Second;
 use rules::Settings;
-use rules::ShelfSettings;
 ghost use mathlib.Core.Path.{_≡_};
 ghost use mathlib.Core.Bool.{cond};
 ghost use Prim.Native.Nat.{_≤_};
@@ -12,43 +11,47 @@ ghost use Rattle.little.specs.Little.{put, records};
 ghost use Rattle.rules.specs.Lists.{every};
 ghost use Rattle.rules.specs.Refusals.{refusal};
 ghost use Rattle.rules.specs.Device.{closedSettings};
-ghost use Rattle.rules.specs.Shelf.{noShelfSettings};
-ghost use Rattle.settings_file.specs.File.{fileSize, mark, markOk, knownVersion, identifiersIn, firstIn, secondIn, settingsIn, spareOk, plainFirst, plainSecond, oldRead, newRead, identifierBytes, numbersBytes, headBytes, secondPlace, secondLimit, secondBytes, fileBytes, holds, writeTests, fileWritten};
+ghost use Rattle.settings_file.specs.File.{fileSize, mark, markOk, knownVersion, identifiersIn, secondOf, secondPlace, secondIn, shelfIn, settingsIn, spareOk, plainRules, readUpTo, oldRead, newRead, identifierBytes, numbersBytes, headBytes, secondBytes, fileBytes, holds, writeTests, fileWritten};
 
-// What the reader of version 1 answers: a refusal's number, or 0 and the settings.
-pub struct OldRead {
+// What a reader answers: a refusal's number, or 0 and the settings.
+pub struct Read {
     pub number: u8,
     pub settings: Settings,
 }
 
-// What the reader of both versions answers: a refusal's number, or 0 and the settings.
-pub struct NewRead {
-    pub number: u8,
-    pub settings: ShelfSettings,
+// ---- a second manager in two numbers
+
+// The second manager that an identifier and a limit stand for: the first manager again, with the limit 0, for none.
+pub fn second_of(manager: u16, id: u16, limit: u16) -> Second
+    ensures { λ r. ⌜ r ≡ secondOf manager id limit ⌝ }
+{
+    if id != manager {
+        return Second::Is(id, limit);
+    }
+    if limit != 0 {
+        return Second::Is(id, limit);
+    }
+    Second::Nothing
+}
+
+// The identifier that stands for a second manager. (Its limit is `settings::second_limit`.)
+pub fn second_place(manager: u16, second: Second) -> u16
+    ensures { λ r. ⌜ r ≡ secondPlace manager second ⌝ }
+{
+    match second {
+        Second::Nothing => manager,
+        Second::Is(id, _) => id,
+    }
 }
 
 // ---- reading
 
-// What the reader of version 1 answers with a refusal.
-fn old_refused(number: u8) -> OldRead
+// What a reader answers with a refusal.
+fn refuse(number: u8) -> Read
     ensures { λ r. ⌜ r ≡ record { number = number; settings = closedSettings } ⌝ }
 {
     let settings = settings::no_settings();
-    OldRead { number, settings }
-}
-
-// What the reader of both versions answers with a refusal.
-fn new_refused(number: u8) -> NewRead
-    ensures { λ r. ⌜ r ≡ record { number = number; settings = noShelfSettings } ⌝ }
-{
-    let first = settings::no_settings();
-    let second = Second::Nothing;
-    let settings = ShelfSettings {
-        first,
-        second,
-        shelf: 0,
-    };
-    NewRead { number, settings }
+    Read { number, settings }
 }
 
 // Whether the file begins with the mark `TRK`.
@@ -65,6 +68,23 @@ fn marked(file: &[u8]) -> bool
     file[2] == b'K'
 }
 
+// Whether a version is one of 1 to `last`.
+fn known(version: u16, last: u16) -> bool
+    ensures { λ r. ⌜ r ≡ knownVersion last version ⌝ }
+{
+    if version < 1 {
+        return false;
+    }
+    version <= last
+}
+
+// The bytes of a file of this version.
+fn file_size(version: u16) -> usize
+    ensures { λ r. ⌜ r ≡ fileSize version ⌝ }
+{
+    if version == 1 { 29 } else { 35 }
+}
+
 // The 8 places for identifiers, in use or not.
 fn read_identifiers(file: &[u8]) -> [u16; 8]
     requires { ⌜ 29 ≤ length (now file) ⌝ }
@@ -79,10 +99,35 @@ fn read_identifiers(file: &[u8]) -> [u16; 8]
     a
 }
 
-// The fields that both versions have.
-fn read_first(file: &[u8]) -> Settings
-    requires { ⌜ 29 ≤ length (now file) ⌝ }
-    ensures { λ r. ⌜ r ≡ firstIn (now (file .entry)) ⌝ }
+// The second manager of a file of this version.
+fn read_second(file: &[u8], version: u16) -> Second
+    requires { ⌜ fileSize version ≤ length (now file) ⌝ }
+    ensures { λ r. ⌜ r ≡ secondIn version (now (file .entry)) ⌝ }
+{
+    if version == 1 {
+        return Second::Nothing;
+    }
+    let manager = little::read_u16(file, 5);
+    let id = little::read_u16(file, 29);
+    let limit = little::read_u16(file, 31);
+    second_of(manager, id, limit)
+}
+
+// The shelf's limit in a file of this version.
+fn read_shelf(file: &[u8], version: u16) -> u16
+    requires { ⌜ fileSize version ≤ length (now file) ⌝ }
+    ensures { λ r. ⌜ r ≡ shelfIn version (now (file .entry)) ⌝ }
+{
+    if version == 1 {
+        return 128;
+    }
+    little::read_u16(file, 33)
+}
+
+// The settings of a file of this version.
+fn read_settings(file: &[u8], version: u16) -> Settings
+    requires { ⌜ (29 ≤ length (now file)) × (fileSize version ≤ length (now file)) ⌝ }
+    ensures { λ r. ⌜ r ≡ settingsIn version (now (file .entry)) ⌝ }
 {
     let manager = little::read_u16(file, 5);
     let least = little::read_u8(file, 7);
@@ -90,6 +135,8 @@ fn read_first(file: &[u8]) -> Settings
     let rule = little::read_u8(file, 9);
     let powers = rule == 1;
     let limit = little::read_u16(file, 10);
+    let second = read_second(file, version);
+    let shelf = read_shelf(file, version);
     let count = little::read_u8(file, 12) as usize;
     let identifiers = read_identifiers(file);
     Settings {
@@ -98,6 +145,8 @@ fn read_first(file: &[u8]) -> Settings
         greatest,
         powers,
         limit,
+        second,
+        shelf,
         count,
         identifiers,
     }
@@ -117,10 +166,10 @@ fn spare_ok(s: Settings) -> bool
     true
 }
 
-// Whether the fields that both versions have are in their one encoding: the rule's byte is 0 or 1, and spare places hold zeros.
-fn plain_first(file: &[u8], s: Settings) -> bool
+// Whether a file has its settings in their one encoding: the rule's byte is 0 or 1, and spare places hold zeros.
+fn plain(file: &[u8], s: Settings) -> bool
     requires { ⌜ 29 ≤ length (now file) ⌝ }
-    ensures { λ r. ⌜ r ≡ every (plainFirst (now (file .entry)) s) ⌝ }
+    ensures { λ r. ⌜ r ≡ every (plainRules (now (file .entry)) s) ⌝ }
 {
     if 1 < little::read_u8(file, 9) {
         return false;
@@ -128,141 +177,51 @@ fn plain_first(file: &[u8], s: Settings) -> bool
     spare_ok(s)
 }
 
-// The settings of a version 1 file. Refused, in this order: 35 fewer than 5 bytes, 31 another mark, 32 another version than 1, 35 another length than 29
-// bytes, 16 settings that break the rules or are not in their one encoding. A refusal comes with zeros in all fields.
-pub fn read_v1(file: &[u8]) -> OldRead
-    ensures { λ r. ⌜ r ≡ oldRead (now (file .entry)) ⌝ }
+// The settings of a file of a version up to `last`. Refused, in this order: 35 fewer than 5 bytes, 31 another mark, 32 another version, 35 another length than the
+// version's, 16 settings that break the rules or are not in their one encoding. A refusal comes with zeros in all fields.
+fn read_up_to(file: &[u8], last: u16) -> Read
+    ensures { λ r. ⌜ r ≡ readUpTo last (now (file .entry)) ⌝ }
 {
     if file.len() < 5 {
-        return old_refused(35);
+        return refuse(35);
     }
     if !marked(file) {
-        return old_refused(31);
+        return refuse(31);
     }
     let version = little::read_u16(file, 3);
-    if version != 1 {
-        return old_refused(32);
+    if !known(version, last) {
+        return refuse(32);
     }
-    if file.len() != 29 {
-        return old_refused(35);
+    if file.len() != file_size(version) {
+        return refuse(35);
     }
-    let settings = read_first(file);
-    if !plain_first(file, settings) {
-        return old_refused(16);
+    let settings = read_settings(file, version);
+    if !plain(file, settings) {
+        return refuse(16);
     }
     if !settings::settings_ok(settings) {
-        return old_refused(16);
+        return refuse(16);
     }
-    OldRead {
+    Read {
         number: 0,
         settings,
     }
 }
 
-// The bytes of a file of this version.
-fn file_size(version: u16) -> usize
-    ensures { λ r. ⌜ r ≡ fileSize version ⌝ }
+// The settings of a version 1 file: one manager, and the shelf's limit 128. Refused, in this order: 35 fewer than 5 bytes, 31 another mark, 32 another version than 1,
+// 35 another length than 29 bytes, 16 settings that break the rules or are not in their one encoding. A refusal comes with zeros in all fields.
+pub fn read_v1(file: &[u8]) -> Read
+    ensures { λ r. ⌜ r ≡ oldRead (now (file .entry)) ⌝ }
 {
-    if version == 1 { 29 } else { 35 }
-}
-
-// The second manager of a version 2 file: one that is equal to the first means that there is none.
-fn read_second(file: &[u8]) -> Second
-    requires { ⌜ 35 ≤ length (now file) ⌝ }
-    ensures { λ r. ⌜ r ≡ secondIn (now (file .entry)) ⌝ }
-{
-    let manager = little::read_u16(file, 5);
-    let id = little::read_u16(file, 29);
-    let limit = little::read_u16(file, 31);
-    if id == manager {
-        return Second::Nothing;
-    }
-    Second::Is(id, limit)
-}
-
-// Whether a file says in its one way that there is no second manager.
-fn plain_second(file: &[u8], version: u16) -> bool
-    requires { ⌜ fileSize version ≤ length (now file) ⌝ }
-    ensures { λ r. ⌜ r ≡ plainSecond version (now (file .entry)) ⌝ }
-{
-    if version == 1 {
-        return true;
-    }
-    let manager = little::read_u16(file, 5);
-    let id = little::read_u16(file, 29);
-    let limit = little::read_u16(file, 31);
-    if id != manager {
-        return true;
-    }
-    limit == 0
-}
-
-// The settings of a file of this version.
-fn read_settings(file: &[u8], version: u16) -> ShelfSettings
-    requires { ⌜ fileSize version ≤ length (now file) ⌝ }
-    ensures { λ r. ⌜ r ≡ settingsIn version (now (file .entry)) ⌝ }
-{
-    let first = read_first(file);
-    if version == 1 {
-        let second = Second::Nothing;
-        return ShelfSettings {
-            first,
-            second,
-            shelf: 128,
-        };
-    }
-    let second = read_second(file);
-    let shelf = little::read_u16(file, 33);
-    ShelfSettings {
-        first,
-        second,
-        shelf,
-    }
-}
-
-// Whether there is a file of this version.
-fn known(version: u16) -> bool
-    ensures { λ r. ⌜ r ≡ knownVersion version ⌝ }
-{
-    if version == 1 {
-        return true;
-    }
-    version == 2
+    read_up_to(file, 1)
 }
 
 // The settings of a file of version 1 or 2. Refused, in this order: 35 fewer than 5 bytes, 31 another mark, 32 another version, 35 another length than the
 // version's, 16 settings that break the rules or are not in their one encoding. A refusal comes with zeros in all fields.
-pub fn read_file(file: &[u8]) -> NewRead
+pub fn read_file(file: &[u8]) -> Read
     ensures { λ r. ⌜ r ≡ newRead (now (file .entry)) ⌝ }
 {
-    if file.len() < 5 {
-        return new_refused(35);
-    }
-    if !marked(file) {
-        return new_refused(31);
-    }
-    let version = little::read_u16(file, 3);
-    if !known(version) {
-        return new_refused(32);
-    }
-    if file.len() != file_size(version) {
-        return new_refused(35);
-    }
-    let settings = read_settings(file, version);
-    let first = settings.first;
-    if !plain_first(file, first) {
-        return new_refused(16);
-    }
-    if !plain_second(file, version) {
-        return new_refused(16);
-    }
-    if !shelf_settings::shelf_settings_ok(settings) {
-        return new_refused(16);
-    }
-    NewRead {
-        number: 0,
-        settings,
-    }
+    read_up_to(file, 2)
 }
 
 // ---- writing
@@ -326,42 +285,21 @@ fn put_head(buffer: &mut [u8], version: u16, s: Settings)
     put_identifiers(buffer, identifiers);
 }
 
-// What stands in a file for the second manager.
-fn second_place(manager: u16, second: Second) -> u16
-    ensures { λ r. ⌜ r ≡ secondPlace manager second ⌝ }
-{
-    match second {
-        Second::Nothing => manager,
-        Second::Is(id, _) => id,
-    }
-}
-
-// What stands in a file for its limit.
-fn second_limit(second: Second) -> u16
-    ensures { λ r. ⌜ r ≡ secondLimit second ⌝ }
-{
-    match second {
-        Second::Nothing => 0,
-        Second::Is(_, limit) => limit,
-    }
-}
-
 // Stores the fields that version 2 adds.
-fn put_second(buffer: &mut [u8], s: ShelfSettings)
+fn put_second(buffer: &mut [u8], s: Settings)
     requires { ⌜ 35 ≤ length (now buffer) ⌝ }
     ensures { λ _. ⌜ now (buffer .exit) ≡ put (now (buffer .entry)) 29 (secondBytes s) ⌝ }
 {
     let second = s.second;
-    let first = s.first;
-    let place = second_place(first.manager, second);
-    let limit = second_limit(second);
+    let place = second_place(s.manager, second);
+    let limit = settings::second_limit(second);
     little::put_u16(buffer, 29, place);
     little::put_u16(buffer, 31, limit);
     little::put_u16(buffer, 33, s.shelf);
 }
 
 // Whether a version can hold these settings.
-fn can_hold(version: u16, s: ShelfSettings) -> bool
+fn can_hold(version: u16, s: Settings) -> bool
     ensures { λ r. ⌜ r ≡ holds version s ⌝ }
 {
     if version != 1 {
@@ -375,12 +313,11 @@ fn can_hold(version: u16, s: ShelfSettings) -> bool
 }
 
 // Stores the file of this version, zeros in its spare bytes.
-fn put_file(buffer: &mut [u8], version: u16, s: ShelfSettings)
-    requires { ⌜ (s .first .count ≤ 8) × (fileSize version ≤ length (now buffer)) ⌝ }
+fn put_file(buffer: &mut [u8], version: u16, s: Settings)
+    requires { ⌜ (s .count ≤ 8) × (fileSize version ≤ length (now buffer)) ⌝ }
     ensures { λ _. ⌜ now (buffer .exit) ≡ put (now (buffer .entry)) 0 (fileBytes version s) ⌝ }
 {
-    let first = s.first;
-    let cleaned = settings::clean(first);
+    let cleaned = settings::clean(s);
     put_head(buffer, version, cleaned);
     if version != 1 {
         put_second(buffer, s);
@@ -389,11 +326,11 @@ fn put_file(buffer: &mut [u8], version: u16, s: ShelfSettings)
 
 // Writes the file of this version to the front of the buffer, zeros in its spare bytes, and answers 0; bytes after it stay as they were. Refused, in this
 // order: 16 settings that break the rules, 32 a version that cannot hold them, 8 a buffer too short; then no byte changes.
-pub fn write_file(buffer: &mut [u8], version: u16, s: ShelfSettings) -> u8
+pub fn write_file(buffer: &mut [u8], version: u16, s: Settings) -> u8
     ensures number { λ r. ⌜ r ≡ refusal (writeTests (length (now (buffer .entry))) version s) ⌝ }
     ensures bytes { λ _. ⌜ now (buffer .exit) ≡ fileWritten (now (buffer .entry)) version s ⌝ }
 {
-    if !shelf_settings::shelf_settings_ok(s) {
+    if !settings::settings_ok(s) {
         return 16;
     }
     if !can_hold(version, s) {

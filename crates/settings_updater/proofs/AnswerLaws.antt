@@ -9,9 +9,7 @@ use lib.ListN.{length, getD}
 use borrow.Author.Tests.{eq-eqb, ne-eqb}
 use Rattle.rules.specs.Refusals.{refusal}
 use Rattle.rules.specs.declared.Settings.{Settings}
-use Rattle.rules.specs.declared.Second.the-variants.{Nothing, Is}
-use Rattle.rules.specs.declared.ShelfSettings.{ShelfSettings}
-use Rattle.settings_file.specs.File.{fileSize, versionIn, newRead, secondPlace, secondLimit, writeTests, fileWritten}
+use Rattle.settings_file.specs.File.{fileSize, versionIn, newRead, writeTests, fileWritten}
 use Rattle.settings_file.proofs.ReaderLaws.{accepted}
 use Rattle.settings_updater.specs.Answers.{fileVersion, saveNumber, saved}
 
@@ -52,13 +50,13 @@ module _ (x : List ℕ) (n : ℕ) (e : n ≡ newRead x .number) where
     unfolding fileVersion
     version-accepted = rw yes-it-is
 
-    pub save-accepted : (v size : ℕ) (s : ShelfSettings) (r : ℕ) → s ≡ newRead x .settings → r ≡ refusal (writeTests size v s) → r ≡ saveNumber x v size
+    pub save-accepted : (v size : ℕ) (s : Settings) (r : ℕ) → s ≡ newRead x .settings → r ≡ refusal (writeTests size v s) → r ≡ saveNumber x v size
     unfolding saveNumber
-    save-accepted v size s r q w = rw yes-it-is (w ∙ ap (λ (t : ShelfSettings). refusal (writeTests size v t)) q)
+    save-accepted v size s r q w = rw yes-it-is (w ∙ ap (λ (t : Settings). refusal (writeTests size v t)) q)
 
-    pub saved-accepted : (v : ℕ) (buffer : List ℕ) (s : ShelfSettings) (l : List ℕ) → s ≡ newRead x .settings → l ≡ fileWritten buffer v s → l ≡ saved x v buffer
+    pub saved-accepted : (v : ℕ) (buffer : List ℕ) (s : Settings) (l : List ℕ) → s ≡ newRead x .settings → l ≡ fileWritten buffer v s → l ≡ saved x v buffer
     unfolding saved
-    saved-accepted v buffer s l q w = rw yes-it-is (w ∙ ap (λ (t : ShelfSettings). fileWritten buffer v t) q)
+    saved-accepted v buffer s l q w = rw yes-it-is (w ∙ ap (λ (t : Settings). fileWritten buffer v t) q)
 
 -- ---- parts of settings
 
@@ -79,16 +77,3 @@ module _ (s t : Settings) (e : s ≡ t) where
 
   pub rule-clear : s .powers ≡ false → _≡_ {A = ℕ} 0 (cond (t .powers) 1 0)
   rule-clear h = rw (sym (ap (λ (u : Settings). u .powers) e) ∙ h)
-
-module _ (s t : ShelfSettings) (e : s ≡ t) where
-  pub second-none : s .second ≡ Nothing → s .first .manager ≡ secondPlace (t .first .manager) (t .second)
-  second-none h = rw (sym (ap (λ (u : ShelfSettings). u .second) e) ∙ h) (ap (λ (u : ShelfSettings). u .first .manager) e)
-
-  pub second-is : (id limit : ℕ) → s .second ≡ Is id limit → id ≡ secondPlace (t .first .manager) (t .second)
-  second-is id limit h = rw (sym (ap (λ (u : ShelfSettings). u .second) e) ∙ h)
-
-  pub limit-none : s .second ≡ Nothing → 0 ≡ secondLimit (t .second)
-  limit-none h = rw (sym (ap (λ (u : ShelfSettings). u .second) e) ∙ h)
-
-  pub limit-is : (id limit : ℕ) → s .second ≡ Is id limit → limit ≡ secondLimit (t .second)
-  limit-is id limit h = rw (sym (ap (λ (u : ShelfSettings). u .second) e) ∙ h)

@@ -1,7 +1,6 @@
 -- An updater's answers, in the reader's and the writer's own numbers. Assumes nothing.
 use Prim.Native.Nat.{ℕ}
 use mathlib.Core.Path.{_≡_, refl, sym, ap, _∙_}
-use mathlib.Core.Logic.{_≢_}
 use mathlib.Core.List.{List}
 use lib.ListN.{length, take}
 use Rattle.rules.specs.Refusals.{refusal}
@@ -16,7 +15,6 @@ numbers x =
     record {
       no-version = λ h. sym (version-refused x (newRead x .number) refl h);
       version = λ h. sym (version-accepted x (newRead x .number) refl h);
-      first = refl;
       on = λ h. rw h;
       off = λ h. rw h;
       identifier = λ i. refl;

@@ -3,29 +3,26 @@ use Prim.Native.Nat.{ℕ}
 use mathlib.Core.Bool.{cond}
 use mathlib.Core.List.{List}
 use lib.Dec.{eqb}
-use lib.ListN.{length, getD}
+use lib.ListN.{getD}
 use Rattle.rules.specs.Refusals.{refusal}
-use Rattle.rules.specs.declared.Settings.{Settings}
-use Rattle.settings_file.specs.File.{versionIn, newRead, secondPlace, secondLimit, writeTests, fileWritten}
+use Rattle.rules.specs.Settings.{secondLimit}
+use Rattle.settings_file.specs.File.{versionIn, newRead, secondPlace, writeTests, fileWritten}
 
 -- its version, 0 where it is refused
 unfoldable pub fileVersion : List ℕ → ℕ
 fileVersion x = cond (eqb (newRead x .number) 0) (versionIn x) 0
 
--- the part of its settings with the first manager
-abbrev pub firstOf : List ℕ → Settings
-firstOf x = newRead x .settings .first
-
+-- the powers' rule, 0 or 1
 abbrev pub fileRule : List ℕ → ℕ
-fileRule x = cond (firstOf x .powers) 1 0
+fileRule x = cond (newRead x .settings .powers) 1 0
 
 -- the identifier in a place; past the places 0
 abbrev pub fileIdentifier : List ℕ → ℕ → ℕ
-fileIdentifier x i = getD (firstOf x .identifiers) i 0
+fileIdentifier x i = getD (newRead x .settings .identifiers) i 0
 
 -- the second manager, as a file of version 2 has it
 abbrev pub fileSecond : List ℕ → ℕ
-fileSecond x = secondPlace (firstOf x .manager) (newRead x .settings .second)
+fileSecond x = secondPlace (newRead x .settings .manager) (newRead x .settings .second)
 
 abbrev pub fileSecondLimit : List ℕ → ℕ
 fileSecondLimit x = secondLimit (newRead x .settings .second)

@@ -1,13 +1,11 @@
 // The settings file for an updater in C (document 02, W11): each function is given a file's bytes, and answers one number; the last one writes the file's settings
 // as a file of another version. Any bytes and any numbers are met with an answer. A refused file answers 0 to every question but those for its refusal.
 
-use rules::Second;
 use rules::Settings;
-use rules::ShelfSettings;
 ghost use mathlib.Core.Path.{_≡_};
 ghost use lib.ListN.{length};
 ghost use Rattle.settings_file.specs.File.{oldRead, newRead};
-ghost use Rattle.settings_updater.specs.Answers.{fileVersion, firstOf, fileRule, fileIdentifier, fileSecond, fileSecondLimit, saveNumber, saved};
+ghost use Rattle.settings_updater.specs.Answers.{fileVersion, fileRule, fileIdentifier, fileSecond, fileSecondLimit, saveNumber, saved};
 
 // ---- whether a file is accepted
 
@@ -43,45 +41,37 @@ pub extern "C" fn trk_settings_version(file: &[u8]) -> u16
 }
 
 // The settings of a file, zeros where it is refused.
-fn settings_of(file: &[u8]) -> ShelfSettings
+fn settings_of(file: &[u8]) -> Settings
     ensures { λ r. ⌜ r ≡ newRead (now (file .entry)) .settings ⌝ }
 {
     let read = settings_file::read_file(file);
     read.settings
 }
 
-// Its part with the first manager.
-fn first_of(file: &[u8]) -> Settings
-    ensures { λ r. ⌜ r ≡ firstOf (now (file .entry)) ⌝ }
-{
-    let s = settings_of(file);
-    s.first
-}
-
 // The first manager's identifier.
 #[no_mangle]
 pub extern "C" fn trk_settings_manager(file: &[u8]) -> u16
-    ensures { λ r. ⌜ r ≡ firstOf (now (file .entry)) .manager ⌝ }
+    ensures { λ r. ⌜ r ≡ newRead (now (file .entry)) .settings .manager ⌝ }
 {
-    let s = first_of(file);
+    let s = settings_of(file);
     s.manager
 }
 
 // The least granularity.
 #[no_mangle]
 pub extern "C" fn trk_settings_least(file: &[u8]) -> u8
-    ensures { λ r. ⌜ r ≡ firstOf (now (file .entry)) .least ⌝ }
+    ensures { λ r. ⌜ r ≡ newRead (now (file .entry)) .settings .least ⌝ }
 {
-    let s = first_of(file);
+    let s = settings_of(file);
     s.least
 }
 
 // The greatest granularity.
 #[no_mangle]
 pub extern "C" fn trk_settings_greatest(file: &[u8]) -> u8
-    ensures { λ r. ⌜ r ≡ firstOf (now (file .entry)) .greatest ⌝ }
+    ensures { λ r. ⌜ r ≡ newRead (now (file .entry)) .settings .greatest ⌝ }
 {
-    let s = first_of(file);
+    let s = settings_of(file);
     s.greatest
 }
 
@@ -90,25 +80,25 @@ pub extern "C" fn trk_settings_greatest(file: &[u8]) -> u8
 pub extern "C" fn trk_settings_rule(file: &[u8]) -> u8
     ensures { λ r. ⌜ r ≡ fileRule (now (file .entry)) ⌝ }
 {
-    let s = first_of(file);
+    let s = settings_of(file);
     if s.powers { 1 } else { 0 }
 }
 
 // The first manager's descriptor limit.
 #[no_mangle]
 pub extern "C" fn trk_settings_limit(file: &[u8]) -> u16
-    ensures { λ r. ⌜ r ≡ firstOf (now (file .entry)) .limit ⌝ }
+    ensures { λ r. ⌜ r ≡ newRead (now (file .entry)) .settings .limit ⌝ }
 {
-    let s = first_of(file);
+    let s = settings_of(file);
     s.limit
 }
 
 // The number of controllers.
 #[no_mangle]
 pub extern "C" fn trk_settings_count(file: &[u8]) -> u64
-    ensures { λ r. ⌜ r ≡ firstOf (now (file .entry)) .count ⌝ }
+    ensures { λ r. ⌜ r ≡ newRead (now (file .entry)) .settings .count ⌝ }
 {
-    let s = first_of(file);
+    let s = settings_of(file);
     s.count as u64
 }
 
@@ -117,7 +107,7 @@ pub extern "C" fn trk_settings_count(file: &[u8]) -> u64
 pub extern "C" fn trk_settings_identifier(file: &[u8], place: u64) -> u16
     ensures { λ r. ⌜ r ≡ fileIdentifier (now (file .entry)) place ⌝ }
 {
-    let s = first_of(file);
+    let s = settings_of(file);
     if 8 <= place {
         return 0;
     }
@@ -131,12 +121,8 @@ pub extern "C" fn trk_settings_second(file: &[u8]) -> u16
     ensures { λ r. ⌜ r ≡ fileSecond (now (file .entry)) ⌝ }
 {
     let s = settings_of(file);
-    let first = s.first;
     let second = s.second;
-    match second {
-        Second::Nothing => first.manager,
-        Second::Is(id, _) => id,
-    }
+    settings_file::second_place(s.manager, second)
 }
 
 // The second manager's descriptor limit; 0 where there is none.
@@ -146,10 +132,7 @@ pub extern "C" fn trk_settings_second_limit(file: &[u8]) -> u16
 {
     let s = settings_of(file);
     let second = s.second;
-    match second {
-        Second::Nothing => 0,
-        Second::Is(_, limit) => limit,
-    }
+    settings::second_limit(second)
 }
 
 // The limit over both managers.

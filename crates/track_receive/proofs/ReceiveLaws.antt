@@ -1,6 +1,6 @@
 -- What a receive answers, case by case of its table; what its loop lists and its header say together is the report. Assumes nothing.
 use mathlib.Core.Path.{_≡_, sym, ap, ap₂, _∙_}
-use mathlib.Core.Bool.{Bool, false}
+use mathlib.Core.Bool.{Bool, true, false}
 use mathlib.Core.List.{List, map}
 use Prim.Native.Nat.{ℕ, _≤_, _<_}
 use native.Mathlib.Omega.{arith}
@@ -12,21 +12,25 @@ use Rattle.bits.proofs.Pack.{pack-only}
 use Rattle.little.specs.Little.{put, records}
 use Rattle.report_data.proofs.Blocks.{report-done}
 use Rattle.rules.specs.Lists.{nonEmpty}
-use Rattle.rules.specs.Settings.{placeOf}
+use Rattle.rules.specs.Settings.{isManager, placeOf}
 use Rattle.rules.specs.Units.{Unit, units, pending}
 use Rattle.rules.specs.Report.{runs, Report, descriptor, descriptorBytes, room, reportOn, reportHeader, reportedRuns, laterRuns, groupsOn, marksLeft}
-use Rattle.rules.specs.Order.{receiveOrder}
+use Rattle.rules.specs.Order.{isTracker, receiveOrder}
 use Rattle.rules.specs.Machine.{noReport}
+use Rattle.rules.specs.declared.Controller.{Controller}
 use Rattle.rules.specs.declared.Device.{Device}
 use Rattle.rules.specs.declared.Range.{Range}
+use Rattle.rules.specs.declared.Tracking.{Tracking}
 use Rattle.rules.specs.declared.Tracking.the-variants.{Off, On}
 use Rattle.rules.proofs.RunLaws.{runs-length-le, pending-length-le}
-use Rattle.record.specs.Record.{noController, whereIs, seenIn}
+use Rattle.record.specs.Record.{noController, trackerOf, whereBy, seenIn}
 use Rattle.record.specs.declared.Place.the-variants.{At, Refused}
-use Rattle.record.proofs.RecordLaws.{Located, whereIs-at, whereIs-refused}
+use Rattle.record.proofs.RecordLaws.{Located, whereIs-at, whereBy-tests, whereBy-at}
+use Rattle.calls.specs.Inner.{trackingBy}
 use Rattle.calls.specs.Calls.{Engine, inWords, withMarks, Receipt, received, reportIn, receiveDone, receiveBy}
-use Rattle.scan.specs.Scan.{Lists}
 use Rattle.calls.specs.declared.Received.{Received}
+use Rattle.calls.proofs.PlaceLaws.{trackingBy-on, trackingBy-off}
+use Rattle.scan.specs.Scan.{Lists}
 
 -- ---- a promise met
 
@@ -47,46 +51,62 @@ lists-few g rs l base x room count more groups l′ x′ s = reported-few room (
 
 -- ---- the cases
 
-module _ (en : Engine) (d : Device) (ws : List ℕ) (id : ℕ) (x : List ℕ) where
-  pub receive-refused : (n : ℕ) → whereIs d (en .words ws) id ≡ Refused n → receiveBy en d ws id x ≡ received n noReport ws x
+module _ (en : Engine) (d : Device) (ws : List ℕ) (m id : ℕ) (x : List ℕ) where
+  pub receive-refused : (n : ℕ) → whereBy d (en .words ws) m id ≡ Refused n → receiveBy en d ws m id x ≡ received n noReport ws x
   unfolding receiveBy
   receive-refused n e =
-      whereIs-refused d (en .words ws) id n e (drop 2 (receiveOrder (seenIn d (en .words ws) (placeOf (d .settings) id)) x)) (receiveDone en d ws id x (placeOf (d .settings) id)) (λ n i. received n noReport ws x)
+      whereBy-tests d (en .words ws) m id n e (drop 3 (receiveOrder (d .settings) m (seenIn d (en .words ws) (placeOf (d .settings) id)) x)) (receiveDone en d ws id x (placeOf (d .settings) id)) (λ n i. received n noReport ws x)
 
-  module _ (i : ℕ) (e : whereIs d (en .words ws) id ≡ At i) where
+  module _ (i : ℕ) (e : whereBy d (en .words ws) m id ≡ At i) where
     l : Located d (en .words ws) id i
-    l = whereIs-at d (en .words ws) id i e
+    l = whereIs-at d (en .words ws) id i (whereBy-at d (en .words ws) m id i e .1)
 
-    pub receive-off : getD (d .controllers) i noController .tracking ≡ Off → receiveBy en d ws id x ≡ received 5 noReport ws x
+    by : isManager (d .settings) m ≡ true
+    by = whereBy-at d (en .words ws) m id i e .0
+
+    abbrev it : Controller
+    it = getD (d .controllers) i noController
+
+    -- how the manager finds it tracked
+    abbrev found : Tracking
+    found = trackingBy m (it .tracking) (it .manager)
+
+    pub receive-off : found ≡ Off → receiveBy en d ws m id x ≡ received 5 noReport ws x
     unfolding receiveBy
-    receive-off t = rw (l .place, l .seen, t)
+    receive-off t = rw (l .place, l .seen, by, trackingBy-off m (it .tracking) (it .manager) t)
 
-    module _ (g n : ℕ) (t : getD (d .controllers) i noController .tracking ≡ On g n) where
-      pub receive-short : length x < 32 → receiveBy en d ws id x ≡ received 8 noReport ws x
+    module _ (g n : ℕ) (t : found ≡ On g n) where
+      tracked : it .tracking ≡ On g n
+      tracked = trackingBy-on m (it .tracking) (it .manager) g n t .0
+
+      own : isTracker m (trackerOf it) ≡ true
+      own = trackingBy-on m (it .tracking) (it .manager) g n t .1
+
+      pub receive-short : length x < 32 → receiveBy en d ws m id x ≡ received 8 noReport ws x
       unfolding receiveBy
-      receive-short h = rw (l .place, l .seen, t, lt-leb 32 (length x) h)
+      receive-short h = rw (l .place, l .seen, by, own, lt-leb 32 (length x) h)
 
       abbrev us : List Unit
-      us = units g (take n (getD (d .controllers) i noController .ranges))
+      us = units g (take n (it .ranges))
 
       abbrev p : List Bool
-      p = en .marks ws (getD (d .controllers) i noController .base) (length us)
+      p = en .marks ws (it .base) (length us)
 
       abbrev b : Bool
-      b = getD (d .controllers) i noController .suspended
+      b = it .suspended
 
       abbrev k : ℕ
       k = room (length x)
 
-      receive-on : 32 ≤ length x → receiveBy en d ws id x ≡ reportIn en ws (getD (d .controllers) i noController .base) id b g us x
+      receive-on : 32 ≤ length x → receiveBy en d ws m id x ≡ reportIn en ws (it .base) id b g us x
       unfolding receiveBy
-      receive-on h = rw (l .place, l .seen, t, le-leb 32 (length x) h)
+      receive-on h = rw (l .place, l .seen, by, own, tracked, le-leb 32 (length x) h)
 
       -- what is listed, with the header, is the report
       pub receive-done : 32 ≤ length x → (ws′ x′ x″ : List ℕ) (runs : ℕ) (more : Bool) (groups : ℕ)
-          → runs ≡ length (reportedRuns k us p) → more ≡ nonEmpty (laterRuns k us p) → groups ≡ groupsOn k us p → ws′ ≡ en .reported ws (getD (d .controllers) i noController .base) k us
+          → runs ≡ length (reportedRuns k us p) → more ≡ nonEmpty (laterRuns k us p) → groups ≡ groupsOn k us p → ws′ ≡ en .reported ws (it .base) k us
           → x′ ≡ put x 16 (records descriptorBytes (map descriptor (reportedRuns k us p))) → x″ ≡ put x′ 0 (reportHeader id b more runs g)
-          → Receives (receiveBy en d ws id x) (record { number = 0; suspended = b; more = more; granularity = g; runs = runs; groups = groups }) ws′ x″
+          → Receives (receiveBy en d ws m id x) (record { number = 0; suspended = b; more = more; granularity = g; runs = runs; groups = groups }) ws′ x″
       receive-done h ws′ x′ x″ runs more groups count-is more-is groups-are marks-are bytes-are q =
           let r : Report = reportOn b g k us p in
           let c : runs ≡ length (r .descriptors) = count-is ∙ sym (length-map (reportedRuns k us p) descriptor) in (

@@ -23,20 +23,20 @@ pub fn nothing(number: u8) -> Received
     }
 }
 
-// Reports the controller's first pending runs into the buffer, as many as it holds, and makes them clear; later ones stay. More To Report is set exactly
+// Reports to the manager that tracks it the controller's first pending runs into the buffer, as many as it holds, and makes them clear; later ones stay. More To Report is set exactly
 // if a run stays. Bytes after the last descriptor are unchanged. The answer also says how many groups of 64 units were examined (W10). Refused, in this
-// order: 1, 2, 5 not tracked, 8 a buffer below 32 bytes.
-pub fn receive(d: Device, marks: &mut [u64], id: u16, buffer: &mut [u8]) -> Received
-    ensures { λ r. ⌜ (r ≡ receiveReceipt d (now (marks .entry)) id (now (buffer .entry)) .answer)
-        × (now (marks .exit) ≡ receiveReceipt d (now (marks .entry)) id (now (buffer .entry)) .marks)
-        × (now (buffer .exit) ≡ receiveReceipt d (now (marks .entry)) id (now (buffer .entry)) .buffer) ⌝ }
+// order: 1, 2 (also an unknown manager), 5 not tracked by this manager, 8 a buffer below 32 bytes.
+pub fn receive(d: Device, marks: &mut [u64], manager: u16, id: u16, buffer: &mut [u8]) -> Received
+    ensures { λ r. ⌜ (r ≡ receiveReceipt d (now (marks .entry)) manager id (now (buffer .entry)) .answer)
+        × (now (marks .exit) ≡ receiveReceipt d (now (marks .entry)) manager id (now (buffer .entry)) .marks)
+        × (now (buffer .exit) ≡ receiveReceipt d (now (marks .entry)) manager id (now (buffer .entry)) .buffer) ⌝ }
 {
-    let place = record::locate(d, marks.len(), id);
+    let place = record::locate_by(d, marks.len(), manager, id);
     let Place::At(i) = place else {
         return nothing(calls::number_of(place));
     };
     let c = d.controllers[i];
-    let t = c.tracking;
+    let t = calls::tracking_by(c, manager);
     let Tracking::On(g, n) = t else {
         return nothing(5);
     };

@@ -122,17 +122,18 @@ module _ (d : Device) (eight : length (d .controllers) ≡ 8) (i g n : ℕ) (rs 
   pub starts-below : i < 8
   starts-below = omega (arith, s .used, soundDevice-facts d (s .sound) .count)
 
-  -- the sizes with its own are those of the record in which the controller is tracked
-  pub starts-sizes : set (sizesOf d) i (length (units g (take n rs))) ≡ sizesOf (tracking d i g n rs)
-  starts-sizes = sym (sizes-with d eight (soundDevice-facts d (s .sound) .count) i (tracked d i g n rs) (s .used))
+  module _ (m : ℕ) where
+    -- the sizes with its own are those of the record in which the controller is tracked
+    pub starts-sizes : set (sizesOf d) i (length (units g (take n rs))) ≡ sizesOf (tracking d m i g n rs)
+    starts-sizes = sym (sizes-with d eight (soundDevice-facts d (s .sound) .count) i (tracked d m i g n rs) (s .used))
 
-  -- they fit
-  pub starts-fit : newBase (sizesOf (tracking d i g n rs)) 8 ≤ 16384
-  starts-fit = sizes-fit d eight (s .sound) i (s .used) (s .off) (tracked d i g n rs) (s .room)
+    -- they fit
+    pub starts-fit : newBase (sizesOf (tracking d m i g n rs)) 8 ≤ 16384
+    starts-fit = sizes-fit d eight (s .sound) i (s .used) (s .off) (tracked d m i g n rs) (s .room)
 
-  -- they may be packed, in whatever holds the pool's marks
-  pub starts-packs : {A : Type 0} (l : List A) → length l ≡ mostUnits → Packs l (basesOf d) (sizesOf (tracking d i g n rs)) i
-  starts-packs = start-packs-in d eight (s .sound) i (s .used) (s .off) (tracked d i g n rs) (s .room)
+    -- they may be packed, in whatever holds the pool's marks
+    pub starts-packs : {A : Type 0} (l : List A) → length l ≡ mostUnits → Packs l (basesOf d) (sizesOf (tracking d m i g n rs)) i
+    starts-packs = start-packs-in d eight (s .sound) i (s .used) (s .off) (tracked d m i g n rs) (s .room)
 
 -- ---- words that have the shares packed
 

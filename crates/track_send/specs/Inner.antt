@@ -14,12 +14,12 @@ use Rattle.rules.specs.declared.Controller.{Controller}
 use Rattle.rules.specs.declared.Device.{Device}
 use Rattle.record.specs.Record.{noController, withController, unitsOf}
 
--- the controller at a place, tracked, its share still nowhere and its queue as it was, and the record with it
-abbrev pub tracked : Device → ℕ → ℕ → ℕ → List Range → Controller
-tracked d i g n rs = record { tracking = On g n; base = 0; suspended = false; ranges = rs; queue = getD (d .controllers) i noController .queue }
+-- the controller at a place, tracked by a manager, its share still nowhere and its queue as it was, and the record with it
+abbrev pub tracked : Device → ℕ → ℕ → ℕ → ℕ → List Range → Controller
+tracked d m i g n rs = record { tracking = On g n; manager = m; base = 0; suspended = false; ranges = rs; queue = getD (d .controllers) i noController .queue }
 
-abbrev pub tracking : Device → ℕ → ℕ → ℕ → List Range → Device
-tracking d i g n rs = withController d i (tracked d i g n rs)
+abbrev pub tracking : Device → ℕ → ℕ → ℕ → ℕ → List Range → Device
+tracking d m i g n rs = withController d i (tracked d m i g n rs)
 
 -- what is known of the record and of the ranges where a start is not refused: the record is sound, the controller at a place in use is off, its ranges keep their
 -- rules, and their units are in the pool's room

@@ -19,11 +19,11 @@ ghost use Prim.Native.Nat.{_+_, _<_, _≤_};
 ghost use lib.ListN.{length, getD, set};
 ghost use Rattle.rules.specs.Lists.{sum};
 ghost use Rattle.rules.specs.Refusals.{refusalAt};
-ghost use Rattle.rules.specs.Settings.{markWords};
+ghost use Rattle.rules.specs.Settings.{markWords, isManager};
 ghost use Rattle.rules.specs.StartData.{headerOf};
 ghost use Rattle.rules.specs.declared.Header.the-variants.{Is};
 ghost use Rattle.rules.specs.Device.{soundDevice};
-ghost use Rattle.record.specs.Record.{noController, withController, countsOf, unitsOf};
+ghost use Rattle.record.specs.Record.{noController, withController, managedOf, countsOf, unitsOf};
 ghost use Rattle.start_data.specs.Answer.{headerSays};
 ghost use Rattle.calls.specs.Calls.{withClear, basesOf, sizesOf, packedFrom, packedDevice, packedWords, stopped, startChange, stopChange};
 ghost use Rattle.pool.specs.Pool.{newBase, newBases};
@@ -65,10 +65,13 @@ fn together(shares: [Share; 8]) -> usize
     total
 }
 
-// The first of 7, 8 (listed ranges), 18 to 21, 10, 11 and 12 that a start structure with this granularity and count breaks, with its row.
-pub fn listed_refusal(d: Device, g: u8, n: u32, data: &[u8]) -> Refusal
-    requires { ⌜ (soundDevice d ≡ true) × (headerOf (now «data») ≡ Is g n) ⌝ }
-    ensures { λ r. ⌜ r ≡ refusalAt (startListed (d .settings) (now («data» .entry)) ++ startShared (d .settings) (countsOf d) (unitsOf d) (now («data» .entry))) ⌝ }
+// The first of 7, 8 (listed ranges), 18 to 21, 10, 11, 12 and 34 that a start by this manager, from a structure with this granularity and count, breaks, with its row.
+pub fn listed_refusal(d: Device, manager: u16, g: u8, n: u32, data: &[u8]) -> Refusal
+    requires { ⌜ (soundDevice d ≡ true) × (isManager (d .settings) manager ≡ true) × (headerOf (now «data») ≡ Is g n) ⌝ }
+    ensures { λ r. ⌜ r
+        ≡ refusalAt
+        (startListed (d .settings) (now («data» .entry))
+        ++ startShared (d .settings) manager (unitsOf d) (managedOf d manager) (countsOf d) (now («data» .entry))) ⌝ }
 {
     let s = d.settings;
     if !settings::granularity_ok(s, g) {
@@ -91,8 +94,12 @@ pub fn listed_refusal(d: Device, g: u8, n: u32, data: &[u8]) -> Refusal
     if units.0 > MOST_UNITS - held as u64 {
         return Refusal { number: 11, row: 0 };
     }
-    if count + record::weights(d) > s.limit as usize {
+    let limit = settings::limit_of(s, manager);
+    if count + record::managed(d, manager) > limit as usize {
         return Refusal { number: 12, row: 0 };
+    }
+    if count + record::weights(d) > s.shelf as usize {
+        return Refusal { number: 34, row: 0 };
     }
     Refusal { number: 0, row: 0 }
 }
@@ -135,10 +142,18 @@ fn based(d: Device, sizes: [usize; 8], bases: [usize; 8]) -> Device
     e
 }
 
-// Records that a controller is tracked, its queue as it was, and where the shares, which with its own have these sizes, begin once packed.
-pub fn recorded(d: Device, i: usize, g: u8, n: u8, ranges: [Range; 16], sizes: [usize; 8]) -> Device
-    requires { ⌜ (i < 8) × (sizes ≡ sizesOf (tracking d i g n ranges)) × (newBase sizes 8 ≤ 16384) ⌝ }
-    ensures { λ r. ⌜ r ≡ packedDevice (tracking d i g n ranges) ⌝ }
+// Records that a controller is tracked by a manager, its queue as it was, and where the shares, which with its own have these sizes, begin once packed.
+pub fn recorded(
+    d: Device,
+    manager: u16,
+    i: usize,
+    g: u8,
+    n: u8,
+    ranges: [Range; 16],
+    sizes: [usize; 8],
+) -> Device
+    requires { ⌜ (i < 8) × (sizes ≡ sizesOf (tracking d manager i g n ranges)) × (newBase sizes 8 ≤ 16384) ⌝ }
+    ensures { λ r. ⌜ r ≡ packedDevice (tracking d manager i g n ranges) ⌝ }
 {
     let on = Tracking::On(g, n);
     let was = d.controllers[i];
@@ -146,6 +161,7 @@ pub fn recorded(d: Device, i: usize, g: u8, n: u8, ranges: [Range; 16], sizes: [
     let mut e = d;
     e.controllers[i] = Controller {
         tracking: on,
+        manager,
         base: 0,
         suspended: false,
         ranges,
@@ -155,26 +171,35 @@ pub fn recorded(d: Device, i: usize, g: u8, n: u8, ranges: [Range; 16], sizes: [
     based(e, sizes, bases)
 }
 
-// Records that a controller is tracked, and packs the shares: they stand one after another from bit 0 on, in the order of the settings, with their marks; the new
+// Records that a controller is tracked by a manager, and packs the shares: they stand one after another from bit 0 on, in the order of the settings, with their marks; the new
 // one is clear.
-fn install(d: Device, marks: &mut [u64], i: usize, g: u8, n: u8, ranges: [Range; 16]) -> Device
+fn install(
+    d: Device,
+    marks: &mut [u64],
+    manager: u16,
+    i: usize,
+    g: u8,
+    n: u8,
+    ranges: [Range; 16],
+) -> Device
     requires { ⌜ Installs d (now marks) i g n ranges ⌝ }
-    ensures { λ r. ⌜ (r ≡ packedDevice (tracking d i g n ranges)) × (now (marks .exit) ≡ packedWords (now (marks .entry)) (basesOf d) (sizesOf (tracking d i g n ranges)) i) ⌝ }
+    ensures { λ r. ⌜ (r ≡ packedDevice (tracking d manager i g n ranges)) × (now (marks .exit) ≡ packedWords (now (marks .entry)) (basesOf d) (sizesOf (tracking d manager i g n ranges)) i) ⌝ }
 {
     let shares = record::shares(d);
     let units = ranges::units_in(g, n as usize, ranges);
     let sizes = sizes_with(shares, i, units.0 as usize);
     pool::pack(marks, bases_of(shares), sizes, i);
-    recorded(d, i, g, n, ranges, sizes)
+    recorded(d, manager, i, g, n, ranges, sizes)
 }
 
-// Starts tracking a controller from a start structure: its granularity and ranges are recorded, and the shares of the pool are packed, its own clear among them. Refused, in this
-// order: 1, 2, 4 suspended, 3 already tracked, 8 no whole header, 6 version, 7 granularity, 8 listed ranges not there, 18 no range or more than 16, then row
-// by row 19 length 0, 20 unaligned, 21 past 2^64, then 10 power of two, 11 too many units, 12 descriptor limit passed. A refusal with 19 to 21 names its row.
-pub fn start(d: Device, marks: &mut [u64], id: u16, data: &[u8]) -> Started
-    ensures { λ r. ⌜ (r ≡ startChange d (now (marks .entry)) id (now («data» .entry)) .answer) × (now (marks .exit) ≡ startChange d (now (marks .entry)) id (now («data» .entry)) .marks) ⌝ }
+// Starts tracking a controller for a manager from a start structure: its granularity and ranges are recorded, and the shares of the pool are packed, its own clear among them. Refused, in this
+// order: 1, 2 (also an unknown manager), 4 suspended, 3 already tracked, by either manager, 8 no whole header, 6 version, 7 granularity, 8 listed ranges not there, 18 no range or more than 16, then row
+// by row 19 length 0, 20 unaligned, 21 past 2^64, then 10 power of two, 11 too many units, 12 the manager's descriptor limit passed, 34 the shelf's passed. A refusal
+// with 19 to 21 names its row.
+pub fn start(d: Device, marks: &mut [u64], manager: u16, id: u16, data: &[u8]) -> Started
+    ensures { λ r. ⌜ (r ≡ startChange d (now (marks .entry)) manager id (now («data» .entry)) .answer) × (now (marks .exit) ≡ startChange d (now (marks .entry)) manager id (now («data» .entry)) .marks) ⌝ }
 {
-    let place = record::locate(d, marks.len(), id);
+    let place = record::locate_by(d, marks.len(), manager, id);
     let Place::At(i) = place else {
         return refused(d, calls::number_of(place), 0);
     };
@@ -190,12 +215,12 @@ pub fn start(d: Device, marks: &mut [u64], id: u16, data: &[u8]) -> Started
     let Header::Is(g, n) = header else {
         return refused(d, header_number(header), 0);
     };
-    let refusal = listed_refusal(d, g, n, data);
+    let refusal = listed_refusal(d, manager, g, n, data);
     if refusal.number != 0 {
         return refused(d, refusal.number, refusal.row);
     }
     let ranges = start_data::read_ranges(data, n as usize);
-    let device = install(d, marks, i, g, n as u8, ranges);
+    let device = install(d, marks, manager, i, g, n as u8, ranges);
     Started {
         number: 0,
         row: 0,
@@ -213,7 +238,7 @@ fn clear_share(marks: &mut [u64], base: usize, n: usize)
     bits::clear_span(marks, base, base + n);
 }
 
-// The record with the ranges of the controller at place i forgotten, and its share with them. Its queue stays.
+// The record with the ranges of the controller at place i forgotten, and its share and its manager with them. Its queue stays.
 pub fn forgotten(d: Device, i: usize) -> Device
     requires { ⌜ i < 8 ⌝ }
     ensures { λ r. ⌜ r ≡ withController d i (stopped (getD (d .controllers) i noController)) ⌝ }
@@ -225,6 +250,7 @@ pub fn forgotten(d: Device, i: usize) -> Device
     let mut e = d;
     e.controllers[i] = Controller {
         tracking: off,
+        manager: 0,
         base: 0,
         suspended: c.suspended,
         ranges: none,
@@ -233,11 +259,12 @@ pub fn forgotten(d: Device, i: usize) -> Device
     e
 }
 
-// Stops tracking a controller: its ranges are forgotten and its share of the marks is clear. Refused, in this order: 1, 2, 4 suspended, 5 not tracked.
-pub fn stop(d: Device, marks: &mut [u64], id: u16) -> Changed
-    ensures { λ r. ⌜ (r ≡ stopChange d (now (marks .entry)) id .answer) × (now (marks .exit) ≡ stopChange d (now (marks .entry)) id .marks) ⌝ }
+// Stops tracking a controller: its ranges are forgotten and its share of the marks is clear. Refused, in this order: 1, 2 (also an unknown
+// manager), 4 suspended, 5 not tracked by this manager.
+pub fn stop(d: Device, marks: &mut [u64], manager: u16, id: u16) -> Changed
+    ensures { λ r. ⌜ (r ≡ stopChange d (now (marks .entry)) manager id .answer) × (now (marks .exit) ≡ stopChange d (now (marks .entry)) manager id .marks) ⌝ }
 {
-    let place = record::locate(d, marks.len(), id);
+    let place = record::locate_by(d, marks.len(), manager, id);
     let Place::At(i) = place else {
         let number = calls::number_of(place);
         return Changed { number, device: d };
@@ -249,7 +276,7 @@ pub fn stop(d: Device, marks: &mut [u64], id: u16) -> Changed
             device: d,
         };
     }
-    let t = c.tracking;
+    let t = calls::tracking_by(c, manager);
     let Tracking::On(g, n) = t else {
         return Changed {
             number: 5,

@@ -65,7 +65,7 @@ Fronts s c = (s ≡ singleOf c) × (1 ≤ length (c .ranges))
 
 -- it, as far as that says
 abbrev pub alone : Single → Controller
-alone f = record { tracking = f .tracking; base = f .base; suspended = f .suspended; ranges = f .first ∷ []; queue = queue.Nothing }
+alone f = record { tracking = f .tracking; manager = 0; base = f .base; suspended = f .suspended; ranges = f .first ∷ []; queue = queue.Nothing }
 
 -- ---- a batch
 

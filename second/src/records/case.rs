@@ -2,7 +2,7 @@
 
 use super::marks::Marks;
 use crate::little_endian::{get, put};
-use crate::rules::{Controller, Note, Queue, Range, Record, Sequence, Settings, Tracking};
+use crate::rules::{Controller, Manager, Note, Queue, Range, Record, Sequence, Settings, Tracking};
 
 /// A case is exactly so long; what stands after its last field is not looked at.
 pub const CASE_BYTES: usize = 3056;
@@ -62,6 +62,8 @@ pub struct Case {
     pub words: Vec<u64>,
     pub plain: Option<Plain>,
     pub call: Call,
+    /// The manager that makes the call, if that is one that names it (W12).
+    pub by: u64,
     pub id: u64,
     pub data: Vec<u8>,
     /// A part's state area, or a queue's area; no other call takes one.
@@ -112,6 +114,7 @@ pub fn read_case(bytes: &[u8]) -> Option<Case> {
     let words = fields.next(2)?;
     let mark = fields.next(8)?;
     let number = fields.next(1)?;
+    let by = fields.next(2)?;
     let id = fields.next(2)?;
     let address = fields.next(8)?;
     let written = fields.next(8)?;
@@ -148,7 +151,7 @@ pub fn read_case(bytes: &[u8]) -> Option<Case> {
     let words = if lent_to_plain.is_none() { lent_words(words, mark)? } else { Vec::new() };
     let plain = lent_to_plain.map(|bytes| Plain { bytes, shown: if has_area { None } else { Some(shown) } });
     let shown = if of_a_queue { shown } else { 0 };
-    Some(Case { record, words, plain, call, id, data, area, shown })
+    Some(Case { record, words, plain, call, by, id, data, area, shown })
 }
 
 fn read_settings(fields: &mut Fields) -> Option<Settings> {
@@ -158,6 +161,8 @@ fn read_settings(fields: &mut Fields) -> Option<Settings> {
         greatest: fields.next(1)?,
         rule: fields.next_within(1, 1)?,
         limit: fields.next(2)?,
+        second: read_second(fields)?,
+        shelf: fields.next(2)?,
         number: fields.next(8)?,
         ..Settings::default()
     };
@@ -165,6 +170,16 @@ fn read_settings(fields: &mut Fields) -> Option<Settings> {
         *identifier = fields.next(2)?;
     }
     Some(settings)
+}
+
+/// 0 and zeros where there is one manager, 1 and the second one's identifier and limit where there are two. The outer nothing
+/// is for bytes that aren't in the form.
+fn read_second(fields: &mut Fields) -> Option<Option<Manager>> {
+    match (fields.next(1)?, fields.next(2)?, fields.next(2)?) {
+        (0, 0, 0) => Some(None),
+        (1, id, limit) => Some(Some(Manager { id, limit })),
+        _ => None,
+    }
 }
 
 fn read_controller(fields: &mut Fields) -> Option<Controller> {
@@ -175,8 +190,9 @@ fn read_controller(fields: &mut Fields) -> Option<Controller> {
     };
     let suspended = fields.next_within(1, 1)? == 1;
     let base = fields.next(2)?;
+    let manager = fields.next(2)?;
     let queue = read_queue(fields)?;
-    let mut controller = Controller { tracking, suspended, base, queue, ..Controller::default() };
+    let mut controller = Controller { tracking, suspended, base, manager, queue, ..Controller::default() };
     for range in controller.ranges.iter_mut() {
         *range = Range { start: fields.next(8)?, length: fields.next(4)? };
     }
@@ -289,10 +305,20 @@ fn put_settings(bytes: &mut Vec<u8>, settings: &Settings) {
     put(bytes, u128::from(settings.greatest), 1);
     put(bytes, u128::from(settings.rule), 1);
     put(bytes, u128::from(settings.limit), 2);
+    put_second(bytes, settings.second);
+    put(bytes, u128::from(settings.shelf), 2);
     put(bytes, u128::from(settings.number), 8);
     for identifier in &settings.identifiers {
         put(bytes, u128::from(*identifier), 2);
     }
+}
+
+fn put_second(bytes: &mut Vec<u8>, second: Option<Manager>) {
+    let there = second.is_some();
+    let second = second.unwrap_or_default();
+    put(bytes, u128::from(there), 1);
+    put(bytes, u128::from(second.id), 2);
+    put(bytes, u128::from(second.limit), 2);
 }
 
 fn put_controller(bytes: &mut Vec<u8>, controller: &Controller) {
@@ -305,6 +331,7 @@ fn put_controller(bytes: &mut Vec<u8>, controller: &Controller) {
     put(bytes, u128::from(count), 1);
     put(bytes, u128::from(controller.suspended), 1);
     put(bytes, u128::from(controller.base), 2);
+    put(bytes, u128::from(controller.manager), 2);
     put_queue(bytes, controller.queue);
     for range in &controller.ranges {
         put(bytes, u128::from(range.start), 8);

@@ -117,22 +117,22 @@ fn done(case: &Case) -> Result<Outcome, Reason> {
         Call::Fresh => {}
         Call::Start => {
             // "every bit behind them 0": the marks are made anew from what is pending, the new share's among them.
-            device.start(case.id, &case.data)?;
+            device.start(case.by, case.id, &case.data)?;
             after.marks().clear_all();
         }
         Call::Stop => {
-            device.stop(case.id)?;
+            device.stop(case.by, case.id)?;
             clear_share(&case.record, case.id, after.marks());
         }
         Call::Write { address, bytes } => {
             after.count = device.write(&Note { id: case.id, address: *address, bytes: *bytes })?;
         }
         Call::Receive => {
-            after.groups = device.receive(case.id, &mut after.data)? as u64;
+            after.groups = device.receive(case.by, case.id, &mut after.data)? as u64;
             after.report = report_numbers(&after.data);
         }
-        Call::Suspend { kind } => device.suspend(case.id, *kind)?,
-        Call::Resume => device.resume(case.id)?,
+        Call::Suspend { kind } => device.suspend(case.by, case.id, *kind)?,
+        Call::Resume => device.resume(case.by, case.id)?,
         Call::Batch(notes) => {
             let batch = device.batch(notes)?;
             after.count = batch.count as u64;
@@ -142,7 +142,7 @@ fn done(case: &Case) -> Result<Outcome, Reason> {
         Call::Part { indicator, low, high, count } => {
             let (id, data) = (case.id, case.data.clone());
             let part = Part { id, indicator: *indicator, low: *low, high: *high, count: *count, data };
-            after.whole = device.set_state(&mut after.area, &part)? as u64;
+            after.whole = device.set_state(case.by, &mut after.area, &part)? as u64;
         }
         Call::MakeQueue => device.make_queue(case.id, &case.area)?,
         Call::Post => after.stopped = device.post(case.id, &mut after.area, &case.data)?,

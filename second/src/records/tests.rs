@@ -3,13 +3,13 @@
 
 use super::*;
 use crate::device::units;
-use crate::rules::{Controller, Queue, Range, Sequence, Settings, Tracking};
+use crate::rules::{Controller, Manager, Queue, Range, Sequence, Settings, Tracking};
 use crate::structure::structure_bytes;
 use crate::tests::Random;
 
-/// Manager 1, granularities 0 to 8, rule off, limit 16, controllers 5, 6 and 7. Controller 5 tracks 4 units from page 16
-/// on and 2 units from page 0 on; 6 is not tracked; 7 is suspended and tracks 3 units of granularity 8. The share of 5 begins
-/// at bit 0, and that of 7 at bit 8192, in word 128. All marks are 0.
+/// Manager 1, granularities 0 to 8, rule off, limit 16, shelf limit 128, controllers 5, 6 and 7. Controller 5 tracks 4 units
+/// from page 16 on and 2 units from page 0 on; 6 is not tracked; 7 is suspended and tracks 3 units of granularity 8. The share
+/// of 5 begins at bit 0, and that of 7 at bit 8192, in word 128. All marks are 0. Manager 1 calls.
 fn base(call: Call, id: u64) -> Case {
     let mut record = Record::default();
     record.settings = Settings {
@@ -18,17 +18,25 @@ fn base(call: Call, id: u64) -> Case {
         greatest: 8,
         rule: 0,
         limit: 16,
+        second: None,
+        shelf: 128,
         number: 3,
         identifiers: [5, 6, 7, 0, 0, 0, 0, 0],
     };
-    record.controllers[0].tracking = Tracking::On { granularity: 0, count: 2 };
+    turn_on(&mut record, 0, 0, 2);
     record.controllers[0].ranges[0] = Range { start: 65536, length: 4 };
     record.controllers[0].ranges[1] = Range { start: 0, length: 2 };
-    record.controllers[2].tracking = Tracking::On { granularity: 8, count: 1 };
+    turn_on(&mut record, 2, 8, 1);
     record.controllers[2].suspended = true;
     record.controllers[2].ranges[0] = Range { start: 1048576, length: 3 };
     record.controllers[2].base = 8192;
-    Case { record, words: vec![0; 256], plain: None, call, id, data: Vec::new(), area: Vec::new(), shown: 0 }
+    Case { record, words: vec![0; 256], plain: None, call, by: 1, id, data: Vec::new(), area: Vec::new(), shown: 0 }
+}
+
+/// Manager 1 tracks the controller in this place at this granularity, with so many ranges.
+fn turn_on(record: &mut Record, place: usize, granularity: u64, count: u64) {
+    record.controllers[place].tracking = Tracking::On { granularity, count };
+    record.controllers[place].manager = 1;
 }
 
 /// A batch of these notes: identifier, address and bytes.
@@ -98,11 +106,13 @@ fn calls() -> Vec<Case> {
     ]
 }
 
-/// What each of the eleven calls answers once the base's record is changed so. A refused one must leave all as it was.
+/// What each of the eleven calls answers once the base's record is changed so, and the first manager calls. A refused one must
+/// leave all as it was.
 fn refusals(change: &dyn Fn(&mut Record)) -> Vec<Refusal> {
     let mut refusals = Vec::new();
     for mut case in calls() {
         change(&mut case.record);
+        case.by = case.record.settings.manager;
         let after = outcome(&case);
         if after.refusal != 0 {
             assert_eq!(after, Outcome { refusal: after.refusal, ..untouched(&case) });
@@ -129,7 +139,7 @@ fn assert_start_refused(change: &dyn Fn(&mut Record), refusal: Refusal) {
 
 /// Puts these ranges, and no others, into the first controller's places.
 fn track(record: &mut Record, granularity: u64, ranges: &[(u64, u64)]) {
-    record.controllers[0].tracking = Tracking::On { granularity, count: ranges.len() as u64 };
+    turn_on(record, 0, granularity, ranges.len() as u64);
     record.controllers[0].ranges = Default::default();
     for (place, (start, length)) in record.controllers[0].ranges.iter_mut().zip(ranges) {
         *place = Range { start: *start, length: *length };
@@ -159,10 +169,15 @@ fn settings_at_and_past_their_limits() {
         record.settings.number = 8;
         record.settings.identifiers = [5, 6, 7, 0, 65535, 2, 3, 4];
     });
-    // 0 in two places, then the manager among them.
+    // 0 in two places, then the manager among them, who tracks under that name.
     assert_unsound(&|record| record.settings.number = 5);
-    assert_unsound(&|record| record.settings.manager = 6);
-    assert_sound(&|record| record.settings.manager = 0);
+    let named = |record: &mut Record, manager| {
+        record.settings.manager = manager;
+        record.controllers[0].manager = manager;
+        record.controllers[2].manager = manager;
+    };
+    assert_unsound(&|record| named(record, 6));
+    assert_sound(&|record| named(record, 0));
     assert_sound(&|record| record.settings.greatest = 20);
     assert_unsound(&|record| record.settings.greatest = 21);
     assert_unsound(&|record| record.settings.least = 9);
@@ -173,10 +188,10 @@ fn settings_at_and_past_their_limits() {
 #[test]
 fn counts_and_granularities_at_and_past_their_limits() {
     for count in &[0, 17, 255] {
-        assert_unsound(&|record| record.controllers[0].tracking = Tracking::On { granularity: 0, count: *count });
-        assert_unsound(&|record| record.controllers[1].tracking = Tracking::On { granularity: 0, count: *count });
+        assert_unsound(&|record| turn_on(record, 0, 0, *count));
+        assert_unsound(&|record| turn_on(record, 1, 0, *count));
     }
-    assert_unsound(&|record| record.controllers[2].tracking = Tracking::On { granularity: 9, count: 1 });
+    assert_unsound(&|record| turn_on(record, 2, 9, 1));
     // Controller 5 was started with 0, controller 7 with 8.
     assert_unsound(&|record| record.settings.least = 1);
     assert_unsound(&|record| record.settings.greatest = 7);
@@ -237,10 +252,12 @@ fn rubbish(record: &mut Record) {
         }
     }
     record.controllers[1].base = 60000;
+    record.controllers[1].manager = 60001;
     for controller in record.controllers.iter_mut().skip(3) {
         controller.tracking = Tracking::On { granularity: 255, count: 255 };
         controller.suspended = true;
         controller.base = 65535;
+        controller.manager = 65534;
         controller.queue = Some(queue(2, 9, 3, 65535));
     }
 }
@@ -419,7 +436,7 @@ fn batches_of_several_controllers() {
     // Controller 6 tracks pages 0 and 1, in word 64; 7 runs, and its units of 1 MiB from 1 on are in word 128.
     let list = [(7, 1048575, 2), (5, 0, 1), (6, 0, 1), (7, 2097152, 1), (6, 4095, 2), (5, 0, 4096)];
     let mut case = base(batch(&list), 0);
-    case.record.controllers[1].tracking = Tracking::On { granularity: 0, count: 1 };
+    turn_on(&mut case.record, 1, 0, 1);
     case.record.controllers[1].ranges[0] = Range { start: 0, length: 2 };
     case.record.controllers[1].base = 4096;
     case.record.controllers[2].suspended = false;
@@ -878,7 +895,7 @@ fn start_and_stop_zero_what_they_leave_unused() {
         let mut expected = untouched(&case);
         expected.record.controllers[*place] = Controller::default();
         if *place == 1 {
-            expected.record.controllers[1].tracking = Tracking::On { granularity: 0, count: 1 };
+            turn_on(&mut expected.record, 1, 0, 1);
             expected.record.controllers[1].ranges[0] = Range { start: 65536, length: 1 };
             // Six bits of 5, one of 6, which is clear, and three of 7; all behind them are 0.
             expected.record.controllers[1].base = 6;
@@ -923,7 +940,7 @@ fn writes_and_reports_keep_to_their_bits() {
 fn last_bit_of_a_controller() {
     // Unit 4095 of a share that begins at bit 4096 is the highest bit of word 127.
     let mut case = base(Call::Write { address: 16777215, bytes: 1 }, 6);
-    case.record.controllers[1].tracking = Tracking::On { granularity: 0, count: 1 };
+    turn_on(&mut case.record, 1, 0, 1);
     case.record.controllers[1].ranges[0] = Range { start: 0, length: 4096 };
     case.record.controllers[1].base = 4096;
     let mut expected = untouched(&case);
@@ -944,7 +961,7 @@ fn last_bit_of_a_controller() {
 
 /// The controller in this place tracks so many pages from page 0 on, and its share begins at this bit.
 fn share(record: &mut Record, place: usize, base: u64, pages: u64) {
-    record.controllers[place].tracking = Tracking::On { granularity: 0, count: 1 };
+    turn_on(record, place, 0, 1);
     record.controllers[place].ranges = Default::default();
     record.controllers[place].ranges[0] = Range { start: 0, length: pages };
     record.controllers[place].base = base;
@@ -1016,7 +1033,7 @@ fn a_start_moves_pending_units_with_their_shares() {
     let mut expected = untouched(&case);
     expected.record.controllers[0].base = 0;
     expected.record.controllers[1] = Controller { base: 130, ..Controller::default() };
-    expected.record.controllers[1].tracking = Tracking::On { granularity: 0, count: 1 };
+    turn_on(&mut expected.record, 1, 0, 1);
     expected.record.controllers[1].ranges[0] = Range { start: 0, length: 70 };
     expected.record.controllers[2].base = 200;
     expected.words = words_of(&[0, 63, 64, 129, 200, 202]);
@@ -1221,16 +1238,18 @@ fn rows_of(record: &Record, words: &[u64]) -> Vec<Option<Vec<bool>>> {
 
 /// A session as a row of cases, each given the record and the words that the one before left. It is answered as a session
 /// of the device alone, which has no words; after a done start the words are the rows joined, and else only the called
-/// controller's row may have changed.
+/// controller's row may have changed. Two managers call, and at times an unknown one.
 #[test]
 fn a_row_of_cases_is_a_session() {
     let mut random = Random(8);
     let fresh = start_with(&[]);
-    let mut met = [0; 22];
+    let mut met = [0; 35];
     for _ in 0..60 {
         let mut record = Record { settings: fresh.record.settings.clone(), ..Record::default() };
         record.settings.number = 5;
-        record.settings.limit = 128;
+        record.settings.limit = 2 + random.below(5) as u64;
+        record.settings.second = Some(Manager { id: 2, limit: 2 + random.below(3) as u64 });
+        record.settings.shelf = 3 + random.below(5) as u64;
         record.settings.identifiers = [5, 6, 7, 8, 9, 0, 0, 0];
         let mut device = Device::fresh(&record.settings).unwrap();
         let mut words = vec![0; 256];
@@ -1252,16 +1271,17 @@ fn a_row_of_cases_is_a_session() {
                 _ => Call::Write { address: address % 4194304, bytes },
             };
             let id = device.record.settings.identifiers[place];
+            let by = [1, 1, 1, 1, 2, 2, 2, 2, 3][random.below(9)];
             let data = if call == Call::Start { structure_bytes(0, ranges) } else { vec![170; 48] };
-            let case = Case { record, words, call, data: data.clone(), ..base(Call::Fresh, id) };
+            let case = Case { record, words, call, by, data: data.clone(), ..base(Call::Fresh, id) };
             let after = outcome(&case);
             let mut buffer = data;
             let (refusal, count) = match &case.call {
-                Call::Start => (device.start(id, &buffer).err().map(|reason| reason.number), 0),
-                Call::Stop => (device.stop(id).err(), 0),
-                Call::Receive => (device.receive(id, &mut buffer).err(), 0),
-                Call::Suspend { kind } => (device.suspend(id, *kind).err(), 0),
-                Call::Resume => (device.resume(id).err(), 0),
+                Call::Start => (device.start(by, id, &buffer).err().map(|reason| reason.number), 0),
+                Call::Stop => (device.stop(by, id).err(), 0),
+                Call::Receive => (device.receive(by, id, &mut buffer).err(), 0),
+                Call::Suspend { kind } => (device.suspend(by, id, *kind).err(), 0),
+                Call::Resume => (device.resume(by, id).err(), 0),
                 _ => {
                     let noted = device.write(&Note { id, address: address % 4194304, bytes });
                     (noted.err(), noted.unwrap_or(0))
@@ -1290,8 +1310,8 @@ fn a_row_of_cases_is_a_session() {
             words = after.words;
         }
     }
-    for refusal in [0, 3, 4, 5, 11, 13].iter() {
-        assert!(met[*refusal] > 50, "{}: {}", refusal, met[*refusal]);
+    for refusal in [0, 2, 3, 4, 5, 11, 12, 13, 34].iter() {
+        assert!(met[*refusal] > 30, "{}: {}", refusal, met[*refusal]);
     }
 }
 
@@ -1557,12 +1577,14 @@ fn random_bytes(random: &mut Random, words: &[u64]) -> Vec<u8> {
 #[test]
 fn both_engines_answer_the_same() {
     let mut random = Random(9);
-    let mut met = [0; 31];
-    for _ in 0..20 {
+    let mut met = [0; 35];
+    for _ in 0..40 {
         let mut words: Vec<u64> = (0..256).map(|word| 0x8e5a_0f3c_7001_c0d1_u64.rotate_left(word)).collect();
         let mut bytes = random_bytes(&mut random, &words);
         let mut record = base(Call::Fresh, 0).record;
-        record.settings.limit = 128;
+        record.settings.limit = 3 + random.below(3) as u64;
+        record.settings.second = Some(Manager { id: 2, limit: 2 + random.below(2) as u64 });
+        record.settings.shelf = 3 + random.below(4) as u64;
         for _ in 0..60 {
             let id = 5 + random.below(3) as u64;
             let page = 4096 * random.below(40) as u64;
@@ -1576,6 +1598,7 @@ fn both_engines_answer_the_same() {
                 9 | 10 => base(Call::Resume, id),
                 _ => base(batch(&[(5, address, length), (id, 0, 4097), (7, address, 1)]), 0),
             };
+            case.by = [1, 1, 1, 2, 2, 2, 3][random.below(7)];
             case.data = vec![170; 64];
             if case.call == Call::Start {
                 let length = [3, 130, 9000, 16380][random.below(4)];
@@ -1605,9 +1628,288 @@ fn both_engines_answer_the_same() {
             bytes = bytes_after;
         }
     }
-    for refusal in [0, 3, 4, 5, 11, 13].iter() {
+    for refusal in [0, 2, 3, 4, 5, 11, 12, 13, 34].iter() {
         assert!(met[*refusal] > 10, "{}: {}", refusal, met[*refusal]);
     }
+}
+
+// ---------------------------------------------------------------------------------------------------------------
+// Two managers (W12)
+// ---------------------------------------------------------------------------------------------------------------
+
+/// There is a second manager, 2, with limit 4, and the shelf's limit is 18. Manager 1 tracks 5 and 7 with 2 ranges and with 1.
+fn two_managers(record: &mut Record) {
+    record.settings.second = Some(Manager { id: 2, limit: 4 });
+    record.settings.shelf = 18;
+}
+
+/// The controller in this place is tracked by this manager, with so many ranges of one page.
+fn tracked_by(record: &mut Record, place: usize, by: u64, count: usize) {
+    record.controllers[place].tracking = Tracking::On { granularity: 0, count: count as u64 };
+    record.controllers[place].manager = by;
+    record.controllers[place].base = 1000 * place as u64;
+    record.controllers[place].ranges = Default::default();
+    for (row, range) in record.controllers[place].ranges.iter_mut().enumerate().take(count) {
+        *range = Range { start: 8192 * row as u64, length: 1 };
+    }
+}
+
+/// The calls that name their manager are the first, second, fourth to sixth and eighth of the eleven.
+const NAME_A_MANAGER: [usize; 6] = [0, 1, 3, 4, 5, 7];
+
+#[test]
+fn settings_of_managers_at_and_past_their_limits() {
+    assert_sound(&two_managers);
+    for (id, limit, good) in [
+        (2, 0, true),
+        (2, 128, true),
+        (2, 129, false),
+        (2, 65535, false),
+        (0, 4, true),
+        (65535, 4, true),
+        (1, 0, false),
+        (1, 4, false),
+        (1, 16, false),
+        (5, 4, false),
+        (6, 0, false),
+        (7, 4, false),
+        (8, 4, true),
+    ]
+    .iter()
+    {
+        let change = |record: &mut Record| record.settings.second = Some(Manager { id: *id, limit: *limit });
+        let check = if *good { assert_sound } else { assert_unsound };
+        check(&change);
+        // So of a fresh: 16, and the closed device.
+        let mut case = base(Call::Fresh, 0);
+        change(&mut case.record);
+        let after = outcome(&case);
+        assert_eq!(after.refusal, if *good { 0 } else { 16 });
+        assert_eq!(after.record.settings, if *good { case.record.settings } else { Settings::default() });
+    }
+    // 3 ranges are tracked, and the start asks for one more.
+    for shelf in [4, 16, 127, 128].iter() {
+        assert_sound(&|record| record.settings.shelf = *shelf);
+    }
+    assert_start_refused(&|record| record.settings.shelf = 3, 34);
+    for shelf in [0, 2, 129, 256, 65535].iter() {
+        assert_unsound(&|record| record.settings.shelf = *shelf);
+    }
+    // Both limits are passed: 12.
+    assert_start_refused(
+        &|record| {
+            record.settings.limit = 3;
+            record.settings.shelf = 3;
+        },
+        12,
+    );
+    // A name in an unused place is none.
+    assert_sound(&|record| {
+        record.settings.second = Some(Manager { id: 9, limit: 4 });
+        record.settings.identifiers[3] = 9;
+    });
+}
+
+#[test]
+fn fresh_devices_of_managers() {
+    let mut case = base(Call::Fresh, 0);
+    two_managers(&mut case.record);
+    rubbish(&mut case.record);
+    let after = outcome(&case);
+    assert_eq!((after.refusal, after.record.settings.second), (0, Some(Manager { id: 2, limit: 4 })));
+    assert_eq!((after.record.settings.shelf, after.record.settings.limit), (18, 16));
+    assert!(after.record.controllers.iter().all(|controller| *controller == Controller::default()));
+    // Whatever stands there as the caller.
+    for by in [0, 2, 3, 65535].iter() {
+        assert_eq!(outcome(&Case { by: *by, ..case.clone() }), after);
+    }
+    case.record.settings.shelf = 129;
+    let closed = Outcome { refusal: 16, record: Record::default(), ..untouched(&case) };
+    assert_eq!(outcome(&case), closed);
+    case.words.pop();
+    assert_eq!(outcome(&case).refusal, 16, "before 1");
+    case.record.settings.shelf = 0;
+    assert_eq!(outcome(&case).refusal, 1);
+}
+
+#[test]
+fn who_tracks_whom() {
+    for by in [0, 2, 3, 5, 6, 257, 65535].iter() {
+        for place in [0, 2].iter() {
+            assert_unsound(&|record| record.controllers[*place].manager = *by);
+        }
+        // Off, and in an unused place, it isn't looked at.
+        assert_sound(&|record| record.controllers[1].manager = *by);
+        assert_sound(&|record| tracked_by(record, 3, *by, 16));
+    }
+    // READINGS W12: 5 tracked by 3; 6 tracked by 2 with 5 ranges; 16 and 4. A start of 6 is 3 then.
+    let worked = |tracked: [(u64, usize); 3]| {
+        move |record: &mut Record| {
+            two_managers(record);
+            for (place, (by, count)) in tracked.iter().enumerate() {
+                tracked_by(record, place, *by, *count);
+            }
+        }
+    };
+    assert_unsound(&worked([(3, 10), (2, 4), (1, 1)]));
+    assert_unsound(&worked([(1, 10), (2, 5), (1, 1)]));
+    assert_unsound(&worked([(1, 15), (2, 4), (1, 1)]));
+    assert_unsound(&worked([(1, 14), (2, 4), (1, 1)]));
+    assert_start_refused(&worked([(1, 13), (2, 4), (1, 1)]), 3);
+    assert_start_refused(&worked([(1, 15), (2, 2), (1, 1)]), 3);
+    assert_unsound(&worked([(1, 16), (2, 1), (1, 1)]));
+    assert_unsound(&worked([(1, 15), (2, 3), (1, 1)]));
+    // Without the second manager, and with another one in its place.
+    assert_unsound(&|record| {
+        worked([(1, 1), (2, 1), (1, 1)])(record);
+        record.settings.second = None;
+    });
+    assert_unsound(&|record| {
+        worked([(1, 1), (2, 1), (1, 1)])(record);
+        record.settings.second = Some(Manager { id: 3, limit: 4 });
+    });
+}
+
+#[test]
+fn callers_that_are_unknown() {
+    for by in [0, 3, 5, 6, 257, 258, 65535].iter() {
+        for (number, mut case) in calls().into_iter().enumerate() {
+            two_managers(&mut case.record);
+            rubbish(&mut case.record);
+            let known = outcome(&case);
+            assert_eq!(known.refusal, 0);
+            case.by = *by;
+            if NAME_A_MANAGER.contains(&number) {
+                assert_refused(&case, 2, 0);
+                assert_refused(&on_bytes(&case, &all_pending()), 2, 0);
+                // 1 comes first, of the record, of the words and of the bytes; and it stands before all that the call says.
+                let mut short = case.clone();
+                short.words.pop();
+                assert_refused(&short, 1, 0);
+                assert_refused(&on_bytes(&case, &[7; 16383]), 1, 0);
+                let mut unsound = case.clone();
+                unsound.record.controllers[0].manager = 3;
+                assert_refused(&unsound, 1, 0);
+                let mut bad = case.clone();
+                bad.data = Vec::new();
+                for id in [1, 2, 5, 6, 7, 9].iter() {
+                    bad.id = *id;
+                    assert_refused(&bad, 2, 0);
+                }
+            } else {
+                // The others are as they were.
+                assert_eq!(outcome(&case), known);
+            }
+        }
+    }
+    // A state area that isn't 4,096 bytes is 1 before it.
+    let mut case = part(1, 0, &[1, 2, 3, 4]);
+    case.by = 3;
+    assert_refused(&case, 2, 0);
+    case.area.pop();
+    assert_refused(&case, 1, 0);
+}
+
+#[test]
+fn calls_by_the_other_manager() {
+    for (number, mut case) in calls().into_iter().enumerate() {
+        two_managers(&mut case.record);
+        let by_1 = outcome(&case);
+        case.by = 2;
+        match case.call {
+            Call::Start => {
+                let mut expected = by_1;
+                expected.record.controllers[1].manager = 2;
+                assert_eq!(outcome(&case), expected);
+            }
+            Call::Stop | Call::Receive => assert_refused(&case, 5, 0),
+            _ => assert_eq!(outcome(&case), by_1, "{}", number),
+        }
+    }
+    // Short buffers are 5 too, and a stop of a suspended one is 4.
+    let mut case = base(Call::Receive, 5);
+    two_managers(&mut case.record);
+    case.by = 2;
+    for bytes in [0, 16, 31, 32, 1024].iter() {
+        case.data = vec![170; *bytes];
+        assert_refused(&case, 5, 0);
+    }
+    let mut case = base(Call::Stop, 7);
+    two_managers(&mut case.record);
+    for by in [1, 2].iter() {
+        case.by = *by;
+        assert_refused(&case, 4, 0);
+    }
+    // A manager is no controller.
+    for id in [1, 2].iter() {
+        for by in [1, 2].iter() {
+            for case in calls() {
+                let mut case = Case { by: *by, id: *id, ..case };
+                two_managers(&mut case.record);
+                if !matches!(case.call, Call::Batch(_)) {
+                    assert_refused(&case, 2, 0);
+                }
+            }
+        }
+    }
+}
+
+#[test]
+fn worked_starts_of_two_managers() {
+    // READINGS W12: 1 tracks 5 with 10 ranges, and 6 and 7 are off.
+    let start = |by: u64, id: u64, count: usize, of_6: usize| {
+        let mut case = base(Call::Start, id);
+        two_managers(&mut case.record);
+        rubbish(&mut case.record);
+        tracked_by(&mut case.record, 0, 1, 10);
+        case.record.controllers[2] = Controller { manager: 9, ..Controller::default() };
+        if of_6 > 0 {
+            tracked_by(&mut case.record, 1, 2, of_6);
+        }
+        let ranges: Vec<Range> = (0..count).map(|row| Range { start: 8192 * row as u64, length: 1 }).collect();
+        case.data = structure_bytes(0, &ranges);
+        case.words = vec![u64::MAX; 256];
+        case.by = by;
+        case
+    };
+    for (by, id, count, of_6, refusal) in [
+        (2, 5, 1, 0, 3),
+        (1, 5, 1, 0, 3),
+        (3, 6, 1, 0, 2),
+        (2, 6, 5, 0, 12),
+        (1, 6, 7, 0, 12),
+        (1, 7, 7, 4, 12),
+        (1, 7, 6, 4, 34),
+        (1, 7, 5, 4, 34),
+        (2, 7, 1, 4, 12),
+    ]
+    .iter()
+    {
+        let case = start(*by, *id, *count, *of_6);
+        assert_refused(&case, *refusal, 0);
+        assert_refused(&on_bytes(&case, &all_pending()), *refusal, 0);
+    }
+    for (by, id, count, of_6) in [(2, 6, 4, 0), (1, 6, 6, 0), (1, 7, 4, 4)].iter() {
+        let case = start(*by, *id, *count, *of_6);
+        let after = outcome(&case);
+        assert_eq!(after.refusal, 0);
+        // The manager that started is there, and the others are as they were.
+        let managers = |record: &Record| -> Vec<u64> { record.controllers.iter().map(|one| one.manager).collect() };
+        let mut expected = managers(&case.record);
+        expected[*id as usize - 5] = *by;
+        assert_eq!(managers(&after.record), expected);
+        let plain = outcome(&on_bytes(&case, &all_pending()));
+        assert_eq!((plain.refusal, plain.record), (0, after.record));
+    }
+    // A stop leaves 0 there.
+    let mut case = start(2, 6, 1, 4);
+    case.call = Call::Stop;
+    let mut expected = untouched(&case);
+    expected.record.controllers[1] = Controller::default();
+    expected.words[15] &= !(0b1111 << 40);
+    assert_eq!(outcome(&case), expected);
+    case.by = 1;
+    assert_refused(&case, 5, 0);
 }
 
 // ---------------------------------------------------------------------------------------------------------------
@@ -1617,40 +1919,43 @@ fn both_engines_answer_the_same() {
 /// A whole case with each field's bytes at its offset in tests/RECORDS.md.
 fn case_bytes() -> Vec<u8> {
     let mut bytes = vec![0; CASE_BYTES];
-    let fields: [(usize, &[u8]); 33] = [
-        (0, &[1, 2]),                          // manager
-        (2, &[3]),                             // least
-        (3, &[4]),                             // greatest
-        (4, &[1]),                             // rule
-        (5, &[5, 6]),                          // limit
-        (7, &[7, 0, 0, 0, 0, 0, 0, 8]),        // count
-        (15, &[9, 10]),                        // the first identifier
-        (29, &[11, 12]),                       // the last identifier
-        (31, &[1, 13, 14, 1]),                 // the first controller
-        (35, &[51, 52]),                       // its base
-        (37, &[1, 57, 58]),                    // its queue, and that one's size
-        (40, &[59, 0, 0, 60, 61, 0, 0, 62]),   // the totals, posted and taken
-        (48, &[63, 64, 1]),                    // its place, and that it is stopped
-        (51, &[15, 0, 0, 0, 0, 0, 0, 16]),     // the first controller's first start
-        (59, &[17, 0, 0, 18]),                 // its first length
-        (243, &[1, 19, 20, 0, 53, 54]),        // the second controller
-        (1519, &[55, 56]),                     // the last controller's base
-        (1521, &[1, 65, 0, 0, 0, 0, 66]),      // its queue, whose size and posted total are of a byte each
-        (1528, &[67, 0, 0, 0, 68, 0, 0]),      // the taken total, the place, and that it isn't stopped
-        (1715, &[21, 0, 0, 0, 0, 0, 0, 22]),   // the last controller's last start
-        (1723, &[23, 0, 0, 24]),               // the last length
-        (1727, &[1, 37, 38, 39, 40]),          // an open sequence, its owner and its end
-        (1732, &[1, 1]),                       // 257 words
-        (1734, &[25, 0, 0, 0, 0, 0, 0, 26]),   // their mark
-        (1742, &[3, 27, 28]),                  // a write of this identifier
-        (1745, &[29, 0, 0, 0, 0, 0, 0, 30]),   // address
-        (1753, &[31, 0, 0, 0, 0, 0, 0, 32]),   // bytes
-        (1761, &[33, 3, 0, 34, 35, 36, 99]),   // type, 3 lent bytes, and one that isn't lent
-        (2790, &[41, 42, 0, 0, 43]),           // a part's indicator, and its offset's lower word
-        (2795, &[44, 0, 0, 45, 46, 0, 0, 47]), // the upper word, and the count
-        (2803, &[70, 0, 48, 49]),              // 70 bytes of area, their fill, and the first of its front
-        (2869, &[50]),                         // the last of its front
-        (2870, &[69, 0, 0, 70, 71, 72]),       // how many entries are asked for, and the first byte shown
+    let fields: [(usize, &[u8]); 36] = [
+        (0, &[1, 2]),                           // manager
+        (2, &[3]),                              // least
+        (3, &[4]),                              // greatest
+        (4, &[1]),                              // rule
+        (5, &[5, 6]),                           // limit
+        (7, &[1, 73, 74, 75, 76]),              // a second manager, and its limit
+        (12, &[77, 78]),                        // the shelf's limit
+        (14, &[7, 0, 0, 0, 0, 0, 0, 8]),        // count
+        (22, &[9, 10]),                         // the first identifier
+        (36, &[11, 12]),                        // the last identifier
+        (38, &[1, 13, 14, 1]),                  // the first controller
+        (42, &[51, 52]),                        // its base
+        (44, &[79, 80]),                        // its manager
+        (46, &[1, 57, 58]),                     // its queue, and that one's size
+        (49, &[59, 0, 0, 60, 61, 0, 0, 62]),    // the totals, posted and taken
+        (57, &[63, 64, 1]),                     // its place, and that it is stopped
+        (60, &[15, 0, 0, 0, 0, 0, 0, 16]),      // the first controller's first start
+        (68, &[17, 0, 0, 18]),                  // its first length
+        (252, &[1, 19, 20, 0, 53, 54, 81, 82]), // the second controller
+        (1540, &[55, 56, 83, 84]),              // the last controller's base and manager
+        (1544, &[1, 65, 0, 0, 0, 0, 66]),       // its queue, whose size and posted total are of a byte each
+        (1551, &[67, 0, 0, 0, 68, 0, 0]),       // the taken total, the place, and that it isn't stopped
+        (1738, &[21, 0, 0, 0, 0, 0, 0, 22]),    // the last controller's last start
+        (1746, &[23, 0, 0, 24]),                // the last length
+        (1750, &[1, 37, 38, 39, 40]),           // an open sequence, its owner and its end
+        (1755, &[1, 1]),                        // 257 words
+        (1757, &[25, 0, 0, 0, 0, 0, 0, 26]),    // their mark
+        (1765, &[3, 85, 86, 27, 28]),           // a write, the manager that calls, and of which identifier
+        (1770, &[29, 0, 0, 0, 0, 0, 0, 30]),    // address
+        (1778, &[31, 0, 0, 0, 0, 0, 0, 32]),    // bytes
+        (1786, &[33, 3, 0, 34, 35, 36, 99]),    // type, 3 lent bytes, and one that isn't lent
+        (2815, &[41, 42, 0, 0, 43]),            // a part's indicator, and its offset's lower word
+        (2820, &[44, 0, 0, 45, 46, 0, 0, 47]),  // the upper word, and the count
+        (2828, &[70, 0, 48, 49]),               // 70 bytes of area, their fill, and the first of its front
+        (2894, &[50]),                          // the last of its front
+        (2895, &[69, 0, 0, 70, 71, 72]),        // how many entries are asked for, and the first byte shown
     ];
     for (at, field) in &fields {
         bytes[*at..*at + field.len()].copy_from_slice(field);
@@ -1672,6 +1977,8 @@ fn fields_at_their_offsets() {
         greatest: 4,
         rule: 1,
         limit: 1541,
+        second: Some(Manager { id: 19017, limit: 19531 }),
+        shelf: 20045,
         number: high(7, 8),
         identifiers: [2569, 0, 0, 0, 0, 0, 0, 3083],
     };
@@ -1684,6 +1991,8 @@ fn fields_at_their_offsets() {
     assert_eq!(case.record.controllers[7].ranges[15], Range { start: high(21, 22), length: 402653207 });
     let bases: Vec<u64> = case.record.controllers.iter().map(|controller| controller.base).collect();
     assert_eq!(bases, [13363, 13877, 0, 0, 0, 0, 0, 14391]);
+    let managers: Vec<u64> = case.record.controllers.iter().map(|controller| controller.manager).collect();
+    assert_eq!(managers, [20559, 21073, 0, 0, 0, 0, 0, 21587]);
     let stopped = Queue { stopped: true, ..queue(14905, 1006633019, 1040187453, 16447) };
     let mut queues = [None; 8];
     queues[0] = Some(stopped);
@@ -1691,7 +2000,7 @@ fn fields_at_their_offsets() {
     assert_eq!(case.record.controllers.iter().map(|controller| controller.queue).collect::<Vec<_>>(), queues);
     assert_eq!((case.words.len(), case.words[0]), (257, high(25, 26)));
     assert_eq!(case.call, Call::Write { address: high(29, 30), bytes: high(31, 32) });
-    assert_eq!((case.id, case.data), (7195, vec![34, 35, 36]));
+    assert_eq!((case.by, case.id, case.data), (22101, 7195, vec![34, 35, 36]));
     assert_eq!(case.record.sequence, Sequence::Open { owner: 9765, end: 10279 });
     // Only a part and the calls of a queue have an area, and of a queue's alone a byte is named from which on it is shown.
     assert_eq!((case.area, case.shown), (vec![], 0));
@@ -1711,12 +2020,12 @@ fn words_of_a_mark() {
     // Zeros and ones stay as they are.
     for byte in [0, 255].iter() {
         let mut bytes = case_bytes();
-        bytes[1734..1742].copy_from_slice(&[*byte; 8]);
+        bytes[1757..1765].copy_from_slice(&[*byte; 8]);
         assert_eq!(read_case(&bytes).unwrap().words, vec![if *byte == 0 { 0 } else { u64::MAX }; 257]);
     }
     // A bit is in each word one place higher, and in word 64 where it was.
     let mut bytes = case_bytes();
-    bytes[1734..1742].copy_from_slice(&[1, 0, 0, 0, 0, 0, 0, 0]);
+    bytes[1757..1765].copy_from_slice(&[1, 0, 0, 0, 0, 0, 0, 0]);
     let words = read_case(&bytes).unwrap().words;
     assert_eq!((words[0], words[1], words[63], words[64], words[65]), (1, 2, 1 << 63, 1, 2));
 }
@@ -1724,7 +2033,7 @@ fn words_of_a_mark() {
 #[test]
 fn fields_of_a_part() {
     let mut bytes = case_bytes();
-    bytes[1742] = 8;
+    bytes[1765] = 8;
     let case = read_case(&bytes).unwrap();
     assert_eq!(case.call, Call::Part { indicator: 41, low: 721420330, high: 754974764, count: 788529198 });
     assert_eq!((case.id, case.data), (7195, vec![34, 35, 36]));
@@ -1736,8 +2045,8 @@ fn fields_of_a_part() {
     assert_eq!((case.area, case.shown), (area, 0));
     // Areas no longer than the front, and as long as can be.
     for (length, low, high) in [(0, 0, 0), (1, 1, 0), (63, 63, 0), (64, 64, 0), (4200, 104, 16)].iter() {
-        bytes[2803] = *low;
-        bytes[2804] = *high;
+        bytes[2828] = *low;
+        bytes[2829] = *high;
         let mut expected = [vec![49], vec![0; 62], vec![50], vec![48; 4136]].concat();
         expected.truncate(*length);
         assert_eq!(read_case(&bytes).unwrap().area, expected);
@@ -1748,7 +2057,7 @@ fn fields_of_a_part() {
 fn fields_of_a_queue() {
     let mut bytes = case_bytes();
     for (number, call) in [Call::MakeQueue, Call::Post, Call::Take { asked: 1174405189 }].iter().enumerate() {
-        bytes[1742] = 9 + number as u8;
+        bytes[1765] = 9 + number as u8;
         let case = read_case(&bytes).unwrap();
         assert_eq!(case.call, *call);
         assert_eq!((case.id, case.data, case.shown), (7195, vec![34, 35, 36], 18503));
@@ -1760,12 +2069,12 @@ fn fields_of_a_queue() {
         assert_eq!(case.area, area);
     }
     // Areas no longer than the front, longer than a state area, and as long as can be.
-    bytes[2805] = 250;
+    bytes[2830] = 250;
     for (length, low, high) in
         [(0, 0, 0), (1, 1, 0), (64, 64, 0), (65, 65, 0), (4201, 105, 16), (32768, 0, 128), (32800, 32, 128)].iter()
     {
-        bytes[2803] = *low;
-        bytes[2804] = *high;
+        bytes[2828] = *low;
+        bytes[2829] = *high;
         let mut expected = [vec![49], vec![0; 62], vec![50]].concat();
         // 252 to 255 in places 2 to 5, 0 in place 6, and 250 + 1024 = 4 * 256 + 250 in place 1024.
         for place in 2..1025 {
@@ -1783,7 +2092,7 @@ fn fields_of_a_queue() {
 /// The same with so many bytes lent to the plain engine, and this value.
 fn plain_bytes(units: u64, value: u8) -> Vec<u8> {
     let mut bytes = case_bytes();
-    bytes[2876..2880].copy_from_slice(&[1, (units % 256) as u8, (units / 256) as u8, value]);
+    bytes[2901..2905].copy_from_slice(&[1, (units % 256) as u8, (units / 256) as u8, value]);
     bytes
 }
 
@@ -1807,7 +2116,7 @@ fn fields_of_the_plain_engine() {
     // All ones: every value in turn. 255 as the value is as 0.
     for (value, first) in [(0, [1, 2]), (1, [2, 3]), (253, [254, 255]), (254, [255, 1]), (255, [1, 2])].iter() {
         let mut bytes = plain_bytes(32768, *value);
-        bytes[1734..1742].copy_from_slice(&[255; 8]);
+        bytes[1757..1765].copy_from_slice(&[255; 8]);
         let lent = read_case(&bytes).unwrap().plain.unwrap().bytes;
         assert_eq!((lent.len(), lent[..2].to_vec()), (32768, first.to_vec()));
         assert_eq!(lent[255..], lent[..32513]);
@@ -1819,13 +2128,13 @@ fn fields_of_the_plain_engine() {
     // Words are not looked at, not even where there are too many.
     let mut bytes = plain_bytes(64, 9);
     let case = read_case(&bytes);
-    bytes[1732..1734].copy_from_slice(&[255, 255]);
+    bytes[1755..1757].copy_from_slice(&[255, 255]);
     assert_eq!(read_case(&bytes), case);
     // A part and the calls of a queue show their own area.
     for call in 0..12 {
         let mut bytes = plain_bytes(64, 9);
-        bytes[1742] = call;
-        bytes[1762] = if call == 7 { 0 } else { 3 };
+        bytes[1765] = call;
+        bytes[1787] = if call == 7 { 0 } else { 3 };
         let case = read_case(&bytes).unwrap();
         assert_eq!(case.plain.unwrap().shown, if call < 8 { Some(18503) } else { None });
         assert_eq!(case.shown, if call < 9 { 0 } else { 18503 });
@@ -1836,24 +2145,24 @@ fn fields_of_the_plain_engine() {
 fn data_of_a_part() {
     // 4,100 bytes, of which the case has room for 1,024: the others are zeros.
     let mut bytes = case_bytes();
-    bytes[1742] = 8;
-    bytes[1762] = 4;
-    bytes[1763] = 16;
-    bytes[2787] = 98;
+    bytes[1765] = 8;
+    bytes[1787] = 4;
+    bytes[1788] = 16;
+    bytes[2812] = 98;
     let mut expected = vec![34, 35, 36, 99];
     expected.resize(1023, 0);
     expected.push(98);
     expected.resize(4100, 0);
     assert_eq!(read_case(&bytes).unwrap().data, expected);
-    bytes[1762] = 5;
+    bytes[1787] = 5;
     assert_eq!(read_case(&bytes), None, "4,101 bytes");
 }
 
 #[test]
 fn record_is_written_as_it_was_read() {
     let bytes = case_bytes();
-    assert_eq!(record_bytes(&read_case(&bytes).unwrap().record), bytes[..1732].to_vec());
-    assert_eq!(record_bytes(&Record::default()), vec![0; 1732]);
+    assert_eq!(record_bytes(&read_case(&bytes).unwrap().record), bytes[..1755].to_vec());
+    assert_eq!(record_bytes(&Record::default()), vec![0; 1755]);
 }
 
 #[test]
@@ -1865,7 +2174,7 @@ fn each_call_by_its_number() {
             .iter()
             .enumerate()
     {
-        bytes[1742] = number as u8;
+        bytes[1765] = number as u8;
         assert_eq!(read_case(&bytes).unwrap().call, *call);
     }
     assert_eq!(read_case(&batch_bytes(0, 0)).unwrap().call, Call::Batch(Vec::new()));
@@ -1874,14 +2183,14 @@ fn each_call_by_its_number() {
 /// A batch with this many records, and as many lent bytes of two rows.
 fn batch_bytes(records: u64, lent: u8) -> Vec<u8> {
     let mut bytes = case_bytes();
-    bytes[1742] = 7;
-    bytes[1762] = lent;
-    bytes[1764..1800].copy_from_slice(&[
+    bytes[1765] = 7;
+    bytes[1787] = lent;
+    bytes[1789..1825].copy_from_slice(&[
         1, 2, 3, 0, 0, 0, 0, 0, 0, 4, 5, 0, 0, 0, 0, 0, 0, 6, // identifier, address, bytes
         7, 8, 9, 0, 0, 0, 0, 0, 0, 10, 11, 0, 0, 0, 0, 0, 0, 12,
     ]);
-    bytes[2788] = (records % 256) as u8;
-    bytes[2789] = (records / 256) as u8;
+    bytes[2813] = (records % 256) as u8;
+    bytes[2814] = (records / 256) as u8;
     bytes
 }
 
@@ -1899,7 +2208,7 @@ fn rows_of_a_batch() {
     // No row.
     assert_eq!(call(1025, 0), batch(&[(0, 0, 0); 1025]));
     // The rows are lent bytes like any other.
-    assert_eq!(read_case(&batch_bytes(5, 36)).unwrap().data, batch_bytes(0, 0)[1764..1800].to_vec());
+    assert_eq!(read_case(&batch_bytes(5, 36)).unwrap().data, batch_bytes(0, 0)[1789..1825].to_vec());
 }
 
 #[test]
@@ -1913,39 +2222,44 @@ fn bytes_that_are_no_batch() {
 
 #[test]
 fn bytes_that_are_no_case() {
-    // Rule 2, tracking 2, off with a granularity, suspended 2, queue 2, none with what only a queue has, stopped 2, sequence
-    // 2, none with an owner and an end or with one of them, 513 words, call 12, 1,025 lent bytes of a write and of a post,
-    // 4,201 bytes of area, and 32,801 of a queue's; engine 2, words with bytes or a value of the plain engine, 32,769 bytes.
-    let damages: [&[(usize, u8)]; 29] = [
+    // Rule 2, second manager 2, none with an identifier and a limit or with one of them, tracking 2, off with a granularity,
+    // suspended 2, queue 2, none with what only a queue has, stopped 2, sequence 2, none with an owner and an end or with one
+    // of them, 513 words, call 12, 1,025 lent bytes of a write and of a post, 4,201 bytes of area, and 32,801 of a queue's;
+    // engine 2, words with bytes or a value of the plain engine, 32,769 bytes.
+    let damages: [&[(usize, u8)]; 33] = [
         &[(4, 2)],
-        &[(31, 2)],
-        &[(31, 0)],
-        &[(34, 2)],
-        &[(37, 2)],
-        &[(37, 0)],
-        &[(50, 2)],
-        &[(249, 2)],
-        &[(250, 1)],
-        &[(255, 1)],
-        &[(256, 1)],
+        &[(7, 2)],
+        &[(7, 0)],
+        &[(7, 0), (8, 0), (9, 0)],
+        &[(7, 0), (10, 0), (11, 0)],
+        &[(38, 2)],
+        &[(38, 0)],
+        &[(41, 2)],
+        &[(46, 2)],
+        &[(46, 0)],
+        &[(59, 2)],
+        &[(260, 2)],
         &[(261, 1)],
-        &[(262, 1)],
-        &[(1521, 0)],
-        &[(1727, 2)],
-        &[(1727, 0)],
-        &[(1727, 0), (1728, 0), (1729, 0)],
-        &[(1727, 0), (1730, 0), (1731, 0)],
-        &[(1733, 2)],
-        &[(1742, 12)],
-        &[(1762, 1), (1763, 4)],
-        &[(1742, 10), (1762, 1), (1763, 4)],
-        &[(2803, 105), (2804, 16)],
-        &[(1742, 11), (2803, 33), (2804, 128)],
-        &[(2876, 2)],
-        &[(2877, 1)],
-        &[(2878, 64)],
-        &[(2879, 1)],
-        &[(2876, 1), (2877, 1), (2878, 128)],
+        &[(266, 1)],
+        &[(267, 1)],
+        &[(272, 1)],
+        &[(273, 1)],
+        &[(1544, 0)],
+        &[(1750, 2)],
+        &[(1750, 0)],
+        &[(1750, 0), (1751, 0), (1752, 0)],
+        &[(1750, 0), (1753, 0), (1754, 0)],
+        &[(1756, 2)],
+        &[(1765, 12)],
+        &[(1787, 1), (1788, 4)],
+        &[(1765, 10), (1787, 1), (1788, 4)],
+        &[(2828, 105), (2829, 16)],
+        &[(1765, 11), (2828, 33), (2829, 128)],
+        &[(2901, 2)],
+        &[(2902, 1)],
+        &[(2903, 64)],
+        &[(2904, 1)],
+        &[(2901, 1), (2902, 1), (2903, 128)],
     ];
     for damage in &damages {
         let mut bytes = case_bytes();
@@ -1971,7 +2285,7 @@ fn answers_at_their_offsets() {
     after.words.push(high(41, 42));
     after.area = vec![97, 98, 43, 44];
     after.shown = 2;
-    let mut expected = vec![0; 11108];
+    let mut expected = vec![0; 11131];
     let fields: [(usize, &[u8]); 12] = [
         (0, &[200, 201]),                     // refusal and row
         (2, &[1, 0, 0, 0, 0, 0, 0, 2]),       // count
@@ -1982,16 +2296,16 @@ fn answers_at_their_offsets() {
         (38, &[1]),                           // stopped
         (39, &[13, 0, 0, 0, 0, 0, 0, 14, 1]), // taken and closing
         (48, &[15, 0, 0, 0, 0, 0, 0, 16]),    // groups
-        (3836, &[41, 0, 0, 0, 0, 0, 0, 42]),  // the last of 257 words
-        (5884, &[34, 35, 36]),                // 3 lent bytes
-        (6908, &[43, 44]),                    // the area, of which 2 bytes are shown
+        (3859, &[41, 0, 0, 0, 0, 0, 0, 42]),  // the last of 257 words
+        (5907, &[34, 35, 36]),                // 3 lent bytes
+        (6931, &[43, 44]),                    // the area, of which 2 bytes are shown
     ];
     for (at, field) in &fields {
         expected[*at..*at + field.len()].copy_from_slice(field);
     }
-    expected[56..1788].copy_from_slice(&case_bytes()[..1732]);
+    expected[56..1811].copy_from_slice(&case_bytes()[..1755]);
     for word in 0..256 {
-        expected[1788 + 8 * word..1796 + 8 * word].copy_from_slice(&[25, 0, 0, 0, 0, 0, 0, 26]);
+        expected[1811 + 8 * word..1819 + 8 * word].copy_from_slice(&[25, 0, 0, 0, 0, 0, 0, 26]);
     }
     assert_eq!(answer(&after), expected);
 }
@@ -2005,16 +2319,16 @@ fn answer_to_a_case_that_lends_the_most() {
     let mut expected = vec![1];
     expected.resize(56, 0);
     expected.extend_from_slice(&record_bytes(&case.record));
-    expected.resize(5884, 255);
-    expected.resize(6908, 170);
-    expected.resize(11108, 0);
+    expected.resize(5907, 255);
+    expected.resize(6931, 170);
+    expected.resize(11131, 0);
     assert_eq!(answer(&outcome(&case)), expected);
     // So with a part: of its 4,100 bytes the first 1,024 are there, and the area is.
     let mut case = part(1, 0, &[170; 4100]);
     case.words = vec![u64::MAX; 512];
     case.area = vec![85; 4200];
-    expected.truncate(6908);
-    expected.resize(11108, 85);
+    expected.truncate(6931);
+    expected.resize(11131, 85);
     assert_eq!(answer(&outcome(&case)), expected);
 }
 
@@ -2025,14 +2339,38 @@ fn answer_to_a_start_that_names_a_row() {
     let mut expected = vec![20, 1];
     expected.resize(56, 0);
     expected.extend_from_slice(&record_bytes(&case.record));
-    expected.resize(5884, 0);
+    expected.resize(5907, 0);
     expected.extend_from_slice(&[
         0, 0, 0, 0, 2, 0, 0, 0, // version, reserved, granularity, count
         0, 0, 1, 0, 0, 0, 0, 0, 4, 0, 0, 0, // 65536, 4
         1, 16, 0, 0, 0, 0, 0, 0, 1, 0, 0, 0, // 4097, 1
     ]);
-    expected.resize(11108, 0);
+    expected.resize(11131, 0);
     assert_eq!(answer(&outcome(&case)), expected);
+}
+
+#[test]
+fn answer_to_a_start_of_the_second_manager() {
+    // Controller 6 at byte 38 + 214 of the record: on, one range, running, base 6, manager 258; that of 7 is 7 now.
+    let mut case = calls()[0].clone();
+    case.record.settings.second = Some(Manager { id: 258, limit: 1 });
+    case.by = 258;
+    let given = answer(&outcome(&case));
+    assert_eq!((given[0], given.len()), (0, 11131));
+    assert_eq!(given[56 + 7..56 + 14], [1, 2, 1, 1, 0, 128, 0]);
+    assert_eq!(given[56 + 38..56 + 38 + 8], [1, 0, 2, 0, 0, 0, 1, 0]);
+    assert_eq!(given[56 + 252..56 + 252 + 8], [1, 0, 1, 0, 6, 0, 2, 1]);
+    assert_eq!(given[56 + 466..56 + 466 + 8], [1, 8, 1, 1, 7, 0, 1, 0]);
+    // The manager of place p is at 100 + 214p.
+    assert_eq!((given[100], given[314], given[315], given[528]), (1, 2, 1, 1));
+    // Its limit is 1: of two ranges it is 12, and nothing has changed.
+    case.data = structure_bytes(0, &[Range { start: 0, length: 1 }; 2]);
+    let given = answer(&outcome(&case));
+    assert_eq!(given[0], 12);
+    assert_eq!(given[56..1811], record_bytes(&case.record)[..]);
+    case.record.settings.shelf = 4;
+    case.record.settings.second = Some(Manager { id: 258, limit: 2 });
+    assert_eq!(answer(&outcome(&case))[0], 34);
 }
 
 #[test]
@@ -2045,7 +2383,7 @@ fn answer_to_a_batch_that_is_cut() {
     expected.resize(56, 0);
     expected.extend_from_slice(&record_bytes(&case.record));
     expected.push(0b0110);
-    expected.resize(11108, 0);
+    expected.resize(11131, 0);
     assert_eq!(answer(&outcome(&case)), expected);
 }
 
@@ -2061,9 +2399,9 @@ fn answer_to_a_part_that_yields_a_state() {
     let mut record = case.record.clone();
     record.sequence = Sequence::Nothing;
     expected.extend_from_slice(&record_bytes(&record));
-    expected.resize(6908 + 48, 0);
-    expected.resize(6908 + 4096, 0xEE);
-    expected.resize(11108, 0);
+    expected.resize(6931 + 48, 0);
+    expected.resize(6931 + 4096, 0xEE);
+    expected.resize(11131, 0);
     assert_eq!(answer(&outcome(&case)), expected);
 }
 
@@ -2078,14 +2416,14 @@ fn answer_to_a_post_that_stops() {
     let mut record = case.record.clone();
     record.controllers[1].queue = Some(stopped(queue(3, 2, LAST_TOTAL, 0)));
     expected.extend_from_slice(&record_bytes(&record));
-    expected.resize(5884, 0);
-    expected.resize(5884 + 32, 99);
-    expected.resize(6908, 0);
-    expected.resize(6908 + 16, 255);
-    expected.resize(11108, 0);
+    expected.resize(5907, 0);
+    expected.resize(5907 + 32, 99);
+    expected.resize(6931, 0);
+    expected.resize(6931 + 16, 255);
+    expected.resize(11131, 0);
     assert_eq!(answer(&outcome(&case)), expected);
-    // The queue's 14 bytes, at 56 + 31 + 212 + 6.
-    assert_eq!(expected[305..319], [1, 3, 0, 2, 0, 0, 0, 255, 255, 255, 255, 0, 0, 1]);
+    // The queue's 14 bytes, at 56 + 38 + 214 + 8.
+    assert_eq!(expected[316..330], [1, 3, 0, 2, 0, 0, 0, 255, 255, 255, 255, 0, 0, 1]);
 }
 
 #[test]
@@ -2099,12 +2437,12 @@ fn answer_to_a_take_that_closes() {
     let mut record = case.record.clone();
     record.controllers[1].queue = Some(stopped(queue(3, 3, 3, 0)));
     expected.extend_from_slice(&record_bytes(&record));
-    expected.resize(5884, 0);
+    expected.resize(5907, 0);
     expected.extend_from_slice(&area_of(&[4, 5]));
     expected.extend_from_slice(&[170; 6]);
-    expected.resize(6908, 0);
+    expected.resize(6931, 0);
     expected.extend_from_slice(&area_of(&[3, 4, 5])[1..]);
-    expected.resize(11108, 0);
+    expected.resize(11131, 0);
     assert_eq!(answer(&outcome(&case)), expected);
 }
 
@@ -2118,8 +2456,8 @@ fn answers_that_show_an_area() {
         let mut expected: Vec<u8> = area.iter().cloned().skip(*shown).take(4200).collect();
         expected.resize(4200, 0);
         let given = answer(&outcome(&case));
-        assert_eq!((given[0], given.len()), (28, 11108));
-        assert_eq!(given[6908..], expected[..]);
+        assert_eq!((given[0], given.len()), (28, 11131));
+        assert_eq!(given[6931..], expected[..]);
     }
 }
 
@@ -2138,12 +2476,12 @@ fn answers_of_the_plain_engine() {
         expected.resize(56, 0);
         expected.extend_from_slice(&record_bytes(&case.record));
         expected.extend_from_slice(&[3, 0, 0, 0, 0, 0, 0, 128, 1, 0, 0, 0, 0, 0, 0, 0]);
-        expected.resize(1788 + 24, 0);
+        expected.resize(1811 + 24, 0);
         expected.push(128);
-        expected.resize(5884, 0);
-        expected.resize(6908, 170);
+        expected.resize(5907, 0);
+        expected.resize(6931, 170);
         expected.extend(lent.iter().skip(*shown));
-        expected.resize(11108, 0);
+        expected.resize(11131, 0);
         assert_eq!(answer(&outcome(&case)), expected);
     }
     // As many as can be: all bits, and 4,200 of the bytes, from 28,568 on as far as they go.
@@ -2151,18 +2489,18 @@ fn answers_of_the_plain_engine() {
     for shown in [0, 1, 12600, 28567, 28568, 28569, 32767].iter() {
         case.plain = Some(Plain { bytes: lent.clone(), shown: Some(*shown) });
         let given = answer(&outcome(&case));
-        assert_eq!((given[0], given.len()), (1, 11108));
-        assert_eq!(given[1788..5884], [255; 4096][..]);
+        assert_eq!((given[0], given.len()), (1, 11131));
+        assert_eq!(given[1811..5907], [255; 4096][..]);
         let mut expected: Vec<u8> = lent.iter().cloned().skip(*shown).take(4200).collect();
         expected.resize(4200, 0);
-        assert_eq!(given[6908..], expected[..]);
+        assert_eq!(given[6931..], expected[..]);
     }
     // A done write: what was 80h stays, and the next one is 1.
     let mut lent = vec![0; 16384];
     lent[1] = 0x80;
     let given = answer(&outcome(&on_bytes(&base(Call::Write { address: 69632, bytes: 8192 }, 5), &lent)));
-    assert_eq!((given[0], given[2], given[1788]), (0, 1, 0b110));
-    assert_eq!(given[6908..6912], [0, 0x80, 1, 0]);
+    assert_eq!((given[0], given[2], given[1811]), (0, 1, 0b110));
+    assert_eq!(given[6931..6935], [0, 0x80, 1, 0]);
 }
 
 #[test]
@@ -2182,18 +2520,18 @@ fn answers_that_show_an_area_and_no_bytes() {
 
 #[test]
 fn controller_that_is_off_answers_zeros() {
-    // A stop of controller 5 zeroes its 212 bytes, from byte 31 of the record on, and the record stays in the form.
+    // A stop of controller 5 zeroes its 214 bytes, from byte 38 of the record on, and the record stays in the form.
     let mut case = base(Call::Stop, 5);
     case.record.controllers[0].base = 12345;
     let mut expected = record_bytes(&case.record);
-    for byte in &mut expected[31..243] {
+    for byte in &mut expected[38..252] {
         *byte = 0;
     }
-    assert_eq!(answer(&outcome(&case))[56..1788].to_vec(), expected);
+    assert_eq!(answer(&outcome(&case))[56..1811].to_vec(), expected);
     // Of a queue it leaves the 14 bytes.
     case.record.controllers[0].queue = Some(Queue { stopped: true, ..queue(3, 258, 257, 2) });
-    expected[37..51].copy_from_slice(&[1, 3, 0, 2, 1, 0, 0, 1, 1, 0, 0, 2, 0, 1]);
-    assert_eq!(answer(&outcome(&case))[56..1788].to_vec(), expected);
+    expected[46..60].copy_from_slice(&[1, 3, 0, 2, 1, 0, 0, 1, 1, 0, 0, 2, 0, 1]);
+    assert_eq!(answer(&outcome(&case))[56..1811].to_vec(), expected);
 }
 
 #[test]
@@ -2201,9 +2539,9 @@ fn an_answer_for_each_case() {
     // Two cases of zeros: a fresh whose settings have no identifiers. It answers 16 and is closed; no words, no bytes.
     let mut output = Vec::new();
     play(&mut &vec![0; 2 * CASE_BYTES][..], &mut output).unwrap();
-    let mut expected = vec![0; 2 * 11108];
+    let mut expected = vec![0; 2 * 11131];
     expected[0] = 16;
-    expected[11108] = 16;
+    expected[11131] = 16;
     assert_eq!(output, expected);
     let mut output = Vec::new();
     play(&mut &[][..], &mut output).unwrap();

@@ -191,23 +191,25 @@ fn what_a_device_reports_is_read_back() {
         greatest: 8,
         rule: 0,
         limit: 16,
+        second: None,
+        shelf: 128,
         number: 2,
         identifiers: [5, 6, 0, 0, 0, 0, 0, 0],
     };
     let mut device = Device::fresh(&settings).unwrap();
     let last = 18446744073708503040; // 2^64 - 2^20
     let ranges = [Range { start: 1048576, length: 3 }, Range { start: last, length: 1 }];
-    device.start(5, &structure_bytes(8, &ranges)).unwrap();
+    device.start(1, 5, &structure_bytes(8, &ranges)).unwrap();
     // Units 0 and 2 of the first range, and the last one of memory: two runs in 63 bytes, then one, then none.
     for address in &[1048576, 3145728, u64::MAX] {
         assert_eq!(device.write(&Note { id: 5, address: *address, bytes: 1 }), Ok(1));
     }
-    device.suspend(5, 1).unwrap();
+    device.suspend(1, 5, 1).unwrap();
     let reported: [(bool, &[(u128, u128)]); 3] =
         [(true, &[(1048576, 1), (3145728, 1)]), (false, &[(u128::from(last), 1)]), (false, &[])];
     for (more, listed) in &reported {
         let mut buffer = [170; 63];
-        device.receive(5, &mut buffer).unwrap();
+        device.receive(1, 5, &mut buffer).unwrap();
         let descriptors = listed.iter().map(|(address, length)| Descriptor { address: *address, length: *length });
         let expected =
             Report { suspended: true, more: *more, identifier: 5, granularity: 8, descriptors: descriptors.collect() };

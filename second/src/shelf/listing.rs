@@ -1,9 +1,7 @@
 //! The lines of a shelf listing (READINGS 0.7).
 
-use crate::listing::{
-    self, fitting, note, settings, word_and_numbers, Line, BITS_16, BITS_32, BITS_8, GREATEST_BUFFER,
-};
-use crate::rules::{Note, ShelfSettings};
+use crate::listing::{self, fitting, note, number, word_and_numbers, Line, BITS_16, BITS_32, BITS_8, GREATEST_BUFFER};
+use crate::rules::{Note, Settings};
 use crate::settings_file::second_manager;
 use crate::state::Part;
 
@@ -24,10 +22,17 @@ const MOST_ENTRY_BYTES: usize = 64;
 /// "hex of at most 64 bytes": more than a settings file has, so that 35 can be met at that end too.
 const MOST_FILE_BYTES: usize = 64;
 
-/// A well-formed line.
+/// A well-formed line, and the manager that `by` says calls (W12); nothing where the line has no `by`.
+#[derive(Clone, Debug, PartialEq, Eq)]
+pub struct Called {
+    pub by: Option<u64>,
+    pub line: ShelfLine,
+}
+
+/// A well-formed line that has no `by`.
 #[derive(Clone, Debug, PartialEq, Eq)]
 pub enum ShelfLine {
-    /// "every line of document 01"
+    /// "every line of document 01"; and `dev2`, which makes a device as `dev` does
     Session(Line),
     Batch(Vec<Note>),
     Part(Part),
@@ -52,12 +57,40 @@ pub enum ShelfLine {
     New(Vec<u8>),
     Save {
         version: u64,
-        shelf: ShelfSettings,
+        settings: Settings,
     },
 }
 
 /// The line in these bytes. Nothing for "any other line".
-pub fn parse(line: &[u8]) -> Option<ShelfLine> {
+pub fn parse(line: &[u8]) -> Option<Called> {
+    let mut pieces = line.splitn(3, |byte| *byte == b' ');
+    match (pieces.next(), pieces.next(), pieces.next()) {
+        // "`by` manager LINE"
+        (Some(b"by"), Some(manager), Some(called)) => {
+            let by = fitting(number(manager)?, BITS_16)?;
+            let line = without_by(called).filter(names_a_manager)?;
+            Some(Called { by: Some(by), line })
+        }
+        _ => Some(Called { by: None, line: without_by(line)? }),
+    }
+}
+
+/// "LINE is a start, stop, recv, susp, resume or part"
+fn names_a_manager(line: &ShelfLine) -> bool {
+    match line {
+        ShelfLine::Session(line) => match line {
+            Line::Start { .. } | Line::Stop { .. } | Line::Recv { .. } | Line::Susp { .. } | Line::Resume { .. } => {
+                true
+            }
+            Line::Dev(_) | Line::Write(_) => false,
+        },
+        ShelfLine::Part(_) => true,
+        _ => false,
+    }
+}
+
+/// The line in bytes that don't begin with `by`.
+fn without_by(line: &[u8]) -> Option<ShelfLine> {
     match line.split(|byte| *byte == b' ').next() {
         Some(b"part") => return part(line),
         Some(b"post") => return post(line),
@@ -95,18 +128,25 @@ pub fn parse(line: &[u8]) -> Option<ShelfLine> {
             buffer: fitting(*buffer, GREATEST_BUFFER)?,
         }),
         // "`save` version manager least greatest rule limit second limit2 shelf, 0 to 8 identifiers"
-        (b"save", [version, manager, least, greatest, rule, limit, second, limit2, shelf, identifiers @ ..]) => {
-            let (second, limit2) = (fitting(*second, BITS_16)?, fitting(*limit2, BITS_16)?);
-            Some(ShelfLine::Save {
-                version: fitting(*version, BITS_16)?,
-                shelf: ShelfSettings {
-                    settings: settings([*manager, *least, *greatest, *rule, *limit], identifiers)?,
-                    second: second_manager(*manager, second, limit2),
-                    shelf: fitting(*shelf, BITS_16)?,
-                },
-            })
+        (b"save", [version, fields @ ..]) => {
+            Some(ShelfLine::Save { version: fitting(*version, BITS_16)?, settings: settings(fields)? })
         }
+        // "`dev2` manager least greatest rule limit second limit2 shelf, 0 to 8 identifiers"
+        (b"dev2", fields) => Some(ShelfLine::Session(Line::Dev(settings(fields)?))),
         _ => listing::parse(line).map(ShelfLine::Session),
+    }
+}
+
+/// "manager least greatest rule limit second limit2 shelf, 0 to 8 identifiers": "as `dev`; second, limit2 and shelf 16 bits;
+/// second equal to manager with limit2 0 means one manager".
+fn settings(fields: &[u64]) -> Option<Settings> {
+    match fields {
+        [manager, least, greatest, rule, limit, second, limit2, shelf, identifiers @ ..] => {
+            let as_dev = listing::settings([*manager, *least, *greatest, *rule, *limit], identifiers)?;
+            let second = second_manager(*manager, fitting(*second, BITS_16)?, fitting(*limit2, BITS_16)?);
+            Some(Settings { second, shelf: fitting(*shelf, BITS_16)?, ..as_dev })
+        }
+        _ => None,
     }
 }
 
@@ -155,6 +195,14 @@ fn numbers_and_bytes(line: &[u8], most: usize) -> Option<(Vec<u64>, Vec<u8>)> {
 #[cfg(test)]
 mod tests {
     use super::*;
+    use crate::rules::{Manager, Range};
+
+    /// A line that has no `by`.
+    fn parse(line: &[u8]) -> Option<ShelfLine> {
+        let called = super::parse(line)?;
+        assert_eq!(called.by, None);
+        Some(called.line)
+    }
 
     fn write(id: u64, address: u64, bytes: u64) -> Note {
         Note { id, address, bytes }
@@ -364,16 +412,20 @@ mod tests {
     #[test]
     fn settings_to_save() {
         let save = |line: &str| match parse(line.as_bytes()) {
-            Some(ShelfLine::Save { version, shelf }) => Some((version, shelf)),
+            Some(ShelfLine::Save { version, settings }) => Some((version, settings)),
             Some(_) => panic!("{}", line),
             None => None,
         };
-        let (version, shelf) = save("save 2 1 3 8 1 16 7 4 18 5 6").unwrap();
-        let second = shelf.second.unwrap();
-        assert_eq!((version, second.id, second.limit, shelf.shelf), (2, 7, 4, 18));
+        let (version, settings) = save("save 2 1 3 8 1 16 7 4 18 5 6").unwrap();
+        assert_eq!((version, settings.second, settings.shelf), (2, Some(Manager { id: 7, limit: 4 }), 18));
+        assert_eq!(
+            parse(b"dev2 1 3 8 1 16 7 4 18 5 6"),
+            Some(ShelfLine::Session(Line::Dev(settings.clone()))),
+            "the settings are read as in `dev2`"
+        );
         assert_eq!(
             parse(b"dev 1 3 8 1 16 5 6"),
-            Some(ShelfLine::Session(Line::Dev(shelf.settings))),
+            Some(ShelfLine::Session(Line::Dev(Settings { second: None, shelf: 128, ..settings }))),
             "document 01's part is read as in `dev`"
         );
         assert_eq!(save("save 2 1 3 8 1 16 1 0 18 5 6").unwrap().1.second, None);
@@ -411,6 +463,173 @@ mod tests {
         .iter()
         {
             assert_eq!(save(line), None, "{}", line);
+        }
+    }
+
+    #[test]
+    fn devices_of_two_managers() {
+        let dev2 = |line: &str| match parse(line.as_bytes()) {
+            Some(ShelfLine::Session(Line::Dev(settings))) => Some(settings),
+            Some(_) => panic!("{}", line),
+            None => None,
+        };
+        let settings = Settings {
+            manager: 1,
+            least: 2,
+            greatest: 3,
+            rule: 1,
+            limit: 4,
+            second: Some(Manager { id: 7, limit: 8 }),
+            shelf: 9,
+            number: 2,
+            identifiers: [5, 6, 0, 0, 0, 0, 0, 0],
+        };
+        assert_eq!(dev2("dev2 1 2 3 1 4 7 8 9 5 6"), Some(settings.clone()));
+        // Equal: one with limit 0, and else a second one, whose name will be 16.
+        assert_eq!(dev2("dev2 1 2 3 1 4 1 0 9 5 6"), Some(Settings { second: None, ..settings.clone() }));
+        let equal = Some(Manager { id: 1, limit: 1 });
+        assert_eq!(dev2("dev2 1 2 3 1 4 1 1 9 5 6"), Some(Settings { second: equal, ..settings.clone() }));
+        let with_limit_0 = Some(Manager { id: 2, limit: 0 });
+        assert_eq!(dev2("dev2 1 2 3 1 4 2 0 9 5 6"), Some(Settings { second: with_limit_0, ..settings }));
+        assert_eq!(dev2("dev2 0 0 0 0 0 0 0 0"), Some(Settings::default()));
+        // The longest good line.
+        let line = format!("dev2 65535 255 255 1 65535 65535 65535 65535{}", " 65535".repeat(8));
+        assert_eq!(line.len(), 92);
+        assert!(dev2(&line).is_some());
+        for line in [
+            "dev2",
+            "dev2 ",
+            "dev2 1",
+            "dev2 1 0 8 0 16",
+            "dev2 1 0 8 0 16 2 4",
+            "dev2 1 0 8 0 16 2 4 ",
+            "dev2 1 0 8 0 16 2 4 18 5 6 7 8 9 10 11 12 13",
+            "dev2 65536 0 8 0 16 2 4 18 5",
+            "dev2 1 256 8 0 16 2 4 18 5",
+            "dev2 1 0 256 0 16 2 4 18 5",
+            "dev2 1 0 8 2 16 2 4 18 5",
+            "dev2 1 0 8 0 65536 2 4 18 5",
+            "dev2 1 0 8 0 16 65536 4 18 5",
+            "dev2 1 0 8 0 16 2 65536 18 5",
+            "dev2 1 0 8 0 16 2 4 65536 5",
+            "dev2 1 0 8 0 16 2 4 18 65536",
+            "dev2 01 0 8 0 16 2 4 18 5",
+            "dev2 1 0 8 0 16 2 04 18 5",
+            "dev2 1 0 8 0 16 2 4 18 5 ",
+            "dev2 1 0 8 0 16 - - 18 5",
+            "dev2 1 0 8 0 16  2 4 18 5",
+            " dev2 1 0 8 0 16 2 4 18 5",
+            "dev2\t1 0 8 0 16 2 4 18 5",
+            "dev2 1 0 8 0 16 2 4 18 5\r",
+            "Dev2 1 0 8 0 16 2 4 18 5",
+            "dev 2 1 0 8 0 16 2 4 18 5 6 7 8 9",
+            "dev3 1 0 8 0 16 2 4 18 5",
+            "dev22 1 0 8 0 16 2 4 18 5",
+        ]
+        .iter()
+        {
+            assert_eq!(dev2(line), None, "{}", line);
+        }
+    }
+
+    #[test]
+    fn lines_called_by_a_manager() {
+        let by = |by: u64, line: ShelfLine| Some(Called { by: Some(by), line });
+        let of = |line: &str| super::parse(line.as_bytes());
+        let start = Line::Start { id: 5, granularity: 0, ranges: vec![Range { start: 65536, length: 4 }] };
+        assert_eq!(of("by 2 start 5 0 65536 4"), by(2, ShelfLine::Session(start)));
+        assert_eq!(of("by 2 stop 5"), by(2, ShelfLine::Session(Line::Stop { id: 5 })));
+        assert_eq!(of("by 0 recv 5 64"), by(0, ShelfLine::Session(Line::Recv { id: 5, buffer: 64 })));
+        assert_eq!(of("by 65535 susp 5 1"), by(65535, ShelfLine::Session(Line::Susp { id: 5, kind: 1 })));
+        assert_eq!(of("by 10 resume 5"), by(10, ShelfLine::Session(Line::Resume { id: 5 })));
+        let part = Part { id: 5, indicator: 1, low: 2, high: 3, count: 4, data: vec![0, 255] };
+        assert_eq!(of("by 2 part 5 1 2 3 4 00ff"), by(2, ShelfLine::Part(part.clone())));
+        assert_eq!(of("part 5 1 2 3 4 00ff"), Some(Called { by: None, line: ShelfLine::Part(part) }));
+        // The longest good line.
+        let longest = format!("by 65535 part 65535 255 4294967295 4294967295 4294967295 {}", "5a".repeat(4100));
+        assert_eq!(longest.len(), 8257);
+        assert!(of(&longest).is_some());
+        assert_eq!(of(&format!("{}5a", longest)), None);
+    }
+
+    #[test]
+    fn damaged_by() {
+        let of = |line: &str| super::parse(line.as_bytes());
+        // Good lines by themselves, and none of them names a manager.
+        for line in [
+            "dev 1 0 8 0 16 5 6",
+            "dev2 1 0 8 0 16 2 4 18 5 6",
+            "write 5 65536 1",
+            "batch",
+            "batch 5 65536 1",
+            "burst 3 5 65536 1",
+            "queue 5 64",
+            "post 5 64 00",
+            "take 5 64 1 32",
+            "old -",
+            "new -",
+            "save 1 1 0 8 0 16 1 0 128 5 6",
+            "by 2 stop 5",
+            "by 2 part 5 1 0 0 1 00000000",
+        ]
+        .iter()
+        {
+            assert!(of(line).is_some(), "{}", line);
+            assert_eq!(of(&format!("by 2 {}", line)), None, "{}", line);
+        }
+        for line in [
+            "by",
+            "by ",
+            "by  ",
+            "by 2",
+            "by 2 ",
+            "by 2  ",
+            "by 2 5",
+            "by stop 5",
+            "by 2  stop 5",
+            "by  2 stop 5",
+            "by  stop 5",
+            " by 2 stop 5",
+            "by 2 stop 5 ",
+            "by 2 stop",
+            "by 2 stop ",
+            "by 2 stop 65536",
+            "by 2 stop 05",
+            "by 2 stop 5 6",
+            "by 2 Stop 5",
+            "by 2 stops 5",
+            "by 2 start 5",
+            "by 2 start 5 0 65536",
+            "by 2 recv 5",
+            "by 2 recv 5 4097",
+            "by 2 susp 5",
+            "by 2 susp 5 256",
+            "by 2 resume",
+            "by 2 part 5 1 0 0 1",
+            "by 2 part 5 1 0 0 1 0",
+            "by 2 part 5 1 0 0 1 0A",
+            "by 65536 stop 5",
+            "by 02 stop 5",
+            "by +2 stop 5",
+            "by -2 stop 5",
+            "by - stop 5",
+            "by 2,stop 5",
+            "by 18446744073709551616 stop 5",
+            "by 2 nothing 5",
+            "by\t2 stop 5",
+            "by 2\tstop 5",
+            "by 2 stop 5\r",
+            "By 2 stop 5",
+            "bye 2 stop 5",
+            "b 2 stop 5",
+            "by2 stop 5",
+            "stop 5 by 2",
+            "stop by 2 5",
+            "2 stop 5",
+        ]
+        .iter()
+        {
+            assert_eq!(of(line), None, "{}", line);
         }
     }
 

@@ -6,6 +6,8 @@ mod group_tests;
 mod hex;
 mod listing;
 #[cfg(test)]
+mod manager_tests;
+#[cfg(test)]
 mod part_tests;
 #[cfg(test)]
 mod queue_tests;
@@ -24,7 +26,7 @@ use crate::session::{answer_line, Session, STALE};
 use crate::settings_file::{read, read_version_1, second_in_file, write};
 
 use self::hex::hex_of;
-use self::listing::{parse, ShelfLine, GREATEST_SIZE, MOST_BYTES};
+use self::listing::{parse, Called, ShelfLine, GREATEST_SIZE, MOST_BYTES};
 
 /// The session whose device the shelf's own lines call as well; the state area (W6), "handed on from part to part and
 /// used for nothing else"; and for each place of an identifier the area of its controller's queue (W8), "a lent area of
@@ -52,24 +54,26 @@ pub fn play<R: Read, W: Write>(input: &mut R, output: &mut W) -> io::Result<()> 
 
 impl Shelf {
     pub fn answer(&mut self, cut: &Cut) -> String {
-        answer_line(cut, &parse, &mut |line| self.play(line))
+        answer_line(cut, &parse, &mut |called| self.play(called))
     }
 
-    fn play(&mut self, line: &ShelfLine) -> Result<String, Reason> {
-        match line {
+    fn play(&mut self, called: &Called) -> Result<String, Reason> {
+        // "called by that manager; without `by` it is the first manager"
+        let by = called.by.unwrap_or(self.session.first_manager());
+        match &called.line {
             // "its first line ends with ` groups G` (in shelf listings only)"
             ShelfLine::Session(Line::Recv { id, buffer }) => {
-                let report = self.session.recv(*id, *buffer)?;
+                let report = self.session.recv(by, *id, *buffer)?;
                 Ok(format!("{} groups {}\n{}", report.first_line, report.groups, report.others))
             }
-            ShelfLine::Session(line) => self.session.play(line),
+            ShelfLine::Session(line) => self.session.play(by, line),
             ShelfLine::Batch(notes) => {
                 let batch = self.session.device.batch(notes)?;
                 Ok(format!("0 done {} new {} refusal {}\n", batch.done, batch.count, batch.refusal.unwrap_or(0)))
             }
             // "`0 whole W`, and where W isn't 0 a second line, the W assembled bytes in hex"
             ShelfLine::Part(part) => {
-                let whole = self.session.device.set_state(&mut self.area, part)?;
+                let whole = self.session.device.set_state(by, &mut self.area, part)?;
                 let mut answer = format!("0 whole {}\n", whole);
                 if whole != 0 {
                     answer.push_str(&format!("{}\n", hex_of(&self.area[..whole])));
@@ -104,11 +108,11 @@ impl Shelf {
             ShelfLine::Old(file) => Ok(settings_line(&read_version_1(file)?, &[])),
             // "one manager shows as second equal to manager, limit2 0"
             ShelfLine::New(file) => {
-                let shelf = read(file)?;
-                let second = second_in_file(&shelf);
-                Ok(settings_line(&shelf.settings, &[second.id, second.limit, shelf.shelf]))
+                let settings = read(file)?;
+                let second = second_in_file(&settings);
+                Ok(settings_line(&settings, &[second.id, second.limit, settings.shelf]))
             }
-            ShelfLine::Save { version, shelf } => Ok(format!("0 {}\n", hex_of(&write(*version, shelf)?))),
+            ShelfLine::Save { version, settings } => Ok(format!("0 {}\n", hex_of(&write(*version, settings)?))),
         }
     }
 

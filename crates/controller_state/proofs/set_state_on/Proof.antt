@@ -7,9 +7,9 @@ use lib.ListN.{length}
 use borrow.Author.Needs.{needs}
 use borrow.Author.Tests.{not-true, not-false}
 use Rattle.rules.specs.Order.{Part}
-use Rattle.record.specs.Record.{whereIs}
+use Rattle.record.specs.Record.{whereBy}
 use Rattle.record.specs.declared.Place.the-variants.{At, Refused}
-use Rattle.record.proofs.RecordLaws.{whereIs-at, sequence-within}
+use Rattle.record.proofs.RecordLaws.{Located, whereIs-at, whereBy-at, sequence-within}
 use Rattle.calls.specs.Calls.{Arrival}
 use Rattle.calls.proofs.PlaceLaws.{refused-place}
 use Rattle.controller_state.proofs.ArrivalLaws.{Within, leaves, call-area, call-refused, call-running, call-number, call-fits, call-done}
@@ -23,26 +23,32 @@ part s = let a = s .args in record { indicator = a .indicator; low = a .low; hig
 -- the place that was found, or the refusal
 found : (c : tie.After-known-told)
     → let a = c .before .before .before .before .before .before .before .args in
-    whereIs (a .t1) (a .words) (a .id) ≡ At (c .before .place .given .0 .0)
-found c = sym (c .before .before .before .locate .ensures) ∙ c .before .place .given .1
+    whereBy (a .t1) (a .words) (a .manager) (a .id) ≡ At (c .before .place .given .0 .0)
+found c = sym (c .before .before .before .locate-by .ensures) ∙ c .before .place .given .1
 
 refused : (c : tie.After-number-of)
     → let a = c .before .before .before .before .before .before .before .args in
-    whereIs (a .t1) (a .words) (a .id) ≡ Refused (c .number-of .result)
-refused c = sym (c .before .before .before .locate .ensures) ∙ refused-place _ _ _ (c .before .enum-told .given .1) (c .number-of .ensures)
+    whereBy (a .t1) (a .words) (a .manager) (a .id) ≡ Refused (c .number-of .result)
+refused c = sym (c .before .before .before .locate-by .ensures) ∙ refused-place _ _ _ (c .before .enum-told .given .1) (c .number-of .ensures)
+
+-- what is known of it, whichever manager asks
+located : (c : tie.After-known-told)
+    → let a = c .before .before .before .before .before .before .before .args in
+    Located (a .t1) (a .words) (a .id) (c .before .place .given .0 .0)
+located c = whereIs-at _ _ _ _ (whereBy-at _ _ _ _ _ (found c) .1)
 
 below : (c : tie.After-known-told) → c .before .place .given .0 .0 < 8
-below c = whereIs-at _ _ _ _ (found c) .below
+below c = located c .below
 
 -- an open sequence of a sound record ends within the area
 ends : (c : tie.After-known-told) → Within (c .before .before .before .before .before .before .before .args .t1 .sequence)
-ends c = sequence-within (c .before .before .before .before .before .before .before .args .t1) (whereIs-at _ _ _ _ (found c) .sound)
+ends c = sequence-within (c .before .before .before .before .before .before .before .args .t1) (located c .sound)
 
 returns : tie.Need-returns
-returns c = leaves _ _ _ (call-area _ _ _ _ (part (c .before .before .before)) (c .if1 .taken))
+returns c = leaves _ _ _ (call-area _ _ _ _ _ (part (c .before .before .before)) (c .if1 .taken))
 
-locate-requires : tie.Need-locate-requires
-locate-requires c κs = search needs
+locate-by-requires : tie.Need-locate-by-requires
+locate-by-requires c κs = search needs
 
 enum-known-place : tie.Need-enum-known-place
 enum-known-place c = search needs
@@ -54,7 +60,7 @@ number-of-requires : tie.Need-number-of-requires
 number-of-requires c κs = search needs
 
 returns-2 : tie.Need-returns-2
-returns-2 c = leaves _ _ _ (call-refused _ _ _ _ (part (c .before .before .before .before .before .before .before)) (c .before .before .before .before .if1 .left) _ (refused c))
+returns-2 c = leaves _ _ _ (call-refused _ _ _ _ _ (part (c .before .before .before .before .before .before .before)) (c .before .before .before .before .if1 .left) _ (refused c))
 
 mul-c : tie.Need-mul-c
 mul-c c = omega (arith, below c)
@@ -65,7 +71,7 @@ element-copy-out-c c = below c
 returns-3 : tie.Need-returns-3
 returns-3 c =
     let k = c .before .before .before in
-    leaves _ _ _ (call-running _ _ _ _ (part (k .before .before .before .before .before .before .before)) (k .before .before .before .before .if1 .left) _ (found k) (not-true _ (c .if2 .taken)))
+    leaves _ _ _ (call-running _ _ _ _ _ (part (k .before .before .before .before .before .before .before)) (k .before .before .before .before .if1 .left) _ (found k) (not-true _ (c .if2 .taken)))
 
 part-number-requires : tie.Need-part-number-requires
 part-number-requires c κs = let k = c .before .before .before .before in (k .before .before .before .before .if1 .left, ends k)
@@ -79,13 +85,13 @@ returns-4 : tie.Need-returns-4
 returns-4 c =
     let k = c .before .before .before .before .before .before in
     leaves _ _ _
-    (call-number _ _ _ _ (part (k .before .before .before .before .before .before .before)) (k .before .before .before .before .if1 .left) _ (found k) (not-false _ (c .before .before .before .if2 .left)) _ (c .before .part-number .ensures) (c .if3 .taken))
+    (call-number _ _ _ _ _ (part (k .before .before .before .before .before .before .before)) (k .before .before .before .before .if1 .left) _ (found k) (not-false _ (c .before .before .before .if2 .left)) _ (c .before .part-number .ensures) (c .if3 .taken))
 
 -- an accepted one fits the area
 fits : (c : tie.Else3) → let s = c .before .before .before .before .before .before .before .before .before .before .before .before .before in s .args .low + length (now (s .args .«data»)) ≤ 4096
 fits c =
     let k = c .before .before .before .before .before .before in
-    call-fits _ _ _ _ (part (k .before .before .before .before .before .before .before)) (k .before .before .before .before .if1 .left) _ (found k) (not-false _ (c .before .before .before .if2 .left)) _ (c .before .part-number .ensures) (c .if3 .left) (ends k)
+    call-fits _ _ _ _ _ (part (k .before .before .before .before .before .before .before)) (k .before .before .before .before .if1 .left) _ (found k) (not-false _ (c .before .before .before .if2 .left)) _ (c .before .part-number .ensures) (c .if3 .left) (ends k)
 
 store-requires : tie.Need-store-requires
 store-requires c κs = omega (arith, fits (c .before), c .before .before .before .before .before .before .before .before .before .before .before .if1 .left)
@@ -103,7 +109,7 @@ returns-5 : tie.Need-returns-5
 returns-5 c =
     let e = c .before .before .before .before .before in
     let k = e .before .before .before .before .before .before in
-    let d = call-done _ _ _ _ (part (k .before .before .before .before .before .before .before)) (k .before .before .before .before .if1 .left) _ (found k) (not-false _ (e .before .before .before .if2 .left)) _ (e .before .part-number .ensures) (e .if3 .left) (ends k) in
+    let d = call-done _ _ _ _ _ (part (k .before .before .before .before .before .before .before)) (k .before .before .before .before .if1 .left) _ (found k) (not-false _ (e .before .before .before .if2 .left)) _ (e .before .part-number .ensures) (e .if3 .left) (ends k) in
     (c .accepted .ensures ∙ sym (ap (λ (y : Arrival). y .answer) d), c .before .before .before .store .ensures ∙ sym (ap (λ (y : Arrival). y .area) d))
 
 pub set-state-on-spec : {M : Type 1} → statement M
@@ -111,7 +117,7 @@ set-state-on-spec =
     tie.close
     (tie.spec
     returns
-    locate-requires
+    locate-by-requires
     enum-known-place
     enum-told
     number-of-requires

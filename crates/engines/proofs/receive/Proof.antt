@@ -14,7 +14,7 @@ same-length-2 : tie.Need-same-length-2
 same-length-2 c = search needs
 
 returns : tie.Need-returns
-returns c = answer-fits _ _ _ _ _ _ (c .before .before .before .before .receive .ensures .0)
+returns c = answer-fits _ _ _ _ _ _ _ (c .before .before .before .before .receive .ensures .0)
 
 receive-requires-2 : tie.Need-receive-requires-2
 receive-requires-2 c κs = search needs
@@ -26,7 +26,7 @@ same-length-4 : tie.Need-same-length-4
 same-length-4 c = search needs
 
 returns-2 : tie.Need-returns-2
-returns-2 c = answer-fits _ _ _ _ _ _ (c .before .before .before .before .receive2 .ensures .0)
+returns-2 c = answer-fits _ _ _ _ _ _ _ (c .before .before .before .before .receive2 .ensures .0)
 
 pub receive-spec : {M : Type 1} → statement M
 receive-spec =

@@ -82,11 +82,17 @@ slice-aggregate-take-in c = sym (length-take-le _ _ (let r = c .before .before .
 take-in-requires : tie.Need-take-in-requires Inv-loop μ-loop
 take-in-requires c κs = let l = c .before .before .before .before .before .before .before .before .before .before .before .loop in omega (arith, l .inv .5)
 
-slice-reshare-prefix-kind-of : tie.Need-slice-reshare-prefix-kind-of Inv-loop μ-loop
-slice-reshare-prefix-kind-of c = search needs
+caller-of-requires : tie.Need-caller-of-requires Inv-loop μ-loop
+caller-of-requires c κs = let t = c .before .before .before .before .before .take-in in omega (arith, t .ensures, t .kept .0)
 
-slice-aggregate-kind-of : tie.Need-slice-aggregate-kind-of Inv-loop μ-loop
-slice-aggregate-kind-of c = sym (length-take-le _ _ (let t = c .before .before .before .before .take-in in omega (arith, t .ensures, t .kept .0)))
+sub-kind-of : tie.Need-sub-kind-of Inv-loop μ-loop
+sub-kind-of c = search needs
+
+part-kind-of-start : tie.Need-part-kind-of-start Inv-loop μ-loop
+part-kind-of-start c = search needs
+
+part-kind-of-end : tie.Need-part-kind-of-end Inv-loop μ-loop
+part-kind-of-end c = search needs
 
 kind-of-requires : tie.Need-kind-of-requires Inv-loop μ-loop
 kind-of-requires c κs = search needs
@@ -94,26 +100,29 @@ kind-of-requires c κs = search needs
 enum-told : tie.Need-enum-told Inv-loop μ-loop
 enum-told c = search needs
 
-slice-reshare-prefix-answer : tie.Need-slice-reshare-prefix-answer Inv-loop μ-loop
-slice-reshare-prefix-answer c = search needs
+sub-answer : tie.Need-sub-answer Inv-loop μ-loop
+sub-answer c = search needs
 
-slice-aggregate-answer : tie.Need-slice-aggregate-answer Inv-loop μ-loop
-slice-aggregate-answer c = sym (length-take-le _ _ (let t = c .before .before .before .before .before .before .before .before .before .before .take-in in omega (arith, t .ensures, t .kept .0)))
+part-answer-start : tie.Need-part-answer-start Inv-loop μ-loop
+part-answer-start c = search needs
+
+part-answer-end : tie.Need-part-answer-end Inv-loop μ-loop
+part-answer-end c = search needs
 
 answer-requires : tie.Need-answer-requires Inv-loop μ-loop
 answer-requires c κs = search needs
 
 loop-less : tie.Need-loop-less Inv-loop μ-loop
-loop-less c = search needs
+loop-less c = omega (arith, c .before .before .before .before .before .before .before .before .before .before .before .before .before .before .before .before .before .before .before .before .before .before .before .before .before .before .before .before .before .before .before .before .loop-test .taken)
 
 loop-again : tie.Need-loop-again Inv-loop μ-loop
 loop-again c =
-    let inv = c .before .before .before .before .before .before .before .before .before .before .before .before .before .before .before .before .before .before .before .before .before .before .before .before .before .before .before .before .loop .inv in
-    let r = c .before .before .before .before .before .before .before .before .before .before .before .before .before .before .before .before .before .before .before .before .before .before .before .refill in (
+    let inv = c .before .before .before .before .before .before .before .before .before .before .before .before .before .before .before .before .before .before .before .before .before .before .before .before .before .before .before .before .before .before .before .before .before .loop .inv in
+    let r = c .before .before .before .before .before .before .before .before .before .before .before .before .before .before .before .before .before .before .before .before .before .before .before .before .before .before .before .before .refill in (
       omega (arith, c .before .before .before .before .answer .kept .1 .0, inv .0),
       omega (arith, c .before .before .before .before .answer .kept .1 .1, inv .1),
       inv .2,
-      omega (arith, c .before .before .before .before .before .before .before .before .before .before .before .before .before .before .before .before .take-in .kept .0, inv .3),
+      omega (arith, c .before .before .before .before .before .before .before .before .before .before .before .before .before .before .before .before .before .before .before .before .before .take-in .kept .0, inv .3),
       omega (arith, r .kept .0, inv .4),
       search needs,
       omega (arith, r .kept .0, r .ensures),
@@ -122,26 +131,29 @@ loop-again c =
 enum-told-2 : tie.Need-enum-told-2 Inv-loop μ-loop
 enum-told-2 c = search needs
 
-slice-reshare-prefix-play : tie.Need-slice-reshare-prefix-play Inv-loop μ-loop
-slice-reshare-prefix-play c = search needs
+sub-change : tie.Need-sub-change Inv-loop μ-loop
+sub-change c = search needs
 
-slice-aggregate-play : tie.Need-slice-aggregate-play Inv-loop μ-loop
-slice-aggregate-play c = sym (length-take-le _ _ (let t = c .before .before .before .before .before .before .before .before .before .before .before .take-in in omega (arith, t .ensures, t .kept .0)))
+part-change-start : tie.Need-part-change-start Inv-loop μ-loop
+part-change-start c = search needs
 
-play-requires : tie.Need-play-requires Inv-loop μ-loop
-play-requires c κs = search needs
+part-change-end : tie.Need-part-change-end Inv-loop μ-loop
+part-change-end c = search needs
+
+change-requires : tie.Need-change-requires Inv-loop μ-loop
+change-requires c κs = search needs
 
 loop-less-2 : tie.Need-loop-less-2 Inv-loop μ-loop
-loop-less-2 c = omega (arith, c .before .before .before .before .before .before .before .before .before .before .before .before .before .before .before .before .before .before .before .before .before .before .before .before .before .loop-test .taken)
+loop-less-2 c = omega (arith, c .before .before .before .before .before .before .before .before .before .before .before .before .before .before .before .before .before .before .before .before .before .before .before .before .before .before .before .before .before .before .before .before .before .before .before .before .before .loop-test .taken)
 
 loop-again-2 : tie.Need-loop-again-2 Inv-loop μ-loop
 loop-again-2 c =
-    let inv = c .before .before .before .before .before .before .before .before .before .before .before .before .before .before .before .before .before .before .before .before .before .before .before .before .before .before .loop .inv in
-    let r = c .before .before .before .before .before .before .before .before .before .before .before .before .before .before .before .before .before .before .before .before .before .refill in (
-      inv .0,
-      inv .1,
-      inv .2,
-      omega (arith, c .before .before .before .before .before .before .before .before .before .before .before .before .before .before .take-in .kept .0, inv .3),
+    let inv = c .before .before .before .before .before .before .before .before .before .before .before .before .before .before .before .before .before .before .before .before .before .before .before .before .before .before .before .before .before .before .before .before .before .before .before .before .before .before .loop .inv in
+    let r = c .before .before .before .before .before .before .before .before .before .before .before .before .before .before .before .before .before .before .before .before .before .before .before .before .before .before .before .before .before .before .before .before .before .refill in (
+      omega (arith, c .before .before .before .before .before .before .before .change .kept .1 .0, inv .0),
+      omega (arith, c .before .before .before .before .before .before .before .change .kept .1 .1, inv .1),
+      omega (arith, c .before .before .before .before .before .before .before .change .kept .1 .1, inv .2),
+      omega (arith, c .before .before .before .before .before .before .before .before .before .before .before .before .before .before .before .before .before .before .before .before .before .before .before .before .before .before .take-in .kept .0, inv .3),
       omega (arith, r .kept .0, inv .4),
       search needs,
       omega (arith, r .kept .0, r .ensures),
@@ -150,39 +162,14 @@ loop-again-2 c =
 enum-told-3 : tie.Need-enum-told-3 Inv-loop μ-loop
 enum-told-3 c = search needs
 
-slice-reshare-prefix-play-2 : tie.Need-slice-reshare-prefix-play-2 Inv-loop μ-loop
-slice-reshare-prefix-play-2 c = search needs
+sub-read-line : tie.Need-sub-read-line Inv-loop μ-loop
+sub-read-line c = search needs
 
-slice-aggregate-play-2 : tie.Need-slice-aggregate-play-2 Inv-loop μ-loop
-slice-aggregate-play-2 c = sym (length-take-le _ _ (let t = c .before .before .before .before .before .before .before .before .before .before .before .take-in in omega (arith, t .ensures, t .kept .0)))
+part-read-line-start : tie.Need-part-read-line-start Inv-loop μ-loop
+part-read-line-start c = search needs
 
-play-requires-2 : tie.Need-play-requires-2 Inv-loop μ-loop
-play-requires-2 c κs = search needs
-
-loop-less-3 : tie.Need-loop-less-3 Inv-loop μ-loop
-loop-less-3 c = omega (arith, c .before .before .before .before .before .before .before .before .before .before .before .before .before .before .before .before .before .before .before .before .before .before .before .before .before .before .before .loop-test .taken)
-
-loop-again-3 : tie.Need-loop-again-3 Inv-loop μ-loop
-loop-again-3 c =
-    let inv = c .before .before .before .before .before .before .before .before .before .before .before .before .before .before .before .before .before .before .before .before .before .before .before .before .before .before .before .before .loop .inv in
-    let r = c .before .before .before .before .before .before .before .before .before .before .before .before .before .before .before .before .before .before .before .before .before .before .before .refill in (
-      inv .0,
-      inv .1,
-      omega (arith, c .before .before .before .play2 .kept .1, inv .2),
-      omega (arith, c .before .before .before .before .before .before .before .before .before .before .before .before .before .before .before .before .take-in .kept .0, inv .3),
-      omega (arith, r .kept .0, inv .4),
-      search needs,
-      omega (arith, r .kept .0, r .ensures),
-    )
-
-enum-told-4 : tie.Need-enum-told-4 Inv-loop μ-loop
-enum-told-4 c = search needs
-
-slice-reshare-prefix-read-line : tie.Need-slice-reshare-prefix-read-line Inv-loop μ-loop
-slice-reshare-prefix-read-line c = search needs
-
-slice-aggregate-read-line : tie.Need-slice-aggregate-read-line Inv-loop μ-loop
-slice-aggregate-read-line c = sym (length-take-le _ _ (let t = c .before .before .before .before .before .before .before .before .take-in in omega (arith, t .ensures, t .kept .0)))
+part-read-line-end : tie.Need-part-read-line-end Inv-loop μ-loop
+part-read-line-end c = search needs
 
 read-line-requires : tie.Need-read-line-requires Inv-loop μ-loop
 read-line-requires c κs = search needs
@@ -190,20 +177,20 @@ read-line-requires c κs = search needs
 changes-requires : tie.Need-changes-requires Inv-loop μ-loop
 changes-requires c κs = search needs
 
-change-requires : tie.Need-change-requires Inv-loop μ-loop
-change-requires c κs = read-bounded _ _ (c .before .before .before .before .before .read-line .ensures)
+change-requires-2 : tie.Need-change-requires-2 Inv-loop μ-loop
+change-requires-2 c κs = read-bounded _ _ (c .before .before .before .before .before .read-line .ensures)
 
-loop-less-4 : tie.Need-loop-less-4 Inv-loop μ-loop
-loop-less-4 c = omega (arith, c .before .before .before .before .before .before .before .before .before .before .before .before .before .before .before .before .before .before .before .before .before .before .before .before .before .before .before .before .before .before .before .loop-test .taken)
+loop-less-3 : tie.Need-loop-less-3 Inv-loop μ-loop
+loop-less-3 c = omega (arith, c .before .before .before .before .before .before .before .before .before .before .before .before .before .before .before .before .before .before .before .before .before .before .before .before .before .before .before .before .before .before .before .before .before .before .before .before .loop-test .taken)
 
-loop-again-4 : tie.Need-loop-again-4 Inv-loop μ-loop
-loop-again-4 c =
-    let inv = c .before .before .before .before .before .before .before .before .before .before .before .before .before .before .before .before .before .before .before .before .before .before .before .before .before .before .before .before .before .before .before .before .loop .inv in
-    let r = c .before .before .before .before .before .before .before .before .before .before .before .before .before .before .before .before .before .before .before .before .before .before .before .before .before .before .before .refill in (
-      omega (arith, c .before .before .before .before .before .change .kept .1 .0, inv .0),
-      omega (arith, c .before .before .before .before .before .change .kept .1 .1, inv .1),
+loop-again-3 : tie.Need-loop-again-3 Inv-loop μ-loop
+loop-again-3 c =
+    let inv = c .before .before .before .before .before .before .before .before .before .before .before .before .before .before .before .before .before .before .before .before .before .before .before .before .before .before .before .before .before .before .before .before .before .before .before .before .before .loop .inv in
+    let r = c .before .before .before .before .before .before .before .before .before .before .before .before .before .before .before .before .before .before .before .before .before .before .before .before .before .before .before .before .before .before .before .before .refill in (
+      omega (arith, c .before .before .before .before .before .change2 .kept .1 .0, inv .0),
+      omega (arith, c .before .before .before .before .before .change2 .kept .1 .1, inv .1),
       inv .2,
-      omega (arith, c .before .before .before .before .before .before .before .before .before .before .before .before .before .before .before .before .before .before .before .before .take-in .kept .0, inv .3),
+      omega (arith, c .before .before .before .before .before .before .before .before .before .before .before .before .before .before .before .before .before .before .before .before .before .before .before .before .before .take-in .kept .0, inv .3),
       omega (arith, r .kept .0, inv .4),
       search needs,
       omega (arith, r .kept .0, r .ensures),
@@ -212,27 +199,27 @@ loop-again-4 c =
 answer-requires-2 : tie.Need-answer-requires-2 Inv-loop μ-loop
 answer-requires-2 c κs = read-bounded _ _ (c .before .before .before .before .before .read-line .ensures)
 
-loop-less-5 : tie.Need-loop-less-5 Inv-loop μ-loop
-loop-less-5 c = omega (arith, c .before .before .before .before .before .before .before .before .before .before .before .before .before .before .before .before .before .before .before .before .before .before .before .before .before .before .before .before .before .before .loop-test .taken)
+loop-less-4 : tie.Need-loop-less-4 Inv-loop μ-loop
+loop-less-4 c = omega (arith, c .before .before .before .before .before .before .before .before .before .before .before .before .before .before .before .before .before .before .before .before .before .before .before .before .before .before .before .before .before .before .before .before .before .before .before .loop-test .taken)
 
-loop-again-5 : tie.Need-loop-again-5 Inv-loop μ-loop
-loop-again-5 c =
-    let inv = c .before .before .before .before .before .before .before .before .before .before .before .before .before .before .before .before .before .before .before .before .before .before .before .before .before .before .before .before .before .before .before .loop .inv in
-    let r = c .before .before .before .before .before .before .before .before .before .before .before .before .before .before .before .before .before .before .before .before .before .before .before .before .before .before .refill in (
+loop-again-4 : tie.Need-loop-again-4 Inv-loop μ-loop
+loop-again-4 c =
+    let inv = c .before .before .before .before .before .before .before .before .before .before .before .before .before .before .before .before .before .before .before .before .before .before .before .before .before .before .before .before .before .before .before .before .before .before .before .before .loop .inv in
+    let r = c .before .before .before .before .before .before .before .before .before .before .before .before .before .before .before .before .before .before .before .before .before .before .before .before .before .before .before .before .before .before .before .refill in (
       omega (arith, c .before .before .before .before .answer2 .kept .1 .0, inv .0),
       omega (arith, c .before .before .before .before .answer2 .kept .1 .1, inv .1),
       inv .2,
-      omega (arith, c .before .before .before .before .before .before .before .before .before .before .before .before .before .before .before .before .before .before .before .take-in .kept .0, inv .3),
+      omega (arith, c .before .before .before .before .before .before .before .before .before .before .before .before .before .before .before .before .before .before .before .before .before .before .before .before .take-in .kept .0, inv .3),
       omega (arith, r .kept .0, inv .4),
       search needs,
       omega (arith, r .kept .0, r .ensures),
     )
 
-loop-less-6 : tie.Need-loop-less-6 Inv-loop μ-loop
-loop-less-6 c = search needs
+loop-less-5 : tie.Need-loop-less-5 Inv-loop μ-loop
+loop-less-5 c = search needs
 
-loop-again-6 : tie.Need-loop-again-6 Inv-loop μ-loop
-loop-again-6 c = search needs
+loop-again-5 : tie.Need-loop-again-5 Inv-loop μ-loop
+loop-again-5 c = search needs
 
 same-length-11 : tie.Need-same-length-11 Inv-loop μ-loop
 same-length-11 c = search needs
@@ -279,40 +266,39 @@ run-spec =
     slice-reshare-prefix-take-in
     slice-aggregate-take-in
     take-in-requires
-    slice-reshare-prefix-kind-of
-    slice-aggregate-kind-of
+    caller-of-requires
+    sub-kind-of
+    part-kind-of-start
+    part-kind-of-end
     kind-of-requires
     enum-told
-    slice-reshare-prefix-answer
-    slice-aggregate-answer
+    sub-answer
+    part-answer-start
+    part-answer-end
     answer-requires
     loop-less
     loop-again
     enum-told-2
-    slice-reshare-prefix-play
-    slice-aggregate-play
-    play-requires
+    sub-change
+    part-change-start
+    part-change-end
+    change-requires
     loop-less-2
     loop-again-2
     enum-told-3
-    slice-reshare-prefix-play-2
-    slice-aggregate-play-2
-    play-requires-2
-    loop-less-3
-    loop-again-3
-    enum-told-4
-    slice-reshare-prefix-read-line
-    slice-aggregate-read-line
+    sub-read-line
+    part-read-line-start
+    part-read-line-end
     read-line-requires
     changes-requires
-    change-requires
+    change-requires-2
+    loop-less-3
+    loop-again-3
+    answer-requires-2
     loop-less-4
     loop-again-4
-    answer-requires-2
     loop-less-5
     loop-again-5
-    loop-less-6
-    loop-again-6
     same-length-11
     same-length-12
     same-length-13

@@ -33,7 +33,7 @@ share-of-requires c κs =
     let p = c .before .before in
     let d = p .before .args .t1 in
     let k = getD (d .controllers) (p .loop .i) noController in
-    heldOk-countable (d .settings) (k .tracking) (k .ranges) (settingsOk-greatest (d .settings) (p .before .pre .0))
+    heldOk-countable (d .settings) (k .tracking) (k .manager) (k .ranges) (settingsOk-greatest (d .settings) (p .before .pre .0))
     (all-front (λ c. heldOk (d .settings) (heldOf c)) (d .controllers) (d .settings .count) (p .loop .i) noController (omega arith) (omega arith) (p .before .pre .1))
 
 mul-shares : tie.Need-mul-shares Inv-loop μ-loop

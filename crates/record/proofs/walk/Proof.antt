@@ -67,7 +67,7 @@ element-copy-out-walk-on : tie.Need-element-copy-out-walk-on
 element-copy-out-walk-on c = search needs
 
 walk-on-requires : tie.Need-walk-on-requires
-walk-on-requires c κs = (settingsOk-greatest _ (c .before .before .pre), omega arith)
+walk-on-requires c κs = (settingsOk-greatest _ (c .before .before .pre), omega arith, omega arith)
 
 returns : tie.Need-returns
 returns c =
@@ -78,7 +78,7 @@ element-copy-out-walk-on-2 : tie.Need-element-copy-out-walk-on-2
 element-copy-out-walk-on-2 c = search needs
 
 walk-on-requires-2 : tie.Need-walk-on-requires-2
-walk-on-requires-2 c κs = let p = c .before .before in (settingsOk-greatest _ (start1 p .pre), omega (arith, to1 p .light))
+walk-on-requires-2 c κs = let p = c .before .before in (settingsOk-greatest _ (start1 p .pre), omega (arith, to1 p .light), to1 p .part)
 
 returns-2 : tie.Need-returns-2
 returns-2 c = reached-all (start2 (c .before) .args .t1) 2 _ (omega (arith, c .if2 .taken, c .before .before .before .if1 .left)) (to2 (c .before))
@@ -87,7 +87,7 @@ element-copy-out-walk-on-3 : tie.Need-element-copy-out-walk-on-3
 element-copy-out-walk-on-3 c = search needs
 
 walk-on-requires-3 : tie.Need-walk-on-requires-3
-walk-on-requires-3 c κs = let p = c .before .before in (settingsOk-greatest _ (start2 p .pre), omega (arith, to2 p .light))
+walk-on-requires-3 c κs = let p = c .before .before in (settingsOk-greatest _ (start2 p .pre), omega (arith, to2 p .light), to2 p .part)
 
 returns-3 : tie.Need-returns-3
 returns-3 c = reached-all (start3 (c .before) .args .t1) 3 _ (omega (arith, c .if3 .taken, c .before .before .before .if2 .left)) (to3 (c .before))
@@ -96,7 +96,7 @@ element-copy-out-walk-on-4 : tie.Need-element-copy-out-walk-on-4
 element-copy-out-walk-on-4 c = search needs
 
 walk-on-requires-4 : tie.Need-walk-on-requires-4
-walk-on-requires-4 c κs = let p = c .before .before in (settingsOk-greatest _ (start3 p .pre), omega (arith, to3 p .light))
+walk-on-requires-4 c κs = let p = c .before .before in (settingsOk-greatest _ (start3 p .pre), omega (arith, to3 p .light), to3 p .part)
 
 returns-4 : tie.Need-returns-4
 returns-4 c = reached-all (start4 (c .before) .args .t1) 4 _ (omega (arith, c .if4 .taken, c .before .before .before .if3 .left)) (to4 (c .before))
@@ -105,7 +105,7 @@ element-copy-out-walk-on-5 : tie.Need-element-copy-out-walk-on-5
 element-copy-out-walk-on-5 c = search needs
 
 walk-on-requires-5 : tie.Need-walk-on-requires-5
-walk-on-requires-5 c κs = let p = c .before .before in (settingsOk-greatest _ (start4 p .pre), omega (arith, to4 p .light))
+walk-on-requires-5 c κs = let p = c .before .before in (settingsOk-greatest _ (start4 p .pre), omega (arith, to4 p .light), to4 p .part)
 
 returns-5 : tie.Need-returns-5
 returns-5 c = reached-all (start5 (c .before) .args .t1) 5 _ (omega (arith, c .if5 .taken, c .before .before .before .if4 .left)) (to5 (c .before))
@@ -114,7 +114,7 @@ element-copy-out-walk-on-6 : tie.Need-element-copy-out-walk-on-6
 element-copy-out-walk-on-6 c = search needs
 
 walk-on-requires-6 : tie.Need-walk-on-requires-6
-walk-on-requires-6 c κs = let p = c .before .before in (settingsOk-greatest _ (start5 p .pre), omega (arith, to5 p .light))
+walk-on-requires-6 c κs = let p = c .before .before in (settingsOk-greatest _ (start5 p .pre), omega (arith, to5 p .light), to5 p .part)
 
 returns-6 : tie.Need-returns-6
 returns-6 c = reached-all (start6 (c .before) .args .t1) 6 _ (omega (arith, c .if6 .taken, c .before .before .before .if5 .left)) (to6 (c .before))
@@ -123,7 +123,7 @@ element-copy-out-walk-on-7 : tie.Need-element-copy-out-walk-on-7
 element-copy-out-walk-on-7 c = search needs
 
 walk-on-requires-7 : tie.Need-walk-on-requires-7
-walk-on-requires-7 c κs = let p = c .before .before in (settingsOk-greatest _ (start6 p .pre), omega (arith, to6 p .light))
+walk-on-requires-7 c κs = let p = c .before .before in (settingsOk-greatest _ (start6 p .pre), omega (arith, to6 p .light), to6 p .part)
 
 returns-7 : tie.Need-returns-7
 returns-7 c = reached-all (start7 (c .before) .args .t1) 7 _ (omega (arith, c .if7 .taken, c .before .before .before .if6 .left)) (to7 (c .before))
@@ -132,7 +132,7 @@ element-copy-out-walk-on-8 : tie.Need-element-copy-out-walk-on-8
 element-copy-out-walk-on-8 c = search needs
 
 walk-on-requires-8 : tie.Need-walk-on-requires-8
-walk-on-requires-8 c κs = let p = c .before .before in (settingsOk-greatest _ (start7 p .pre), omega (arith, to7 p .light))
+walk-on-requires-8 c κs = let p = c .before .before in (settingsOk-greatest _ (start7 p .pre), omega (arith, to7 p .light), to7 p .part)
 
 returns-8 : tie.Need-returns-8
 returns-8 c =

@@ -10,7 +10,7 @@ walk-requires : tie.Need-walk-requires
 walk-requires c κs = search needs
 
 returns : tie.Need-returns
-returns c = ap (λ (w : Walked). w .weight) (c .walk .ensures) ∙ walkOf-weight (c .before .args .d)
+returns c = ap (λ (w : Walked). w .weight) (c .walk .ensures .0) ∙ walkOf-weight (c .before .args .d)
 
 pub weights-spec : {M : Type 1} → statement M
 weights-spec = tie.close (tie.spec walk-requires returns)

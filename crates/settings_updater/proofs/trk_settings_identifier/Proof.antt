@@ -4,11 +4,11 @@ use borrow.Author.Needs.{needs}
 use Rattle.settings_updater.proofs.trk_settings_identifier.Statement.{statement}
 use Rattle.settings_updater.proofs.trk_settings_identifier.Tie as tie
 
-first-of-requires : tie.Need-first-of-requires
-first-of-requires c κs = search needs
+settings-of-requires : tie.Need-settings-of-requires
+settings-of-requires c κs = search needs
 
 returns : tie.Need-returns
-returns c = identifier-past _ _ (c .before .first-of .ensures) _ (search needs) (c .if1 .taken)
+returns c = identifier-past _ _ (c .before .settings-of .ensures) _ (search needs) (c .if1 .taken)
 
 mul-result : tie.Need-mul-result
 mul-result c = search needs
@@ -17,7 +17,7 @@ element-copy-out-result : tie.Need-element-copy-out-result
 element-copy-out-result c = search needs
 
 returns-2 : tie.Need-returns-2
-returns-2 c = identifier-there _ _ (c .before .before .first-of .ensures) _
+returns-2 c = identifier-there _ _ (c .before .before .settings-of .ensures) _
 
 pub trk-settings-identifier-spec : {M : Type 1} → statement M
-trk-settings-identifier-spec = tie.close (tie.spec first-of-requires returns mul-result element-copy-out-result returns-2)
+trk-settings-identifier-spec = tie.close (tie.spec settings-of-requires returns mul-result element-copy-out-result returns-2)

@@ -20,10 +20,10 @@ eight c = search (length-mapped, needs)
 -- the sizes are those of the record in which the controller is tracked
 sizes : (c : tie.After-sizes-with)
     → let a = c .before .before .before .before .args in
-    c .sizes-with .result ≡ sizesOf (tracking (a .d) (a .i) (a .g) (a .n) (a .ranges))
+    c .sizes-with .result ≡ sizesOf (tracking (a .d) (a .manager) (a .i) (a .g) (a .n) (a .ranges))
 sizes c =
     let k = c .before .before .before in
-    c .sizes-with .ensures ∙ rw (c .before .before .shares .ensures, c .before .units-in .ensures .0) (starts-sizes (k .before .args .d) (eight k) _ _ _ _ (k .before .pre .starts))
+    c .sizes-with .ensures ∙ rw (c .before .before .shares .ensures, c .before .units-in .ensures .0) (starts-sizes (k .before .args .d) (eight k) _ _ _ _ (k .before .pre .starts) (k .before .args .manager))
 
 shares-requires : tie.Need-shares-requires
 shares-requires c κs = let p = c .before .pre .starts in (soundDevice-facts (c .before .args .d) (p .sound) .settings, soundDevice-all (c .before .args .d) (p .sound))
@@ -42,14 +42,14 @@ pack-requires c κs =
     let k = c .before .before .before .before .before in
     let p = k .before .pre in
     let ws = now (k .before .args .marks) in
-    (p .words, rw (sizes (c .before .before), c .bases-of .ensures, c .before .before .before .before .shares .ensures) (starts-packs (k .before .args .d) (eight k) _ _ _ _ (p .starts) (flat ws) (flat-length ws ∙ rw (p .words))))
+    (p .words, rw (sizes (c .before .before), c .bases-of .ensures, c .before .before .before .before .shares .ensures) (starts-packs (k .before .args .d) (eight k) _ _ _ _ (p .starts) (k .before .args .manager) (flat ws) (flat-length ws ∙ rw (p .words))))
 
 recorded-requires : tie.Need-recorded-requires
 recorded-requires c κs =
     let k = c .before .before .before .before .before .before .before .before in
     let e = sizes (c .before .before .before .before .before) in
     let p = k .before .pre .starts in
-    (starts-below (k .before .args .d) (eight k) _ _ _ _ p, e, rw e (starts-fit (k .before .args .d) (eight k) _ _ _ _ p))
+    (starts-below (k .before .args .d) (eight k) _ _ _ _ p, e, rw e (starts-fit (k .before .args .d) (eight k) _ _ _ _ p (k .before .args .manager)))
 
 same-length : tie.Need-same-length
 same-length c = search needs

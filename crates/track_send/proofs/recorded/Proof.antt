@@ -10,8 +10,8 @@ mul-was c = search needs
 element-copy-out-was : tie.Need-element-copy-out-was
 element-copy-out-was c = search needs
 
-mul-t13 : tie.Need-mul-t13
-mul-t13 c = search needs
+mul-t14 : tie.Need-mul-t14
+mul-t14 c = search needs
 
 element-set-from-e : tie.Need-element-set-from-e
 element-set-from-e c = search needs
@@ -31,7 +31,7 @@ recorded-spec =
     (tie.spec
     mul-was
     element-copy-out-was
-    mul-t13
+    mul-t14
     element-set-from-e
     new-bases-requires
     based-requires

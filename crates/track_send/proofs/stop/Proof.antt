@@ -5,13 +5,16 @@ use native.Mathlib.Omega.{arith}
 use denote.Ref.{now}
 use lib.ListN.{length, getD, take}
 use borrow.Author.Needs.{needs}
+use Rattle.rules.specs.declared.Tracking.the-variants.{On}
+use Rattle.rules.specs.declared.Controller.{Controller}
 use Rattle.rules.proofs.LoopLaws.{length-mapped}
 use Rattle.ranges.proofs.RangeLaws.{HeldFacts}
-use Rattle.record.specs.Record.{noController, whereIs}
+use Rattle.record.specs.Record.{noController, whereIs, whereBy}
 use Rattle.record.specs.declared.Place.the-variants.{At, Refused}
-use Rattle.record.proofs.RecordLaws.{whereIs-at}
+use Rattle.record.proofs.RecordLaws.{whereIs-at, whereBy-at}
+use Rattle.calls.specs.Inner.{trackingBy}
 use Rattle.calls.proofs.Answers.{leaves, leaves-unchanged}
-use Rattle.calls.proofs.PlaceLaws.{refused-place, held-at, share-within}
+use Rattle.calls.proofs.PlaceLaws.{refused-place, trackingBy-on, held-at, share-within}
 use Rattle.track_send.proofs.StopLaws.{stop-refused, stop-suspended, stop-off, stop-done}
 use Rattle.track_send.proofs.stop.Statement.{statement}
 use Rattle.track_send.proofs.stop.Tie as tie
@@ -19,17 +22,23 @@ use Rattle.track_send.proofs.stop.Tie as tie
 -- the place that was found, or the refusal
 found : (c : tie.After-known-told)
     → let a = c .before .before .before .before .before .args in
-    whereIs (a .t1) (length (now (a .marks))) (a .id) ≡ At (c .before .place .given .0 .0)
-found c = sym (c .before .before .before .locate .ensures) ∙ c .before .place .given .1
+    whereBy (a .t1) (length (now (a .marks))) (a .manager) (a .id) ≡ At (c .before .place .given .0 .0)
+found c = sym (c .before .before .before .locate-by .ensures) ∙ c .before .place .given .1
 
 refused : (c : tie.After-number-of)
     → let a = c .before .before .before .before .before .args in
-    whereIs (a .t1) (length (now (a .marks))) (a .id) ≡ Refused (c .number-of .result)
-refused c = sym (c .before .before .before .locate .ensures) ∙ refused-place _ _ _ (c .before .enum-told .given .1) (c .number-of .ensures)
+    whereBy (a .t1) (length (now (a .marks))) (a .manager) (a .id) ≡ Refused (c .number-of .result)
+refused c = sym (c .before .before .before .locate-by .ensures) ∙ refused-place _ _ _ (c .before .enum-told .given .1) (c .number-of .ensures)
+
+-- whichever manager asks
+placed : (c : tie.After-known-told)
+    → let a = c .before .before .before .before .before .args in
+    whereIs (a .t1) (length (now (a .marks))) (a .id) ≡ At (c .before .place .given .0 .0)
+placed c = whereBy-at _ _ _ _ _ (found c) .1
 
 -- it is below 8
 below : (c : tie.After-known-told) → c .before .place .given .0 .0 < 8
-below c = whereIs-at _ _ _ _ (found c) .below
+below c = whereIs-at _ _ _ _ (placed c) .below
 
 -- the record has its eight controllers
 there : (c : tie.After-known-told) → c .before .place .given .0 .0 < length (c .before .before .before .before .before .args .t1 .controllers)
@@ -37,16 +46,29 @@ there c =
     let e : length (c .before .before .before .before .before .args .t1 .controllers) ≡ 8 = search (length-mapped, needs) in
     omega (arith, below c)
 
--- what a tracked controller of a sound record holds, and that its marks lie within the words
-held : (c : tie.After-known-told2)
-    → let a = c .before .before .before .before .before .before .before .before .before .before .args in
-    let r = getD (a .t1 .controllers) (c .before .before .before .before .before .before .place .given .0 .0) noController in
-    let n = c .before .t .given .0 .1 .0 in
-    HeldFacts (a .t1 .settings) (c .before .t .given .0 .0) n (take n (r .ranges))
-held c = held-at _ _ _ _ (found (c .before .before .before .before .before)) (there (c .before .before .before .before .before)) _ _ (c .before .t .given .1)
+-- where a controller was found tracked, its place was found
+abbrev place : tie.After-known-told2 → tie.After-known-told
+place c = c .before .before .before .before .before .before
 
-locate-requires : tie.Need-locate-requires
-locate-requires c κs = search needs
+abbrev controller-in : tie.After-known-told2 → Controller
+controller-in c = getD (place c .before .before .before .before .before .args .t1 .controllers) (place c .before .place .given .0 .0) noController
+
+-- by the manager that asks
+by : (c : tie.After-known-told2)
+    → trackingBy (place c .before .before .before .before .before .args .manager) (controller-in c .tracking) (controller-in c .manager) ≡ On (c .before .t .given .0 .0) (c .before .t .given .0 .1 .0)
+by c = sym (c .before .before .before .tracking-by .ensures) ∙ c .before .t .given .1
+
+tracked : (c : tie.After-known-told2) → controller-in c .tracking ≡ On (c .before .t .given .0 .0) (c .before .t .given .0 .1 .0)
+tracked c = trackingBy-on _ (controller-in c .tracking) (controller-in c .manager) _ _ (by c) .0
+
+-- what a tracked controller of a sound record holds
+held : (c : tie.After-known-told2)
+    → let n = c .before .t .given .0 .1 .0 in
+    HeldFacts (place c .before .before .before .before .before .args .t1 .settings) (c .before .t .given .0 .0) n (take n (controller-in c .ranges))
+held c = held-at _ _ _ _ (placed (place c)) (there (place c)) _ _ (tracked c)
+
+locate-by-requires : tie.Need-locate-by-requires
+locate-by-requires c κs = search needs
 
 enum-known-place : tie.Need-enum-known-place
 enum-known-place c = search needs
@@ -58,7 +80,7 @@ number-of-requires : tie.Need-number-of-requires
 number-of-requires c κs = search needs
 
 returns : tie.Need-returns
-returns c = leaves-unchanged _ _ _ (stop-refused _ _ _ _ _ (refused c))
+returns c = leaves-unchanged _ _ _ (stop-refused _ _ _ _ _ _ (refused c))
 
 mul-c : tie.Need-mul-c
 mul-c c = omega (arith, below c)
@@ -67,7 +89,10 @@ element-copy-out-c : tie.Need-element-copy-out-c
 element-copy-out-c c = below c
 
 returns-2 : tie.Need-returns-2
-returns-2 c = leaves-unchanged _ _ _ (stop-suspended _ _ _ _ _ (found (c .before .before)) (c .if1 .taken))
+returns-2 c = leaves-unchanged _ _ _ (stop-suspended _ _ _ _ _ _ (found (c .before .before)) (c .if1 .taken))
+
+tracking-by-requires : tie.Need-tracking-by-requires
+tracking-by-requires c κs = search needs
 
 enum-known-t : tie.Need-enum-known-t
 enum-known-t c = search needs
@@ -76,7 +101,7 @@ enum-told-2 : tie.Need-enum-told-2
 enum-told-2 c = search needs
 
 returns-3 : tie.Need-returns-3
-returns-3 c = leaves-unchanged _ _ _ (stop-off _ _ _ _ _ (found (c .before .before .before .before)) (c .before .before .if1 .left) (c .enum-told2 .given .1))
+returns-3 c = leaves-unchanged _ _ _ (stop-off _ _ _ _ _ _ (found (c .before .before .before .before .before)) (c .before .before .before .if1 .left) (sym (c .before .before .tracking-by .ensures) ∙ c .enum-told2 .given .1))
 
 ranges-of-requires : tie.Need-ranges-of-requires
 ranges-of-requires c κs = search needs
@@ -94,14 +119,13 @@ clear-share-requires : tie.Need-clear-share-requires
 clear-share-requires c κs =
     let k = c .before .before .before .before in
     let r = c .before .before .before .ranges-of in
-    let u = c .before .before .units-in .ensures .0 in
-    let p = k .before .before .before .before .before in (
-      omega (arith, rw (r .ensures .0) at u, share-within _ _ _ _ (found p) (there p) _ _ (k .before .t .given .1) (omega (arith, ap length (r .ensures .0), r .ensures .1))),
-      whereIs-at _ _ _ _ (found p) .whole,
+    let u = c .before .before .units-in .ensures .0 in (
+      omega (arith, rw (r .ensures .0) at u, share-within _ _ _ _ (placed (place k)) (there (place k)) _ _ (tracked k) (omega (arith, ap length (r .ensures .0), r .ensures .1))),
+      whereIs-at _ _ _ _ (placed (place k)) .whole,
     )
 
 forgotten-requires : tie.Need-forgotten-requires
-forgotten-requires c κs = below (c .before .before .before .before .before .before .before .before .before .before .before .before)
+forgotten-requires c κs = below (place (c .before .before .before .before .before .before .before))
 
 same-length : tie.Need-same-length
 same-length c = search needs
@@ -109,18 +133,17 @@ same-length c = search needs
 returns-4 : tie.Need-returns-4
 returns-4 c =
     let k = c .before .before .before .before .before .before .before .before in
-    let p = k .before .before .before .before .before in
-    let a = p .before .before .before .before .before .args in
+    let a = place k .before .before .before .before .before .args in
     let r = c .before .before .before .before .before .before .before .ranges-of in
     let u = c .before .before .before .before .before .before .units-in .ensures .0 in
-    leaves _ _ _ _ _ (stop-done _ (a .t1) (a .id) (now (a .marks)) _ (found p) _ _ (k .before .before .before .if1 .left) (k .before .t .given .1))
+    leaves _ _ _ _ _ (stop-done _ (a .t1) (a .manager) (a .id) (now (a .marks)) _ (found (place k)) _ _ (k .before .before .before .before .if1 .left) (by k))
     (rw (c .forgotten .ensures)) (c .before .before .before .clear-share .ensures ∙ rw (u, r .ensures .0))
 
 pub stop-spec : {M : Type 1} → statement M
 stop-spec =
     tie.close
     (tie.spec
-    locate-requires
+    locate-by-requires
     enum-known-place
     enum-told
     number-of-requires
@@ -128,6 +151,7 @@ stop-spec =
     mul-c
     element-copy-out-c
     returns-2
+    tracking-by-requires
     enum-known-t
     enum-told-2
     returns-3
