@@ -3,6 +3,8 @@
 // and stays so.
 //
 // The contracts cite specs/; the laws that a caller's proof needs are in proofs/, in files of the same names.
+#![tactic(auto)]
+
 ghost use Rattle.std.specs.Prelude.{◌≡◌, true, false, get_or, drop, ◌+◌, ◌-◌, ◌*◌, ◌^◌, ◌<◌, ◌≤◌, min};
 ghost use Rattle.bits.specs.Flat.{digits, flat};
 ghost use Rattle.bits.specs.Span.{fill, clears};

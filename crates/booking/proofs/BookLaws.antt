@@ -11,10 +11,10 @@ use Rattle.rules.specs.declared.Settings.{Settings}
 use Rattle.rules.proofs.StateLaws.{place_of-is}
 use Rattle.settings.specs.Found.{found_at}
 use Rattle.settings.specs.declared.Found.TheVariants as found
-use Rattle.log.specs.declared.Log.{Log}
+use Rattle.log_numbers.specs.declared.Log.{Log}
 use Rattle.calls.specs.declared.Changed.{Changed}
 use Rattle.calls.specs.declared.Written.{Written}
-use Rattle.log.specs.Log.{empty_log, booked_at}
+use Rattle.log_numbers.specs.Log.{empty_log, booked_at}
 use Rattle.booking.specs.Booking.{booked_by, begun_by}
 
 module _ (l : Log) (number : ℕ) where

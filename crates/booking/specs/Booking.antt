@@ -17,9 +17,9 @@ use Rattle.rules.specs.declared.Tracking.TheVariants.{Off, On}
 use Rattle.rules.specs.declared.Controller.{Controller}
 use Rattle.rules.specs.declared.Settings.{Settings}
 use Rattle.rules.specs.declared.Device.{Device}
-use Rattle.log.specs.declared.Log.{Log}
-use Rattle.log.specs.declared.Totals.TheVariants.{Known}
-use Rattle.log.specs.Log.{empty_log, totals_at, booked_at}
+use Rattle.log_numbers.specs.declared.Log.{Log}
+use Rattle.log_numbers.specs.declared.Totals.TheVariants.{Known}
+use Rattle.log_numbers.specs.Log.{empty_log, totals_at, booked_at}
 use Rattle.record.specs.Record.{sound_with, controller_at}
 use Rattle.record.specs.declared.Place.{Place}
 use Rattle.record.specs.declared.Place.TheVariants.{At, Refused}

@@ -1,5 +1,6 @@
 // What a log books of an answer (document 02, W13): a call that is logged does what the call itself does and answers the same, and hands back the log with the
 // units that the answer tells in its controller's account. A refusal books nothing. The log of a call on either engine is said in specs/Booking.antt.
+#![tactic(auto)]
 
 ghost use Rattle.std.specs.Prelude.{◌≡◌, cond, ◌+◌, ◌*◌, ◌^◌, ◌<◌, ◌≤◌, eqb, length};
 ghost use Rattle.rules.specs.Settings.{place_of};
@@ -7,38 +8,38 @@ ghost use Rattle.record.specs.Record.{where_is};
 ghost use Rattle.booking.specs.Booking.{booked_by, begun_by, units_listed, reading_at};
 
 use calls::{Batched, Changed, Received, Written};
-use log::{Log, Totals};
+use log_numbers::{Log, Totals};
 use record::Place;
 use rules::{Device, Settings};
 use settings::Found;
 
 // A call's answer, and the log after it.
-#[derive(Drop)]
+#[derive(Clone, Copy)]
 pub struct LoggedChange {
     pub answer: Changed,
     pub log: Log,
 }
 
-#[derive(Drop)]
+#[derive(Clone, Copy)]
 pub struct LoggedWrite {
     pub answer: Written,
     pub log: Log,
 }
 
-#[derive(Drop)]
+#[derive(Clone, Copy)]
 pub struct LoggedBatch {
     pub answer: Batched,
     pub log: Log,
 }
 
-#[derive(Drop)]
+#[derive(Clone, Copy)]
 pub struct LoggedReport {
     pub answer: Received,
     pub log: Log,
 }
 
 // A controller's totals as they are read: a refusal's number, or 0 and the totals. Refused, they are zeros.
-#[derive(Drop)]
+#[derive(Clone, Copy)]
 pub struct Reading {
     pub number: u8,
     pub totals: Totals,
@@ -51,7 +52,7 @@ pub fn begun(l: Log, number: u8) -> Log
     if number != 0 {
         return l;
     }
-    log::empty()
+    log_numbers::empty()
 }
 
 // The log after a call to a controller that was answered with a number and tells so many units marked, reported and dropped.
@@ -72,7 +73,7 @@ pub fn book(
     let Found::At(i) = settings::find(s, id) else {
         return l;
     };
-    log::booked(l, i, marked as u64, reported as u64, dropped as u64)
+    log_numbers::booked(l, i, marked as u64, reported as u64, dropped as u64)
 }
 
 // How many units the first n descriptors of a report have together.

@@ -1,15 +1,16 @@
 // The lines that a shelf listing has beside document 01's: `batch` and `burst` (W4), read and played. Any bytes are met with an answer.
+#![tactic(auto)]
 
 ghost use Rattle.std.specs.Prelude.{◌≡◌, true, ◌≤◌, ◌<◌, length};
 
 use calls::{Batched, WriteRecord};
-use log::Log;
+use log_numbers::Log;
 use output::{Buffer, Waiting};
 use playing::Booked;
 use rules::{Bytes, Device};
 
 // A line: how many records its batch has, and these, as many as there is room for; or it is bad.
-#[derive(Drop)]
+#[derive(Clone, Copy)]
 struct Burst {
     ok: bool,
     count: usize,
@@ -17,7 +18,7 @@ struct Burst {
 }
 
 // A record in the three fields after a place: whether it is there, and where the last field ends.
-#[derive(Drop)]
+#[derive(Clone, Copy)]
 struct Read {
     ok: bool,
     end: usize,

@@ -1,6 +1,7 @@
 // What the calls answer with, and what each answers and leaves, in specs/Calls.antt: any record, marks of any length, any bytes and any numbers are met
 // with an answer, and nothing is required of the caller. A refused call returns its number with zeros for everything else, and changes neither record,
 // marks nor buffer. The order of refusals is document 01's, first hit answers.
+#![tactic(auto)]
 
 ghost use Rattle.std.specs.Prelude.{◌≡◌, length};
 ghost use Rattle.calls.specs.Inner.{place_number, tracking_by};
@@ -9,14 +10,14 @@ use record::Place;
 use rules::{Bytes, Controller, Device, Range, Tracking};
 
 // The answer of a call that may change the record: its number, and the record as it is afterwards.
-#[derive(Drop)]
+#[derive(Clone, Copy)]
 pub struct Changed {
     pub number: u8,
     pub device: Device,
 }
 
 // The answer of a start: its number, the row of the range that it was refused for (W3), and the record as it is afterwards.
-#[derive(Drop)]
+#[derive(Clone, Copy)]
 pub struct Started {
     pub number: u8,
     pub row: u8,
@@ -24,14 +25,14 @@ pub struct Started {
 }
 
 // The answer to a noted write: its number, and how many units were not pending before.
-#[derive(Drop)]
+#[derive(Clone, Copy)]
 pub struct Written {
     pub number: u8,
     pub count: usize,
 }
 
 // A record of a batch: a write that controller `id` made.
-#[derive(Drop)]
+#[derive(Clone, Copy)]
 pub struct WriteRecord {
     pub id: u16,
     pub address: u64,
@@ -39,7 +40,7 @@ pub struct WriteRecord {
 }
 
 // The answer to a batch of notes: its number, how many notes were done, how many units they made pending, and the refusal of the note that cut it, or 0.
-#[derive(Drop)]
+#[derive(Clone, Copy)]
 pub struct Batched {
     pub number: u8,
     pub done: usize,
@@ -48,7 +49,7 @@ pub struct Batched {
 }
 
 // The answer to a receive: its number, what the report's header says, and how many groups of 64 units were examined (W10).
-#[derive(Drop)]
+#[derive(Clone, Copy)]
 pub struct Received {
     pub number: u8,
     pub suspended: bool,
@@ -59,7 +60,7 @@ pub struct Received {
 }
 
 // The answer to a part of a state: its number, how many bytes the state has where this was its last part, else 0, and the record as it is afterwards.
-#[derive(Drop)]
+#[derive(Clone, Copy)]
 pub struct StateSet {
     pub number: u8,
     pub whole: usize,
@@ -67,7 +68,7 @@ pub struct StateSet {
 }
 
 // The answer to a post to a queue: its number, whether it found only one place free, so that logging has stopped, and the record as it is afterwards.
-#[derive(Drop)]
+#[derive(Clone, Copy)]
 pub struct Posted {
     pub number: u8,
     pub stopped: bool,
@@ -75,7 +76,7 @@ pub struct Posted {
 }
 
 // The answer to a take from a queue: its number, how many entries were taken, whether the last of them is the closing one, and the record as it is afterwards.
-#[derive(Drop)]
+#[derive(Clone, Copy)]
 pub struct Taken {
     pub number: u8,
     pub count: usize,

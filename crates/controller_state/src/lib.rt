@@ -1,5 +1,6 @@
 // The call that takes a part of a controller's state (NVMe: Migration Send, Set Controller State). Its contract is an equation with `part_change` of the calls: it
 // says every returned value, every field of the record and every byte of the area afterwards. The whole is judged before anything is stored.
+#![tactic(auto)]
 
 ghost use Rattle.std.specs.Prelude.{◌≡◌, ◌+◌, ◌*◌, ◌^◌, ◌≤◌, length};
 ghost use Rattle.rules.specs.Refusals.{refusal};

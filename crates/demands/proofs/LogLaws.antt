@@ -22,9 +22,9 @@ use Rattle.rules.specs.declared.Range.{Range}
 use Rattle.rules.specs.declared.Tracking.{Tracking}
 use Rattle.rules.specs.declared.Tracking.TheVariants.{Off, On}
 use Rattle.rules.proofs.TotalLaws.{units_marked-snoc, units_reported-snoc, units_dropped-snoc}
-use Rattle.log.specs.declared.Log.{Log}
-use Rattle.log.specs.Log.{showing, added_to, totals_at}
-use Rattle.log.proofs.LogLaws.{added_to-showing, booked_at-length, booked_at-own, booked_at-other}
+use Rattle.log_numbers.specs.declared.Log.{Log}
+use Rattle.log_numbers.specs.Log.{showing, added_to, totals_at}
+use Rattle.log_numbers.proofs.LogLaws.{added_to-showing, booked_at-length, booked_at-own, booked_at-other}
 use Rattle.record.specs.Record.{no_controller, controller_at}
 use Rattle.ring.specs.Ring.{queued}
 use Rattle.calls.specs.declared.WriteRecord.{WriteRecord}

@@ -20,16 +20,16 @@ use Rattle.rules.specs.declared.Settings.{Settings}
 use Rattle.rules.proofs.StateLaws.{place_of-is, place_of-apart}
 use Rattle.rules.proofs.TotalLaws.{units_dropped-snoc, shown_of-known, shown_of-unknown, shown_by-stays}
 use Rattle.rules.proofs.Theorems.{totals}
-use Rattle.log.specs.declared.Log.{Log}
-use Rattle.log.specs.declared.Account.{Account}
-use Rattle.log.specs.declared.Totals.{Totals}
-use Rattle.log.specs.declared.Totals.TheVariants.{Known, Unknown}
-use Rattle.log.specs.Log.{showing, empty_account, empty_log, totals_at}
-use Rattle.log.specs.declared.Sum.TheVariants as total
-use Rattle.log.specs.declared.Sums.{Sums}
-use Rattle.log.specs.Sums.{no_sums}
-use Rattle.log.proofs.LogLaws.{shown, shown-showing}
-use Rattle.log.proofs.SumLaws.{is_known, marked_in, reported_in, dropped_in, sum_over, sums_over, summed-none, summed-snoc}
+use Rattle.log_numbers.specs.declared.Log.{Log}
+use Rattle.log_numbers.specs.declared.Account.{Account}
+use Rattle.log_numbers.specs.declared.Totals.{Totals}
+use Rattle.log_numbers.specs.declared.Totals.TheVariants.{Known, Unknown}
+use Rattle.log_numbers.specs.Log.{showing, empty_account, empty_log, totals_at}
+use Rattle.log_numbers.specs.declared.Sum.TheVariants as total
+use Rattle.log_numbers.specs.declared.Sums.{Sums}
+use Rattle.log_numbers.specs.Sums.{no_sums}
+use Rattle.log_numbers.proofs.LogLaws.{shown, shown-showing}
+use Rattle.log_numbers.proofs.SumLaws.{is_known, marked_in, reported_in, dropped_in, sum_over, sums_over, summed-none, summed-snoc}
 use Rattle.record.specs.Record.{sound_with, place_at, where_is}
 use Rattle.calls.specs.declared.WriteRecord.{WriteRecord}
 use Rattle.calls.specs.declared.Batched.{Batched}

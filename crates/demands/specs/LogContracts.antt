@@ -14,12 +14,12 @@ use Rattle.std.specs.Int.{w8, w16, w64}
 use Rattle.rules.specs.Promise.{Determinate}
 use Rattle.rules.specs.Units.{Write}
 use Rattle.rules.specs.declared.Bytes.{Bytes}
-use Rattle.log.specs.Log.{empty_log, added_to}
-use Rattle.log.specs.Sums.{no_sums, summed_with}
-use Rattle.log.proofs.empty.Reads as empty
-use Rattle.log.proofs.added.Reads as added
-use Rattle.log.proofs.no_sums.Reads as no-sums
-use Rattle.log.proofs.summed.Reads as summed
+use Rattle.log_numbers.specs.Log.{empty_log, added_to}
+use Rattle.log_numbers.specs.Sums.{no_sums, summed_with}
+use Rattle.log_numbers.proofs.empty.Reads as empty
+use Rattle.log_numbers.proofs.added.Reads as added
+use Rattle.log_numbers.proofs.no_sums.Reads as no-sums
+use Rattle.log_numbers.proofs.summed.Reads as summed
 use Rattle.calls.specs.contracts.WriteRecord as record-type
 use Rattle.calls.proofs.WriteRecord.TheLaws as record-laws
 use Rattle.calls.specs.Calls.{in_words, fresh_by, stop_by, write_by, batch_by, receive_by}

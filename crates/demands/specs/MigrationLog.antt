@@ -10,13 +10,13 @@ use Rattle.rules.specs.History.{only}
 use Rattle.rules.specs.Totals.{units_marked, units_reported, units_dropped, shown_by}
 use Rattle.rules.specs.Demands.{Passes, session_history, unhindered}
 use Rattle.rules.specs.declared.Settings.{Settings}
-use Rattle.log.specs.declared.Log.{Log}
-use Rattle.log.specs.Log.{showing, added_to, empty_account}
-use Rattle.log.specs.declared.Totals.{Totals}
-use Rattle.log.specs.declared.Totals.TheVariants.{Known, Unknown}
-use Rattle.log.specs.declared.Sum.TheVariants as total
-use Rattle.log.specs.declared.Sums.{Sums}
-use Rattle.log.specs.Sums.{no_sums, summed_with}
+use Rattle.log_numbers.specs.declared.Log.{Log}
+use Rattle.log_numbers.specs.Log.{showing, added_to, empty_account}
+use Rattle.log_numbers.specs.declared.Totals.{Totals}
+use Rattle.log_numbers.specs.declared.Totals.TheVariants.{Known, Unknown}
+use Rattle.log_numbers.specs.declared.Sum.TheVariants as total
+use Rattle.log_numbers.specs.declared.Sums.{Sums}
+use Rattle.log_numbers.specs.Sums.{no_sums, summed_with}
 use Rattle.record.specs.Record.{sound_with, where_is}
 use Rattle.calls.specs.declared.WriteRecord.{WriteRecord}
 use Rattle.calls.specs.Calls.{Engine, in_words, fresh_by, batch_by}

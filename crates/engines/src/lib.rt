@@ -1,11 +1,12 @@
 // The calls of whichever engine an area was lent for (document 02, W9), so that a program's lines are played by the same code on both: where bytes are lent each
 // call is the plain engine's on these, else it is the call of `tracker` on the marks.
+#![tactic(auto)]
 
 ghost use Rattle.std.specs.Prelude.{◌≡◌, ◌+◌, ◌*◌, ◌≤◌, length};
 
 use booking::{LoggedBatch, LoggedChange, LoggedReport, LoggedWrite, Reading};
 use calls::{Batched, Changed, Posted, Received, Started, StateSet, Taken, WriteRecord, Written};
-use log::Log;
+use log_numbers::Log;
 use rules::{Bytes, Device, Settings};
 
 // Makes a fresh device.

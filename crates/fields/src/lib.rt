@@ -1,17 +1,18 @@
 // Fields of a line of text, with a space between two, and the numbers that they spell in decimal. Any bytes are met with an answer.
+#![tactic(auto)]
 
 ghost use Rattle.std.specs.Prelude.{◌≡◌, true, ◌+◌, ◌≤◌, ◌<◌, length, drop};
 ghost use Rattle.fields.specs.Fields.{first_field, is_digit, leading_zero, same_bytes, number_of};
 
 // What a field says: a number, or none that fits.
-#[derive(Drop)]
+#[derive(Clone, Copy)]
 pub enum Number {
     Is(u64),
     None,
 }
 
 // A number in the field after a place: whether it is there and fits, and where its field ends.
-#[derive(Drop)]
+#[derive(Clone, Copy)]
 pub struct Taken {
     pub ok: bool,
     pub end: usize,

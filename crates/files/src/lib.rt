@@ -1,5 +1,6 @@
 // The lines of a shelf listing for the settings file: `old`, `new` and `save` (W11), read and played. They need no device and change none. Any bytes are met with
 // an answer.
+#![tactic(auto)]
 
 ghost use Rattle.std.specs.Prelude.{◌≤◌, length};
 
@@ -100,7 +101,7 @@ fn put_file(
         return playing::put_answer(out, waiting, number);
     }
     let w = output::put_bytes(out, waiting, b"0 ");
-    hex::put_line(out, w, file)
+    hex_text::put_line(out, w, file)
 }
 
 // Puts the answer of the writer.
@@ -118,7 +119,7 @@ fn put_saved(version: u16, s: Settings, out: &mut Buffer, waiting: Waiting) -> W
 // Plays an `old` or a `new`, whose file begins at `at`.
 fn read(line: &[u8], at: usize, out: &mut Buffer, waiting: Waiting) -> Waiting {
     let mut file = [0u8; FILE_BYTES];
-    let read = hex::take(line, at, &mut file);
+    let read = hex_text::take(line, at, &mut file);
     if !read.ok {
         return playing::put_bad(out, waiting);
     }

@@ -1,5 +1,6 @@
 // The call that makes a device: fresh. Its contract is an equation with `fresh_change` of the calls: it says every returned value, every field of the
 // record and every word of the marks afterwards.
+#![tactic(auto)]
 
 ghost use Rattle.std.specs.Prelude.{◌≡◌, replicate};
 ghost use Rattle.rules.specs.declared.Sequence.TheVariants.{Nothing};

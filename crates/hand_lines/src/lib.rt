@@ -1,12 +1,13 @@
 // Lines with logs made by hand (document 02, W13): a line of document 01's listing behind totals, played with a log that has these totals in every account, and
 // answered with what the log then says. No listing brings a total near 2^64 by itself; here one begins there. Any bytes are met with an answer.
+#![tactic(auto)]
 
 ghost use Rattle.std.specs.Prelude.{◌≤◌, length};
 
 use fields::Number;
 use libc::STDIN_FILENO;
 use listing::Call;
-use log::{Account, Log, Totals};
+use log_numbers::{Account, Log, Totals};
 use output::{Buffer, Waiting};
 use playing::Played;
 use rules::{Device, Settings};
@@ -14,7 +15,7 @@ use rules::{Device, Settings};
 // ---- reading
 
 // The totals before a line, and where the line begins.
-#[derive(Drop)]
+#[derive(Clone, Copy)]
 struct Made {
     totals: Totals,
     from: usize,

@@ -1,4 +1,5 @@
 // Lines with logs made by hand, played on mark words as the session program plays its own.
+#![tactic(auto)]
 
 use rules::MARK_WORDS;
 

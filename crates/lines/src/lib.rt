@@ -1,4 +1,5 @@
 // Input on its way into lines: where a line ends, what of it is kept, and reading itself. What a line says is nothing to this.
+#![tactic(auto)]
 
 ghost use Rattle.std.specs.Prelude.{◌≡◌, ◌≤◌, length};
 ghost use Rattle.io.specs.Counts.{IsPrefixLen};
@@ -38,7 +39,7 @@ fn put_part(line: &mut [u8], used: usize, part: &[u8]) -> usize
 }
 
 // After a part of some input was taken in: the place behind it, how many bytes of a line are there, and whether they are a whole line.
-#[derive(Drop)]
+#[derive(Clone, Copy)]
 struct Taken {
     at: usize,
     used: usize,
@@ -83,7 +84,7 @@ fn read_some(from: i32, input: &mut [u8]) -> usize
 }
 
 // The input that is left to take in, from a place to an end. Where it ends with 0 there is none any more.
-#[derive(Drop)]
+#[derive(Clone, Copy)]
 struct Left {
     at: usize,
     end: usize,
@@ -102,7 +103,7 @@ fn refill(from: i32, input: &mut [u8], at: usize, end: usize) -> Left
 }
 
 // How far reading is: the input that is left, how many bytes of a line are there, whether they are a whole one, and whether the input is over.
-#[derive(Drop)]
+#[derive(Clone, Copy)]
 pub struct Reading {
     pub at: usize,
     pub end: usize,

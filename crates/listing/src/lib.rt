@@ -1,5 +1,7 @@
 // A line of the session listing of document 01, read: the call that it asks for, or that it is bad.
 // Any bytes are met with an answer. Nothing here plays a call.
+#![tactic(auto)]
+
 ghost use Rattle.std.specs.Prelude.{◌≡◌, [], ◌+◌, ◌*◌, ◌≤◌, ◌<◌, length, get_or, drop, replicate};
 ghost use Rattle.little.specs.Little.{put, records_at};
 ghost use Rattle.rules.specs.StartData.{placed};
@@ -12,7 +14,7 @@ use fields::Number;
 use rules::Range;
 
 // What a line asks for. `Dev` has its number of identifiers last, `Start` its number of pairs: they stand beside the call.
-#[derive(Drop)]
+#[derive(Clone, Copy)]
 pub enum Call {
     Bad,
     Dev {
@@ -46,7 +48,7 @@ pub enum Call {
 }
 
 // A line: its call, the identifiers of a `dev` and the pairs of a `start`; zeros in the places after them.
-#[derive(Drop)]
+#[derive(Clone, Copy)]
 pub struct Line {
     pub call: Call,
     pub identifiers: [u16; 8],
@@ -54,7 +56,7 @@ pub struct Line {
 }
 
 // The word that a line starts with.
-#[derive(Drop)]
+#[derive(Clone, Copy)]
 pub enum Word {
     Dev,
     Start,
@@ -67,7 +69,7 @@ pub enum Word {
 }
 
 // What was read of the numbers after a line's word: whether each field is one that fits, and how many were taken.
-#[derive(Drop)]
+#[derive(Clone, Copy)]
 pub struct Numbers {
     pub ok: bool,
     pub count: usize,

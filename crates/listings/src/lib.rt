@@ -1,10 +1,11 @@
 // A listing read and played to its end, each line answered on standard output: document 01's, or a shelf's, which has more lines (`bursts`, `parts`, `queues`, `files`,
 // `managers`, `totals`). A line is cut by `lines`, and played by `playing` or one of these. The loop owns the device and its log, so that a line hands back only those
 // that it may change.
+#![tactic(auto)]
 
 ghost use Rattle.std.specs.Prelude.{◌≤◌, length};
 
-use log::Log;
+use log_numbers::Log;
 use managers::Caller;
 use output::{Buffer, Waiting};
 use parts::Area;
@@ -12,7 +13,7 @@ use playing::{After, Booked};
 use rules::{Device, MARK_WORDS, STATE_BYTES};
 
 // How a line is played: as document 01's, or as one of a shelf's, which leaves the device as it is, or may change it.
-#[derive(Drop)]
+#[derive(Clone, Copy)]
 enum Kind {
     Session,
     Kept,
@@ -120,7 +121,7 @@ pub fn run(
     waiting: Waiting,
 ) -> After {
     let mut device = playing::none(marks, bytes);
-    let mut log = log::empty();
+    let mut log = log_numbers::empty();
     let mut waiting = waiting;
     let mut reading = lines::begin();
     let mut turns = u64::MAX;

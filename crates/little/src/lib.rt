@@ -1,5 +1,7 @@
 // Little-endian numbers of 1, 2, 4 and 8 bytes, read from and written to lent bytes.
 // Each function's index is its caller's to keep: the bytes asked for lie in the slice. A writer leaves every other byte as it was.
+#![tactic(auto)]
+
 ghost use Rattle.std.specs.Prelude.{◌≡◌, ◌+◌, ◌≤◌, length};
 ghost use Rattle.little.specs.Little.{number_at, number_bytes, put};
 

@@ -15,7 +15,7 @@ use Rattle.rules.specs.declared.Device.{Device}
 use Rattle.rules.specs.Refusals.{refusal}
 use Rattle.rules.specs.Settings.{place_of}
 use Rattle.rules.specs.Order.{batch_order}
-use Rattle.log.specs.declared.Log.{Log}
+use Rattle.log_numbers.specs.declared.Log.{Log}
 use Rattle.record.specs.Record.{sound_with}
 use Rattle.calls.specs.declared.Written.{Written}
 use Rattle.calls.specs.declared.WriteRecord.{WriteRecord}

@@ -18,7 +18,7 @@ use Rattle.rules.specs.declared.Controller.{Controller}
 use Rattle.rules.specs.declared.Device.{Device}
 use Rattle.rules.specs.declared.Tracking.TheVariants.{Off, On}
 use Rattle.rules.proofs.RefusalLaws.{verdict-both}
-use Rattle.log.specs.declared.Log.{Log}
+use Rattle.log_numbers.specs.declared.Log.{Log}
 use Rattle.record.specs.Record.{no_controller, sound_with, place_at, where_is, seen_in}
 use Rattle.record.specs.declared.Place.TheVariants.{At, Refused}
 use Rattle.record.proofs.RecordLaws.{where_is-at}

@@ -26,7 +26,7 @@ use Rattle.rules.specs.declared.Tracking.TheVariants.{Off, On}
 use Rattle.rules.proofs.RefusalLaws.{verdict-both}
 use Rattle.rules.proofs.RunLaws.{pending-length-le}
 use Rattle.rules.proofs.TotalLaws.{report_units-cleared}
-use Rattle.log.specs.declared.Log.{Log}
+use Rattle.log_numbers.specs.declared.Log.{Log}
 use Rattle.record.specs.Record.{no_controller, sound_with, controller_at, where_is, seen_in}
 use Rattle.record.specs.declared.Place.TheVariants.{At}
 use Rattle.record.proofs.RecordLaws.{where_is-at}

@@ -1,5 +1,6 @@
 // The calls that are logged (document 02, W13): each does its call and answers what that answers, and hands back the log with what the answer books. Every other
 // call leaves a log as it was. Each contract is the call's own equation, and one more for the log.
+#![tactic(auto)]
 
 ghost use Rattle.std.specs.Prelude.{◌≡◌, true, length, take};
 ghost use Rattle.record.specs.Record.{sound_with, where_is};
@@ -8,7 +9,7 @@ ghost use Rattle.booking.specs.Booking.{fresh_log, stop_log, write_log, batch_lo
 
 use booking::{LoggedBatch, LoggedChange, LoggedReport, LoggedWrite, Reading};
 use calls::WriteRecord;
-use log::Log;
+use log_numbers::Log;
 use record::Place;
 use rules::{Bytes, Device, Settings, Tracking};
 

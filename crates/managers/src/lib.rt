@@ -1,15 +1,16 @@
 // The lines of a shelf listing for two managers (document 02, W12): `dev2`, which makes a device and is played here, and `by`, which says that a manager makes a call.
 // Any bytes are met with an answer.
+#![tactic(auto)]
 
 ghost use Rattle.std.specs.Prelude.{◌≤◌, length};
 
-use log::Log;
+use log_numbers::Log;
 use output::{Buffer, Waiting};
 use playing::After;
 use rules::Device;
 
 // The manager that makes a call, and where the call's own line begins.
-#[derive(Drop)]
+#[derive(Clone, Copy)]
 pub struct Caller {
     pub manager: u16,
     pub from: usize,

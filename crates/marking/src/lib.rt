@@ -1,5 +1,6 @@
 // The marking of a noted write: in each piece of a range the touched units are a span. Ranges that ascend and do not overlap, as nearly all do, are
 // pieces themselves.
+#![tactic(auto)]
 
 ghost use Rattle.std.specs.Prelude.{◌≡◌, true, [], ◌∷◌, ◌+◌, ◌^◌, ◌<◌, ◌≤◌, min, length, take};
 ghost use Rattle.bits.specs.Flat.{flat};

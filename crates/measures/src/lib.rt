@@ -1,5 +1,6 @@
 // The two measures, units and bytes (document 01, "Settings and sizes"), and what turns one into the other: shifts by the granularity, here and nowhere
 // else.
+#![tactic(auto)]
 
 ghost use Rattle.std.specs.Prelude.{◌≡◌, ◌%◌, ◌^◌, ◌<◌, ◌≤◌, eqb};
 ghost use Rattle.rules.specs.Settings.{unit_size, bytes_of, whole_units};

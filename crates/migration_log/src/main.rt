@@ -1,13 +1,14 @@
 // The migration log (document 02, W13): reads names of session files from standard input, one a line, and plays each file as the session program plays its input, without
 // the answers. Prints a line for each controller of a file's last device, or `bad` for a file that can't be opened, and last the sums over all.
+#![tactic(auto)]
 
 use libc::{PATH_MAX, STDIN_FILENO};
-use log::{Log, Sums};
+use log_numbers::{Log, Sums};
 use output::{Buffer, Waiting};
 use rules::Settings;
 
 // After a file: the sums so far, and the lines that wait.
-#[derive(Drop)]
+#[derive(Clone, Copy)]
 struct Summed {
     sums: Sums,
     waiting: Waiting,
@@ -22,7 +23,7 @@ fn put_controllers(l: Log, s: Settings, sums: Sums, out: &mut Buffer, waiting: W
             let account = l.accounts[i];
             let totals = account.totals;
             waiting = totals::put_totals(out, waiting, s.identifiers[i] as u64, totals);
-            sums = log::summed(sums, totals);
+            sums = log_numbers::summed(sums, totals);
         }
     }
     Summed { sums, waiting }
@@ -56,7 +57,7 @@ fn main() {
     let mut name = [0u8; PATH_MAX];
     let mut out = [0u8; 65536];
     let mut waiting = Waiting::Bytes(0);
-    let mut sums = log::no_sums();
+    let mut sums = log_numbers::no_sums();
     let mut reading = lines::begin();
     let mut turns = u64::MAX;
     while turns > 0 {

@@ -1,5 +1,6 @@
 // The calls that suspend and resume a controller (NVMe: Migration Send). Each contract is an equation with a function of the calls: it says every
 // returned value and every field of the record afterwards; marks are only read.
+#![tactic(auto)]
 
 ghost use Rattle.std.specs.Prelude.{◌≡◌, length};
 ghost use Rattle.calls.specs.Calls.{dropped, suspend_change, resume_change};

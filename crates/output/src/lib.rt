@@ -1,5 +1,6 @@
 // Bytes on their way to standard output: they wait in a buffer, and are written when it is full or when a program says so. The buffer has 65,536 bytes and
 // the number of those that wait 16 bits, so that it lies within the buffer whatever it is.
+#![tactic(auto)]
 
 use libc::STDOUT_FILENO;
 
@@ -7,7 +8,7 @@ use libc::STDOUT_FILENO;
 pub type Buffer = [u8; 65536];
 
 // How many bytes wait at the buffer's front; or that writing failed, after which nothing is put or written any more; or that nothing is to be put or written.
-#[derive(Drop)]
+#[derive(Clone, Copy)]
 pub enum Waiting {
     Bytes(u16),
     Failed,

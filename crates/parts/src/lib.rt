@@ -1,4 +1,5 @@
 // The line of a shelf listing that takes a part of a controller's state: `part` (W6), read and played. Any bytes are met with an answer.
+#![tactic(auto)]
 
 ghost use Rattle.std.specs.Prelude.{◌≤◌, length};
 
@@ -10,7 +11,7 @@ use rules::{Device, STATE_BYTES};
 pub type Area = [u8; STATE_BYTES];
 
 // The numbers of a part: whether they are there and fit, and where their fields end.
-#[derive(Drop)]
+#[derive(Clone, Copy)]
 struct Numbers {
     ok: bool,
     end: usize,
@@ -68,9 +69,9 @@ pub fn asks(line: &[u8]) -> bool {
 // Puts a line of an area's first `whole` bytes, or all where it has fewer.
 fn put_front(out: &mut Buffer, waiting: Waiting, area: &[u8], whole: usize) -> Waiting {
     if whole < area.len() {
-        return hex::put_line(out, waiting, &area[..whole]);
+        return hex_text::put_line(out, waiting, &area[..whole]);
     }
-    hex::put_line(out, waiting, area)
+    hex_text::put_line(out, waiting, area)
 }
 
 // Puts a part's answer: a refused one's number alone, and behind a finished state the state.
@@ -105,7 +106,7 @@ pub fn play(
         return playing::bad(d, out, waiting);
     }
     let mut data = [0u8; 4100];
-    let read = hex::take(line, part.end, &mut data);
+    let read = hex_text::take(line, part.end, &mut data);
     if !read.ok {
         return playing::bad(d, out, waiting);
     }

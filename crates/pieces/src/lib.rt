@@ -1,6 +1,7 @@
 // The units of a list of ranges, piece by piece (document 02, W2): ranges may overlap, and a unit belongs to the earliest listed range that covers it. A
 // piece is a longest stretch of one range's units that no earlier range covers; it is a range itself, with a row.
 // Units of a range are counted from its first.
+#![tactic(auto)]
 
 ghost use Rattle.std.specs.Prelude.{◌≡◌, true, ◌&&◌, ◌+◌, ◌-◌, ◌^◌, ◌≤◌, ◌<◌, min, leb, ltb, take};
 ghost use Rattle.rules.specs.Settings.{unit_size, bytes_of};
@@ -11,28 +12,28 @@ ghost use Rattle.pieces.specs.Pieces.{row_of, Overlaps, cut_before, StretchIs, N
 use rules::{Bytes, Range, Units};
 
 // Units of a range: those from `from` below `to`.
-#[derive(Drop)]
+#[derive(Clone, Copy)]
 pub struct Span {
     pub from: Units,
     pub to: Units,
 }
 
 // Units of a range from some unit on, up to `to`: all of them belong to the range, or none.
-#[derive(Drop)]
+#[derive(Clone, Copy)]
 pub struct Stretch {
     pub to: Units,
     pub own: bool,
 }
 
 // A piece: its row, the unit of the row's range just past it, and itself as a range.
-#[derive(Drop)]
+#[derive(Clone, Copy)]
 pub struct Piece {
     pub row: usize,
     pub next: Units,
     pub range: Range,
 }
 
-#[derive(Drop)]
+#[derive(Clone, Copy)]
 pub enum NextPiece {
     Is(Piece),
     Nothing,

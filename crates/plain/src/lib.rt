@@ -1,6 +1,7 @@
 // The plain engine (document 02, W9): every call of `tracker`, on one byte a unit, 0 clear and all else pending, in a lent area of 16,384 bytes. It is there to be read: each call
 // asks its refusals in document 01's order, and marks are gone over one unit at a time. What checks settings, ranges, the record and structures, and what writes a report's
 // bytes, is shared with the other engine, and so are the calls that touch no mark. Each contract is an equation with a function of the calls, for marks held in bytes.
+#![tactic(auto)]
 
 ghost use Rattle.std.specs.Prelude.{◌≡◌, ◌+◌, ◌≤◌, length, take};
 ghost use Rattle.pool.specs.Pool.{Packs};

@@ -1,4 +1,5 @@
 // Lines with logs made by hand, played as the program `hand_logs` does, with the same answers, on the plain engine (document 02, W9).
+#![tactic(auto)]
 
 use plain::AREA_BYTES;
 

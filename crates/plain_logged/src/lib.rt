@@ -1,4 +1,5 @@
 // The plain engine's calls that are logged (document 02, W13), as `logged` has those of the other engine: one byte a unit.
+#![tactic(auto)]
 
 ghost use Rattle.std.specs.Prelude.{◌≡◌, true, length, take};
 ghost use Rattle.record.specs.Record.{sound_with, where_is};
@@ -8,7 +9,7 @@ ghost use Rattle.booking.specs.Booking.{fresh_log, stop_log, write_log, batch_lo
 
 use booking::{LoggedBatch, LoggedChange, LoggedReport, LoggedWrite, Reading};
 use calls::WriteRecord;
-use log::Log;
+use log_numbers::Log;
 use record::Place;
 use rules::{Bytes, Device, Settings, Tracking};
 

@@ -1,6 +1,7 @@
 // The plain engine's way over marks (document 02, W9): one byte a unit, 0 clear and all else pending, one unit at a time. For each range in its order, for
 // each unit of it by address: where an earlier range covers the unit it is not this range's, else it is the controller's next unit. The bytes of the
 // controller's units stand in the area from `base` on, in that order.
+#![tactic(auto)]
 
 ghost use Rattle.std.specs.Prelude.{◌≡◌, cond, [], ◌+◌, ◌*◌, ◌^◌, ◌≤◌, ◌<◌, eqb, length, take};
 ghost use Rattle.little.specs.Little.{put};
@@ -94,7 +95,7 @@ pub fn count_units(area: &[u8], base: usize, n: usize) -> usize
 }
 
 // How many runs were listed, whether one stays, and how many groups of 64 units were examined (W10).
-#[derive(Drop)]
+#[derive(Clone, Copy)]
 pub struct Listed {
     pub runs: usize,
     pub more: bool,

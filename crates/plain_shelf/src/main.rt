@@ -1,4 +1,5 @@
 // The plain shelf program: plays a shelf listing as the program `shelf` does, with the same answers, on the plain engine (document 02, W9).
+#![tactic(auto)]
 
 use libc::STDIN_FILENO;
 use output::Waiting;

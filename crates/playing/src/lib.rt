@@ -1,30 +1,31 @@
 // A line of a listing, played on a device with its log, and its answer as text. What a line asks for is said by `listing`, what a call answers by `engines`.
+#![tactic(auto)]
 
 ghost use Rattle.std.specs.Prelude.{◌≡◌, ◌+◌, ◌*◌, ◌≤◌, length};
 ghost use Rattle.listing.specs.Listing.{Bounded};
 
 use calls::{Received, Written};
 use listing::{Call, Line};
-use log::Log;
+use log_numbers::Log;
 use output::{Buffer, Waiting};
 use rules::{Bytes, Device, Range, Second, Settings};
 
 // After a line that may change the device, and leaves the log as it is: the device, and the answers that wait.
-#[derive(Drop)]
+#[derive(Clone, Copy)]
 pub struct Played {
     pub device: Device,
     pub waiting: Waiting,
 }
 
 // After a line that may change the log, and leaves the device as it is: the log, and the answers that wait.
-#[derive(Drop)]
+#[derive(Clone, Copy)]
 pub struct Booked {
     pub log: Log,
     pub waiting: Waiting,
 }
 
 // After any line: the device, its log, and the answers that wait.
-#[derive(Drop)]
+#[derive(Clone, Copy)]
 pub struct After {
     pub device: Device,
     pub log: Log,

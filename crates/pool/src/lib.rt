@@ -2,6 +2,8 @@
 // bit 0 on in the order of the controllers, and leaves one of them clear; `new_bases` says where each then begins.
 //
 // The contracts cite specs/ of this crate and of `bits`; the laws that a caller's proof needs are in proofs/Pool.antt.
+#![tactic(auto)]
+
 ghost use Rattle.std.specs.Prelude.{◌≡◌, length, ◌^◌, ◌<◌};
 ghost use Rattle.bits.specs.Flat.{flat};
 ghost use Rattle.pool.specs.Pool.{packed, new_base, new_bases, Packs};

@@ -1,6 +1,7 @@
 // The calls to a controller's queue of user-data changes (W8): it is made in a lent area of its own, the device posts entries to it, and the host takes them, the
 // oldest first. Each contract is an equation with a function of the calls: it says every returned value, every field of the record and every byte of the area and
 // the buffer afterwards; marks are only read. No call looks at the bytes of an entry.
+#![tactic(auto)]
 
 ghost use Rattle.std.specs.Prelude.{◌≡◌, false, ◌&&◌, cond, ◌*◌, ◌<◌, ◌≤◌, min, length, get_or};
 ghost use Rattle.little.specs.Little.{put};

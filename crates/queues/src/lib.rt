@@ -1,5 +1,6 @@
 // The lines of a shelf listing for a controller's queue of user-data changes: `queue`, `post` and `take` (W8), read and played. Any bytes are met with an answer.
 // Each controller has an area of its own, by its place in the settings. They stand one behind the other, and are handed on from line to line, also past a new `dev`.
+#![tactic(auto)]
 
 ghost use Rattle.std.specs.Prelude.{◌≤◌, ◌*◌, length};
 
@@ -15,7 +16,7 @@ const AREA_BYTES: usize = 32800;
 pub const AREAS_BYTES: usize = 8 * AREA_BYTES;
 
 // The first two numbers of a line: whether they are there and fit, and where their fields end.
-#[derive(Drop)]
+#[derive(Clone, Copy)]
 struct Numbers {
     ok: bool,
     end: usize,
@@ -24,7 +25,7 @@ struct Numbers {
 }
 
 // The other numbers of a `take`: whether they are there and fit, and the line ends with them.
-#[derive(Drop)]
+#[derive(Clone, Copy)]
 struct Wanted {
     ok: bool,
     asked: u32,
@@ -32,7 +33,7 @@ struct Wanted {
 }
 
 // Which bytes of the areas a line lends.
-#[derive(Drop)]
+#[derive(Clone, Copy)]
 struct Lent {
     from: usize,
     to: usize,
@@ -163,7 +164,7 @@ fn post(
     waiting: Waiting,
 ) -> Played {
     let mut entry = [0u8; 64];
-    let read = hex::take(line, at, &mut entry);
+    let read = hex_text::take(line, at, &mut entry);
     if !read.ok {
         return playing::bad(d, out, waiting);
     }
@@ -183,7 +184,7 @@ fn put_entries(out: &mut Buffer, waiting: Waiting, buffer: &[u8], count: usize) 
     while i < count {
         let from = ENTRY_BYTES * i;
         let to = from + ENTRY_BYTES;
-        waiting = hex::put_line(out, waiting, &buffer[from..to]);
+        waiting = hex_text::put_line(out, waiting, &buffer[from..to]);
         i = i + 1;
     }
     waiting

@@ -1,4 +1,5 @@
 // Checks of listed ranges: refusals 18 to 21, which name a row, and 10; and how many units they have.
+#![tactic(auto)]
 
 ghost use Rattle.std.specs.Prelude.{◌≡◌, true, false, ◌&&◌, ◌*◌, ◌^◌, ◌≤◌, length, take, [], ◌∷◌};
 ghost use Rattle.rules.specs.Refusals.{refusal, refusal_at};
@@ -10,7 +11,7 @@ use pieces::NextPiece;
 use rules::{MOST_UNITS, Range, Refusal, Settings, Units};
 
 // What one pass over listed ranges answers: whether they break no rule, and then how many different units they have at most, else 0.
-#[derive(Drop)]
+#[derive(Clone, Copy)]
 pub struct Kept {
     pub ok: bool,
     pub most: Units,

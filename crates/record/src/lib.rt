@@ -1,5 +1,6 @@
 // Checks of the device record: its soundness, and where a call finds its controller. What is public is the library's interface. sound, locate and locate_by
 // take any values whatever; the others say what they require. No sum here can wrap.
+#![tactic(auto)]
 
 ghost use Rattle.std.specs.Prelude.{◌≡◌, true, ◌&&◌, cond, map, ◌+◌, ◌*◌, ◌<◌, ◌≤◌, leb, eqb, get_or, drop};
 ghost use Rattle.rules.specs.Lists.{all, sum};
@@ -17,7 +18,7 @@ use rules::{
 use settings::Found;
 
 // Where a call finds its controller, or the refusal's number, 1 or 2.
-#[derive(Drop)]
+#[derive(Clone, Copy)]
 pub enum Place {
     At(usize),
     Refused(u8),
@@ -25,7 +26,7 @@ pub enum Place {
 
 // How far a walk over the controllers has come: the weights together, and of these those of the controllers that the first manager tracks; where the shares so far
 // end, as long as each begins at or behind the end of those before it; and whether the queues so far are as they may be.
-#[derive(Drop)]
+#[derive(Clone, Copy)]
 pub struct Walked {
     pub weight: usize,
     pub first: usize,

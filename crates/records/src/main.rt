@@ -10,6 +10,7 @@
 // how many notes a batch did (8) and what cut it (1), how many bytes a part yields (8), whether a post has stopped its queue (1), how many entries a take took
 // (8) and whether the closing one (1), how many groups a receive examined (8), then the record (1755), 512 mark words (of the plain engine a bit for each byte, set where it is pending), 1024 lent bytes
 // and 4200 bytes of area as they are after the call, with zeros past the lent ones.
+#![tactic(auto)]
 
 ghost use Rattle.std.specs.Prelude.{◌≤◌};
 ghost use Rattle.io.specs.Counts.{IsPrefixLen};
@@ -20,7 +21,7 @@ use output::{Buffer, Waiting};
 use rules::{Bytes, Controller, Device, Queue, Range, Ring, Second, Sequence, Settings, Tracking};
 
 // Between two bytes of input: how many bytes of a case are there, and the answers that wait to be written.
-#[derive(Drop)]
+#[derive(Clone, Copy)]
 struct State {
     there: usize,
     waiting: Waiting,
@@ -28,7 +29,7 @@ struct State {
 
 // What a call answers, and the record after it. The row is a start's, the count a write's or a batch's, `done` and `cut` a batch's, `whole` a part's, `stopped` a
 // post's, `taken` and `closing` a take's, and what was received is a receive's: zeros, beside the number, where it is none.
-#[derive(Drop)]
+#[derive(Clone, Copy)]
 struct Answer {
     received: Received,
     row: u8,

@@ -1,5 +1,7 @@
 // The report (NVMe: Tracked Memory Changed data structure): its header and its descriptors, stored into a lent buffer.
 // A loop that finds runs writes one descriptor after another from index 16 on, and the header last, when their number and More To Report are known.
+#![tactic(auto)]
+
 ghost use Rattle.std.specs.Prelude.{◌≡◌, ◌+◌, ◌≤◌, length};
 ghost use Rattle.little.specs.Little.{put};
 ghost use Rattle.rules.specs.Report.{flag, report_header, descriptor_bytes};

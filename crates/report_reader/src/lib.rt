@@ -1,5 +1,6 @@
 // The host's reader of a report (document 02, W1), for C: each function is given the report's bytes, and where it says so an index, and answers one
 // number. Any bytes and any index are met with an answer. A refused report answers 0 to every question but those for its refusal and for a run by itself.
+#![tactic(auto)]
 
 ghost use Rattle.std.specs.Prelude.{◌≡◌, ◌+◌, ◌≤◌, length};
 ghost use Rattle.little.specs.Little.{records_at};
@@ -10,7 +11,7 @@ ghost use Rattle.rules.specs.ReportReader.{report_size, count_in, granularity_in
 use rules::Range;
 
 // A report's refusal, and the index that it is about; zeros where it is accepted.
-#[derive(Drop)]
+#[derive(Clone, Copy)]
 pub struct Judged {
     pub number: u8,
     pub index: usize,

@@ -2,6 +2,8 @@
 // Nothing is refused here: that the area has n places, that a place lies in it and that there is room is each caller's to keep.
 //
 // The contracts cite specs/; the laws that a caller's proof needs are in proofs/: Places, Entries, Totals.
+#![tactic(auto)]
+
 ghost use Rattle.std.specs.Prelude.{◌≡◌, ◌+◌, ◌*◌, ◌<◌, ◌≤◌, length};
 ghost use Rattle.little.specs.Little.{put};
 ghost use Rattle.rules.specs.Queue.{joined, closing_entry, total_after, fill_of};

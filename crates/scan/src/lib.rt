@@ -1,5 +1,6 @@
 // The report's one way over a controller's marks: the next pending unit from a unit on, the run that begins there, and the loop that lists runs and makes them clear.
 // Units are numbered from the controller's first, over all its ranges, piece by piece; its marks stand from bit `base` on.
+#![tactic(auto)]
 
 ghost use Rattle.std.specs.Prelude.{◌≡◌, true, false, ◌+◌, ◌-◌, ◌*◌, ◌≤◌, length, take};
 ghost use Rattle.bits.specs.Flat.{flat};
@@ -13,7 +14,7 @@ use pieces::{NextPiece, Piece, Span};
 use rules::{Range, Units};
 
 // A pending unit: the piece of a range that has it, the piece's own first unit, and the unit itself.
-#[derive(Drop)]
+#[derive(Clone, Copy)]
 pub struct Found {
     pub piece: Piece,
     pub at: usize,
@@ -21,7 +22,7 @@ pub struct Found {
 }
 
 // The next pending unit, or that there is none, with the number of all units.
-#[derive(Drop)]
+#[derive(Clone, Copy)]
 pub enum Next {
     Is(Found),
     Nothing(usize),
@@ -61,7 +62,7 @@ fn next_pending(
 }
 
 // A run: its row, the unit of the row's range just past it, itself as a range, its own first unit and the unit just past it.
-#[derive(Drop)]
+#[derive(Clone, Copy)]
 pub struct Run {
     pub row: usize,
     pub next: Units,
@@ -102,7 +103,7 @@ fn units_in(next: Next) -> usize
 }
 
 // How many runs were listed, whether one stays, and how many groups of 64 units were examined (W10).
-#[derive(Drop)]
+#[derive(Clone, Copy)]
 pub struct Listed {
     pub runs: usize,
     pub more: bool,

@@ -1,4 +1,6 @@
 // The search for the next pending unit, for a C program that times it (`bench/`).
+#![tactic(auto)]
+
 ghost use Rattle.std.specs.Prelude.{◌≡◌, true};
 ghost use Rattle.bits.specs.Flat.{flat};
 ghost use Rattle.bits.specs.Next.{next};

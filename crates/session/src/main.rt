@@ -1,4 +1,5 @@
 // The session program: reads the listing of document 01 from standard input to its end and answers line by line on standard output.
+#![tactic(auto)]
 
 use libc::STDIN_FILENO;
 use output::Waiting;

@@ -1,5 +1,6 @@
 // Checks of the settings: rule 16, with one or two managers (document 02, W12), where an identifier stands, and which granularities they allow (document 01, "Settings and
 // sizes"); and their unused places made zeros.
+#![tactic(auto)]
 
 ghost use Rattle.std.specs.Prelude.{◌≡◌, ◌≤◌, min, drop};
 ghost use Rattle.rules.specs.Lists.{different, member, every};
@@ -10,7 +11,7 @@ ghost use Rattle.settings.specs.Found.{found_at};
 use rules::{Second, Settings};
 
 // What a search for an identifier finds.
-#[derive(Drop)]
+#[derive(Clone, Copy)]
 pub enum Found {
     At(usize),
     Nothing,

@@ -1,5 +1,6 @@
 // The settings file (document 02, W11): the reader of version 1, the reader of versions 1 and 2, and the writer of both, over lent bytes.
 // Opening and storing files is the caller's. What the three answer and leave is said by specs/File.antt.
+#![tactic(auto)]
 
 ghost use Rattle.std.specs.Prelude.{◌≡◌, cond, ◌≤◌, length};
 ghost use Rattle.little.specs.Little.{put, records};
@@ -11,7 +12,7 @@ ghost use Rattle.settings_file.specs.File.{file_size, mark, mark_ok, known_versi
 use rules::{Second, Settings};
 
 // What a reader answers: a refusal's number, or 0 and the settings.
-#[derive(Drop)]
+#[derive(Clone, Copy)]
 pub struct Read {
     pub number: u8,
     pub settings: Settings,
@@ -57,13 +58,13 @@ fn marked(file: &[u8]) -> bool
     requires { 5 ≤ length file.now }
     ensures { result ≡ mark_ok file.now }
 {
-    if file[0] != b'_t' {
+    if file[0] != b'T' {
         return false;
     }
-    if file[1] != b'_r' {
+    if file[1] != b'R' {
         return false;
     }
-    file[2] == b'_k'
+    file[2] == b'K'
 }
 
 // Whether a version is one of 1 to `last`.
@@ -236,9 +237,9 @@ fn put_mark(buffer: &mut [u8])
     requires { 29 ≤ length buffer.old }
     ensures { buffer.new ≡ put buffer.old 0 mark }
 {
-    buffer[0] = b'_t';
-    buffer[1] = b'_r';
-    buffer[2] = b'_k';
+    buffer[0] = b'T';
+    buffer[1] = b'R';
+    buffer[2] = b'K';
 }
 
 // Stores the 8 places for identifiers.

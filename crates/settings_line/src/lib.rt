@@ -1,19 +1,20 @@
 // The settings of a shelf as a line has them, for `save` (document 02, W11) and `dev2` (W12): the five numbers of a `dev`, the second manager with its limit, the
 // shelf's limit, and 0 to 8 identifiers. Any bytes are met with an answer.
+#![tactic(auto)]
 
 ghost use Rattle.std.specs.Prelude.{◌≤◌, length};
 
 use rules::Settings;
 
 // Settings in a line: whether they are there and fit, and these.
-#[derive(Drop)]
+#[derive(Clone, Copy)]
 pub struct Read {
     pub ok: bool,
     pub settings: Settings,
 }
 
 // The numbers that a `dev` has before its identifiers: whether they are there and fit, and where their fields end.
-#[derive(Drop)]
+#[derive(Clone, Copy)]
 struct Numbers {
     ok: bool,
     end: usize,
@@ -25,7 +26,7 @@ struct Numbers {
 }
 
 // The second manager, its limit and the shelf's: whether they are there and fit, and where their fields end.
-#[derive(Drop)]
+#[derive(Clone, Copy)]
 struct Limits {
     ok: bool,
     end: usize,
@@ -35,7 +36,7 @@ struct Limits {
 }
 
 // The identifiers, the last of their line: whether they fit, and are not more than 8.
-#[derive(Drop)]
+#[derive(Clone, Copy)]
 struct Identifiers {
     ok: bool,
     count: usize,

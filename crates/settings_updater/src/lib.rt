@@ -1,5 +1,6 @@
 // The settings file for an updater in C (document 02, W11): each function is given a file's bytes, and answers one number; the last one writes the file's settings
 // as a file of another version. Any bytes and any numbers are met with an answer. A refused file answers 0 to every question but those for its refusal.
+#![tactic(auto)]
 
 ghost use Rattle.std.specs.Prelude.{◌≡◌, length};
 ghost use Rattle.settings_file.specs.File.{old_read, new_read};

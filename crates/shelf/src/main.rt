@@ -1,4 +1,5 @@
 // The shelf program: reads a shelf listing, which has lines for the newer calls beside document 01's, from standard input to its end and answers line by line.
+#![tactic(auto)]
 
 use libc::STDIN_FILENO;
 use output::Waiting;

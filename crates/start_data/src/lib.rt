@@ -1,5 +1,7 @@
 // The start structure (NVMe: Track Memory Changes data structure): its reader and its writer, over lent bytes.
 // What they answer is said by rules' definitions, so that both round trips of the rules speak of this code.
+#![tactic(auto)]
+
 ghost use Rattle.std.specs.Prelude.{◌≡◌, ◌+◌, ◌≤◌, length, take, replicate};
 ghost use Rattle.little.specs.Little.{put, records, records_at};
 ghost use Rattle.rules.specs.Refusals.{refusal};

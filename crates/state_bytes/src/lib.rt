@@ -1,5 +1,7 @@
 // A controller's state (NVMe: Set Controller State), which arrives in parts: the whole is judged before its last part is stored.
 // The bytes before `offset` are the area's, those from there on the part's. Which part is accepted is the caller's matter.
+#![tactic(auto)]
+
 ghost use Rattle.std.specs.Prelude.{◌≡◌, ◌+◌, ◌≤◌, length, get_or};
 ghost use Rattle.little.specs.Little.{number_at, put};
 ghost use Rattle.rules.specs.ControllerState.{state_ok};

@@ -1,7 +1,8 @@
 // The line of a shelf listing for the migration log (document 02, W13): `log`, which asks for a controller's totals, read and played; and totals and their sums as text.
 // Any bytes are met with an answer.
+#![tactic(auto)]
 
-use log::{Log, Sum, Sums, Totals};
+use log_numbers::{Log, Sum, Sums, Totals};
 use output::{Buffer, Waiting};
 use rules::Device;
 
@@ -30,7 +31,7 @@ pub fn put_sums(out: &mut Buffer, waiting: Waiting, s: Sums) -> Waiting {
 // Puts a number, and behind it a controller's totals: they are the sums over it alone.
 pub fn put_totals(out: &mut Buffer, waiting: Waiting, number: u64, t: Totals) -> Waiting {
     let a = output::put_number(out, waiting, number);
-    let s = log::summed(log::no_sums(), t);
+    let s = log_numbers::summed(log_numbers::no_sums(), t);
     put_sums(out, a, s)
 }
 

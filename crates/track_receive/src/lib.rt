@@ -1,5 +1,6 @@
 // The call that reports what is pending (NVMe: Track Receive). Its contract is an equation with `receive_receipt` of the calls: it says every returned
 // value, every word of the marks and every byte of the buffer afterwards.
+#![tactic(auto)]
 
 ghost use Rattle.std.specs.Prelude.{◌≡◌, false};
 ghost use Rattle.calls.specs.Calls.{receive_receipt};

@@ -1,5 +1,6 @@
 // The calls that start and stop the tracking of a controller (NVMe: Track Send). Each contract is an equation with a function of the calls: it says
 // every returned value, every field of the record and every word of the marks afterwards.
+#![tactic(auto)]
 
 ghost use Rattle.std.specs.Prelude.{◌≡◌, true, ◌++◌, map, ◌+◌, ◌<◌, ◌≤◌, length, get_or, set};
 ghost use Rattle.rules.specs.Lists.{sum};

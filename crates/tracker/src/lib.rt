@@ -1,5 +1,6 @@
 // The calls and what they answer with: all that a caller of the tracking core needs beside the types of `rules`. Each call is over the device
 // record by value and lent marks, and stands in a crate of its own kind.
+#![tactic(auto)]
 
 pub use calls::{
     Batched, Changed, Posted, Received, Started, StateSet, Taken, WriteRecord, Written,

@@ -1,5 +1,6 @@
 // The call that notes a write. Its contract is an equation with `write_note` of the calls: it says every returned value and every word of the marks
 // afterwards.
+#![tactic(auto)]
 
 ghost use Rattle.std.specs.Prelude.{◌≡◌, true, not, [], ◌∷◌, length, take, get_or, ◌+◌, ◌<◌, ◌≤◌, ◌^◌, min};
 ghost use Rattle.rules.specs.Refusals.{◌else◌, refusal};
@@ -12,7 +13,7 @@ use rules::{Bytes, Controller, Device, MARK_WORDS, MOST_NOTES, Range, Tracking};
 use settings::Found;
 
 // What a note asks of a controller that has one range or is not tracked: no more than this is copied for it.
-#[derive(Drop)]
+#[derive(Clone, Copy)]
 struct Single {
     suspended: bool,
     tracking: Tracking,

@@ -1,0 +1,71 @@
+-- `logged::pending_units` is right: of a sound record it counts the marks of the controller's share. Assumes nothing.
+use mathlib.Core.Path.{◌≡◌, sym, ◌∙◌}
+use Prim.Native.Nat.{◌-◌, ◌<◌}
+use native.Mathlib.Omega.{arith}
+use lib.ListN.{length, get_or, take}
+use borrow.Author.Rules.{rules}
+use Rattle.rules.specs.Units.{units}
+use Rattle.rules.specs.declared.Controller.{Controller}
+use Rattle.rules.proofs.LoopLaws.{length-mapped}
+use Rattle.ranges.proofs.RangeLaws.{HeldFacts}
+use Rattle.record.specs.Record.{no_controller, where_is}
+use Rattle.record.specs.declared.Place.TheVariants.{At}
+use Rattle.record.proofs.RecordLaws.{where_is-at}
+use Rattle.calls.specs.Calls.{in_words}
+use Rattle.calls.proofs.PlaceLaws.{held_at}
+use Rattle.logged.proofs.HeldLaws.{share-counted, held-nowhere, held-off, held_on}
+use Rattle.logged.proofs.pending_units.Goals as goal
+
+-- the place that was found
+found : (c : goal.In-At)
+    → let a = c.args in
+    where_is a.t1 (length a.marks.now) a.id ≡ At c.in-At.i
+found c = sym c.locate-place.ensures ∙ c.in-At.is
+
+-- it is below 8
+below : (c : goal.In-At) → c.in-At.i < 8
+below c = (where_is-at _ _ _ _ (found c)).below
+
+-- the record has its eight controllers
+there : (c : goal.In-At) → c.in-At.i < length c.args.d.controllers
+there c =
+    let e : length c.args.d.controllers ≡ 8 = search (length-mapped, rules) in
+    omega (arith, below c)
+
+-- where a controller was found tracked, its place was found
+abbrev place : tie.After-known-told2 → tie.After-known-told
+place c = c.before.before.before.before
+
+abbrev controller-in : tie.After-known-told2 → Controller
+controller-in c = get_or (place c).before.before.before.before.before.args.t1.controllers (place c).before.place.given.0.0 no_controller
+
+-- what it holds
+held : (c : goal.In-On)
+    → let n = c.in-On.n in
+    HeldFacts (place c).before.before.before.before.before.args.t1.settings c.in-On.g n (take n (controller-in c).ranges)
+held c = held_at _ _ _ _ (found (place c)) (there (place c)) _ _ c.in-On.is
+
+pub returns-in_default : goal.returns-in_default
+returns-in_default c = held-nowhere in_words _ _ _ _ (sym c.locate-place.ensures ∙ c.in_default.is)
+
+pub offset_bounds-d-i : goal.offset_bounds-d-i
+offset_bounds-d-i c = omega (arith, below c)
+
+pub bounds-d-i : goal.bounds-d-i
+bounds-d-i c = below c
+
+pub returns-in_default-t : goal.returns-in_default-t
+returns-in_default-t c = held-off in_words _ _ _ _ (found (goal.at.returns-in_default-t c).In-At) c.in_default-t.is
+
+pub units_in-units-requires : goal.units_in-units-requires
+units_in-units-requires c = let h = held (goal.at.units_in-units-requires c).In-On in (h.small, h.few, rw c.ranges_of-ranges.ensures.0 h.rows)
+
+-- TODO no step Units-in at After-units_in
+pub returns : goal.returns
+returns c =
+    let a = (place (goal.at.returns c).In-On).before.before.before.before.before.args in
+    let u = c.Units-in.ensures.0 in
+    let r = c.ranges_of-ranges.ensures.0 in
+    let us = units c.in-On.g (take c.in-On.n (controller-in (goal.at.returns c).In-On).ranges) in
+    c.count_span.ensures ∙ share-counted a.marks.now (controller-in (goal.at.returns c).In-On).base _ _ us (omega arith) (rw r at u)
+    ∙ held_on in_words _ _ _ _ (found (place (goal.at.returns c).In-On)) _ _ c.in-On.is

@@ -1,0 +1,7 @@
+-- `managers::play` is safe: the numbers begin in the line.
+use native.Mathlib.Omega.{arith}
+use Rattle.fields.proofs.FieldLaws.{first_field-within}
+use Rattle.managers.proofs.play.Goals as goal
+
+pub take-read-requires : goal.take-read-requires
+take-read-requires c = (first_field-within _ _ _ c.field_end-end.ensures (omega arith)).1

@@ -1,0 +1,21 @@
+-- `pieces::part` is right because a unit of a range that ends at most at 2^64 begins below it.
+use Prim.Native.Nat.{◌+◌, ◌^◌, ◌<◌}
+use native.Mathlib.Omega.{arith}
+use Rattle.rules.specs.Settings.{unit_size, bytes_of}
+use Rattle.rules.proofs.UnitLaws.{unit_size-pos}
+use Rattle.pieces.proofs.PieceLaws.{unit-below}
+use Rattle.pieces.proofs.part.Goals as goal
+
+begins : (c : goal.Start) → let a = c.args in a.r.start + bytes_of a.g a.s.from.0 < 2 ^ 64
+begins c =
+    let a = c.args in
+    unit-below (unit_size a.g) a.r.start a.r.length a.s.from.0 (unit_size-pos a.g) (omega arith) c.requires.1
+
+pub bytes_of-before-requires : goal.bytes_of-before-requires
+bytes_of-before-requires c = (c.requires.0, omega (arith, begins c))
+
+pub overflow_add-start : goal.overflow_add-start
+overflow_add-start c = omega (arith, c.bytes_of-before.ensures, begins (goal.at.overflow_add-start c).After-bytes_of-arg-1)
+
+pub returns : goal.returns
+returns c = rw c.bytes_of-before.ensures

@@ -1,0 +1,87 @@
+-- `plain_logged::pending_units` is right: of a sound record it counts the bytes of the controller's share. Assumes nothing.
+use mathlib.Core.Path.{◌≡◌, sym, ap, ◌∙◌}
+use Prim.Native.Nat.{◌<◌}
+use native.Mathlib.Omega.{arith}
+use lib.ListN.{length, get_or, take}
+use borrow.Author.Rules.{rules}
+use Rattle.rules.specs.Units.{units}
+use Rattle.rules.specs.declared.Controller.{Controller}
+use Rattle.rules.proofs.LoopLaws.{length-mapped}
+use Rattle.ranges.proofs.RangeLaws.{HeldFacts}
+use Rattle.record.specs.Record.{no_controller, where_is}
+use Rattle.record.specs.declared.Place.TheVariants.{At}
+use Rattle.record.proofs.RecordLaws.{where_is-at}
+use Rattle.plain_marks.specs.Plain.{marks_of, marks_set}
+use Rattle.plain_marks.proofs.CountLaws.{marks_set-pending, marks-few}
+use Rattle.plain.proofs.AreaLaws.{area-whole}
+use Rattle.plain.specs.Bytes.{words_for, in_bytes}
+use Rattle.calls.proofs.PlaceLaws.{held_at, share-within}
+use Rattle.logged.proofs.HeldLaws.{held-nowhere, held-off, held_on}
+use Rattle.plain_logged.proofs.pending_units.Goals as goal
+
+-- the place that was found
+found : (c : goal.In-At)
+    → let a = c.args in
+    where_is a.t1 (words_for (length a.area.now)) a.id ≡ At c.in-At.i
+found c = rw c.words_for.ensures at (sym c.locate-place.ensures ∙ c.in-At.is)
+
+-- it is below 8
+below : (c : goal.In-At) → c.in-At.i < 8
+below c = (where_is-at _ _ _ _ (found c)).below
+
+-- the record has its eight controllers
+there : (c : goal.In-At) → c.in-At.i < length c.args.d.controllers
+there c =
+    let e : length c.args.d.controllers ≡ 8 = search (length-mapped, rules) in
+    omega (arith, below c)
+
+-- where a controller was found tracked, its place was found
+abbrev place : tie.After-known-told2 → tie.After-known-told
+place c = c.before.before.before.before
+
+abbrev controller-in : tie.After-known-told2 → Controller
+controller-in c = get_or (place c).before.before.before.before.before.before.args.t1.controllers (place c).before.place.given.0.0 no_controller
+
+-- what it holds
+held : (c : goal.In-On)
+    → let n = c.in-On.n in
+    HeldFacts (place c).before.before.before.before.before.before.args.t1.settings c.in-On.g n (take n (controller-in c).ranges)
+held c = held_at _ _ _ _ (found (place c)) (there (place c)) _ _ c.in-On.is
+
+pub returns-in_default : goal.returns-in_default
+returns-in_default c =
+    let a = c.args in
+    held-nowhere in_bytes a.t1 a.area.now a.id _ (rw c.words_for.ensures at (sym c.locate-place.ensures ∙ c.in_default.is))
+
+pub offset_bounds-d-i : goal.offset_bounds-d-i
+offset_bounds-d-i c = omega (arith, below c)
+
+pub bounds-d-i : goal.bounds-d-i
+bounds-d-i c = below c
+
+pub returns-in_default-t : goal.returns-in_default-t
+returns-in_default-t c = held-off in_bytes _ _ _ _ (found (goal.at.returns-in_default-t c).In-At) c.in_default-t.is
+
+pub units_in-units-requires : goal.units_in-units-requires
+units_in-units-requires c = let h = held (goal.at.units_in-units-requires c).In-On in (h.small, h.few, rw c.ranges_of-ranges.ensures.0 h.rows)
+
+-- TODO no step Units-in at After-units_in
+-- its bytes lie within the area
+pub count_units-requires : goal.count_units-requires
+count_units-requires c =
+    let r = c.ranges_of-ranges in
+    let u = c.Units-in.ensures.0 in
+    let a = (place (goal.at.count_units-requires c).In-On).before.before.before.before.before.before.args in
+    omega (arith, rw r.ensures.0 at u, area-whole (length a.area.now) (where_is-at _ _ _ _ (found (place (goal.at.count_units-requires c).In-On))).whole, share-within _ _ _ _ (found (place (goal.at.count_units-requires c).In-On)) (there (place (goal.at.count_units-requires c).In-On)) _ _ c.in-On.is (omega (arith, ap length r.ensures.0, r.ensures.1)))
+
+-- TODO no step Units-in at After-units_in
+pub returns : goal.returns
+returns c =
+    let a = (place (goal.at.returns c).In-On).before.before.before.before.before.before.args in
+    let u = c.Units-in.ensures.0 in
+    let r = c.ranges_of-ranges.ensures.0 in
+    let us = units c.in-On.g (take c.in-On.n (controller-in (goal.at.returns c).In-On).ranges) in
+    let e = rw r at u in
+    c.count_units.ensures ∙ ap (λ j. marks_set (marks_of a.area.now (controller-in (goal.at.returns c).In-On).base j)) e
+    ∙ marks_set-pending us (marks_of a.area.now (controller-in (goal.at.returns c).In-On).base (length us)) (marks-few a.area.now (controller-in (goal.at.returns c).In-On).base (length us))
+    ∙ held_on in_bytes _ _ _ _ (found (place (goal.at.returns c).In-On)) _ _ c.in-On.is

@@ -1,0 +1,12 @@
+-- `plain_logged::stop` is right: the call's own answer, and what was pending before it booked. Assumes nothing.
+use mathlib.Core.Path.{ap, ◌∙◌}
+use Rattle.calls.specs.declared.Changed.{Changed}
+use Rattle.plain.specs.Bytes.{in_bytes}
+use Rattle.logged.proofs.HeldLaws.{stop-books}
+use Rattle.plain_logged.proofs.stop.Goals as goal
+
+pub returns : goal.returns
+returns c =
+    let s = c.stop-answer in
+    let p = c.pending_units-dropped in
+    (s.ensures.0, s.ensures.1, c.book-log.ensures ∙ stop-books in_bytes _ _ _ _ _ _ _ p.ensures (ap (λ (r : Changed). r.number) s.ensures.0))

@@ -1,0 +1,89 @@
+-- `queue::post_on` is right: it refuses in the order of its table, and stores the entry or the closing one in the controller's own queue. Assumes nothing.
+use mathlib.Core.Path.{◌≡◌, refl, sym, ◌∙◌}
+use mathlib.Core.Bool.{true, ◌&&◌}
+use Prim.Native.Nat.{◌<◌}
+use native.Mathlib.Omega.{arith}
+use lib.ListN.{length}
+use borrow.Author.Rules.{rules}
+use borrow.Author.Tests.{not-true, not-false}
+use Rattle.rules.specs.Queue.{places_ok}
+use Rattle.rules.specs.Order.{size_made}
+use Rattle.rules.proofs.LoopLaws.{length-mapped}
+use Rattle.record.specs.Record.{places_of, where_is}
+use Rattle.record.specs.declared.Place.TheVariants.{At, Refused}
+use Rattle.record.proofs.RecordLaws.{where_is-at}
+use Rattle.calls.proofs.PlaceLaws.{refused-place}
+use Rattle.queue.proofs.QueueLaws.{Usable, queue-usable, leaves-area, post-refused, post-area, post-none, post-entry, post-stopped, post-done}
+use Rattle.queue.proofs.post_on.Goals as goal
+
+-- the place that was found, or the refusal
+found : (c : goal.In-At)
+    → let a = c.args in
+    where_is a.d a.words a.id ≡ At c.in-At.i
+found c = sym c.locate-place.ensures ∙ c.in-At.is
+
+-- TODO no step number_of_lem at After-number_of
+-- TODO no step number_of_lem at After-number_of
+refused : (c : goal.After-number_of-number)
+    → let a = c.args in
+    where_is a.d a.words a.id ≡ Refused c.number_of_lem.result
+refused c = sym c.locate-place.ensures ∙ refused-place _ _ _ c.in_default.is c.number_of_lem.ensures
+
+-- it is below 8, and the record has its eight controllers
+below : (c : goal.In-At) → c.in-At.i < 8
+below c = (where_is-at _ _ _ _ (found c)).below
+
+there : (c : goal.In-At) → c.in-At.i < length c.args.d.controllers
+there c =
+    let e : length c.args.d.controllers ≡ 8 = search (length-mapped, rules) in
+    omega (arith, below c)
+
+-- the area passed 28
+whole : (c : goal.Else-not-area_ok)
+    → let bytes = length c.args.area.now in
+    (places_ok bytes && size_made (places_of c.queue_at-q.result) bytes) ≡ true
+whole c = sym c.area_ok.ensures ∙ not-false _ c.if-not-area_ok.false-raw
+
+-- TODO a place stands alone, In-At
+-- TODO a place stands alone, In-At
+-- TODO a place stands alone, Else-not-area_ok
+-- so the queue of a sound record may be used
+usable : (c : goal.In-Is) → Usable (length c.args.area.now) c.in-Is.r
+usable c =
+    queue-usable _ _ _ _ (found q.before) (there q.before) _ (sym c.queue_at-q.ensures) _ c.in-Is.is _ (whole w)
+
+pub returns-in_default : goal.returns-in_default
+returns-in_default c = leaves-area _ _ _ _ (post-refused _ _ _ _ _ _ (refused (goal.at.returns-in_default c).After-number_of-number)) c.refused_post.ensures
+
+pub queue_at-q-requires : goal.queue_at-q-requires
+queue_at-q-requires c = below c
+
+pub returns-then-not-area_ok : goal.returns-then-not-area_ok
+returns-then-not-area_ok c =
+    leaves-area _ _ _ _ (post-area _ _ _ _ _ _ (found (goal.at.returns-then-not-area_ok c).In-At) _ (sym c.queue_at-q.ensures) (sym c.area_ok.ensures ∙ not-true _ c.if-not-area_ok.true-raw)) c.refused_post-then-not-area_ok.ensures
+
+pub returns-in_default-q : goal.returns-in_default-q
+returns-in_default-q c =
+    leaves-area _ _ _ _ (post-none _ _ _ _ _ _ (found (goal.at.returns-in_default-q c).In-At) _ (sym c.queue_at-q.ensures) (whole (goal.at.returns-in_default-q c).Else-not-area_ok) c.in_default-q.is) c.refused_post-in_default-q.ensures
+
+pub returns-then-entry-ne-ENTRY_BYTES : goal.returns-then-entry-ne-ENTRY_BYTES
+returns-then-entry-ne-ENTRY_BYTES c =
+    leaves-area _ _ _ _ (post-entry _ _ _ _ _ _ (found (goal.at.returns-then-entry-ne-ENTRY_BYTES c).In-At) _ (sym c.queue_at-q.ensures) (whole (goal.at.returns-then-entry-ne-ENTRY_BYTES c).Else-not-area_ok) _ c.in-Is.is c.if-entry-ne-ENTRY_BYTES.true) c.refused_post-then-entry-ne-ENTRY_BYTES.ensures
+
+pub returns-then-r : goal.returns-then-r
+returns-then-r c =
+    leaves-area _ _ _ _ (post-stopped _ _ _ _ _ _ (found (goal.at.returns-then-r c).In-At) _ (sym c.queue_at-q.ensures) (whole (goal.at.returns-then-r c).Else-not-area_ok) _ c.in-Is.is c.if-entry-ne-ENTRY_BYTES.false c.if-r.true) c.refused_post-then-r.ensures
+
+pub store-closed-requires : goal.store-closed-requires
+store-closed-requires c =
+    let u = usable (goal.at.store-closed-requires c).In-Is in
+    (u.whole, u.inside, u.room c.if-r.false, c.if-entry-ne-ENTRY_BYTES.false)
+
+pub with_queue-device-requires : goal.with_queue-device-requires
+with_queue-device-requires c = below (goal.at.with_queue-device-requires c).In-At
+
+pub returns : goal.returns
+returns c =
+    leaves-area _ _ _ _
+    (post-done _ _ _ _ _ _ (found (goal.at.returns c).In-At) _ (sym c.queue_at-q.ensures) (whole (goal.at.returns c).Else-not-area_ok) _ c.in-Is.is c.if-entry-ne-ENTRY_BYTES.false c.if-r.false _ _ c.store-closed.ensures _ c.after_post.ensures _ c.with_queue-device.ensures)
+    refl

@@ -1,0 +1,82 @@
+use mathlib.Core.Path.{◌≡◌, refl, sym, ap, ◌∙◌}
+use mathlib.Core.Bool.{true, false}
+use Prim.Native.Nat.{◌≤◌, ◌-◌, ◌*◌}
+use native.Mathlib.Omega.{arith}
+use borrow.Author.Rules.{rules}
+use borrow.Author.Tests.{not-true, not-false}
+use lib.ListN.{take}
+use Rattle.rules.specs.Lists.{all}
+use Rattle.rules.specs.StartData.{no_range}
+use Rattle.rules.proofs.LoopLaws.{all-miss, all-next, all_end, sum-next, sum-end}
+use Rattle.ranges.specs.Kept.{lengths_of, kept_by}
+use Rattle.ranges.specs.declared.Kept.{Kept}
+use Rattle.ranges.proofs.RangeLaws.{each_ok, kept-empty, kept-many, kept-not, kept-few, kept-counted, each_rows, units-lengths}
+use Rattle.ranges.proofs.list_kept.Goals as goal
+
+-- where a rule is broken there are no units
+nothing : (r k : Kept) → r ≡ kept_by false 0 → k ≡ kept_by false 0 → (r ≡ k) × (r.most.0 ≤ 16 * 4294967295)
+nothing r k e f = (e ∙ sym f, omega (arith, ap (λ (x : Kept). x.most.0) e))
+
+-- past the loop the lengths are added and each range passes by itself
+added : (c : goal.After-loop-i)
+    → let a = c.args in
+    lengths_of (take a.n a.t4) ≡ c.loop-i.total
+added c =
+    let a = c.args in
+    omega (arith, sum-end (λ r. r.length) a.t4 a.n c.loop-i.i (omega arith), c.loop-i.invariant.4)
+
+passed : (c : goal.After-loop-i)
+    → let a = c.args in
+    all (each_ok a.s a.g) (take a.n a.t4) ≡ true
+passed c =
+    let a = c.args in
+    c.loop-i.invariant.5 ∙ all_end (each_ok a.s a.g) a.t4 a.n c.loop-i.i (omega arith)
+
+pub returns-then-m-lt1 : goal.returns-then-m-lt1
+returns-then-m-lt1 c = nothing _ _ c.broken.ensures (kept-empty _ _ _ _ c.if-m-lt1.true)
+
+pub returns-then-m-gt16 : goal.returns-then-m-gt16
+returns-then-m-gt16 c = nothing _ _ c.broken-then-m-gt16.ensures (kept-many _ _ _ _ c.if-m-gt16.true)
+
+pub loop-i-init : goal.loop-i-init
+loop-i-init c = (search rules, omega arith, omega arith, omega arith, omega arith, refl)
+
+pub returns-then-not-row_ok : goal.returns-then-not-row_ok
+returns-then-not-row_ok c =
+    let a = c.args in
+    nothing _ _ c.broken-then-not-row_ok.ensures
+    (kept-not _ _ _ _ (omega arith) (omega arith)
+    (c.loop-i.invariant.5 ∙ all-miss (each_ok a.s a.g) a.t4 a.n c.loop-i.i no_range (omega arith) (omega arith) (sym c.row_ok.ensures ∙ not-true _ c.if-not-row_ok.true-raw)))
+
+pub loop-i-preserved : goal.loop-i-preserved
+loop-i-preserved c =
+    let a = c.args in
+    let e = sum-next (λ r. r.length) a.t4 a.n c.loop-i.i no_range (omega arith) (omega arith) in (
+      c.loop-i.invariant.0,
+      c.loop-i.invariant.1,
+      omega arith,
+      omega arith,
+      omega (arith, e, c.loop-i.invariant.4, c.length_of-u.ensures.0),
+      c.loop-i.invariant.5 ∙ all-next (each_ok a.s a.g) a.t4 a.n c.loop-i.i no_range (omega arith) (omega arith) (sym c.row_ok.ensures ∙ not-false _ c.if-not-row_ok.false-raw),
+    )
+
+pub returns-then-total-le-MOST_UNITS : goal.returns-then-total-le-MOST_UNITS
+returns-then-total-le-MOST_UNITS c =
+    let a = c.args in (
+      sym (kept-few a.s a.g a.n (take a.n a.t4) (omega arith) (omega arith) (passed (goal.at.returns-then-total-le-MOST_UNITS c).After-loop-i) (omega (arith, added (goal.at.returns-then-total-le-MOST_UNITS c).After-loop-i)) ∙ ap (kept_by true) (added (goal.at.returns-then-total-le-MOST_UNITS c).After-loop-i)),
+      omega arith,
+    )
+
+pub units_in-most-requires : goal.units_in-most-requires
+units_in-most-requires c =
+    let a = c.args in
+    (c.requires, omega arith, each_rows a.s a.g (take a.n a.t4) (passed (goal.at.units_in-most-requires c).After-loop-i))
+
+-- TODO no step Units-in at After-units_in
+pub returns : goal.returns
+returns c =
+    let a = c.args in
+    let is = c.Units-in.ensures.0 in (
+      sym (kept-counted a.s a.g a.n (take a.n a.t4) (omega arith) (omega arith) (passed (goal.at.returns c).After-loop-i) (omega (arith, added (goal.at.returns c).After-loop-i)) ∙ ap (kept_by true) (sym is)),
+      omega (arith, is, units-lengths a.g (take a.n a.t4), added (goal.at.returns c).After-loop-i),
+    )

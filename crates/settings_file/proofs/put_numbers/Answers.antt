@@ -1,0 +1,6 @@
+-- `settings_file::put_numbers` is right because its fields stand one after another (`put-number`). Assumes nothing.
+use Rattle.little.proofs.Numbers.{put-number}
+use Rattle.settings_file.proofs.put_numbers.Goals as goal
+
+pub returns : goal.returns
+returns c = simp put-number (cc)

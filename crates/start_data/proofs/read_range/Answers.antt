@@ -1,0 +1,5 @@
+-- `start_data::read_range` is right because it reads a range's two fields where `range_at` has them.
+use Rattle.start_data.proofs.read_range.Goals as goal
+
+pub returns : goal.returns
+returns c = rw (c.read_u64-start.ensures, c.read_u32-length.ensures)
