@@ -1,4 +1,4 @@
--- `hex_text::put_line` is safe and ends. The measure is the number of bytes left.
+-- `hex::put_line` is safe and ends. The measure is the number of bytes left.
 use Prim.Native.Nat.{◌≤◌, ◌-◌}
 use lib.ListN.{length}
 use Rattle.hex_text.proofs.put_line.Given as goal
