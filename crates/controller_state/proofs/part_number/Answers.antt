@@ -15,6 +15,7 @@ use Rattle.state_bytes.specs.Parts.{assembled}
 use Rattle.controller_state.specs.Inner.{is_next}
 use Rattle.controller_state.proofs.ArrivalLaws.{offset-is, offset-within, part-others, part-offset, part-data, part-next, part-long, part-more, part-state}
 use Rattle.controller_state.proofs.part_number.Goals as goal
+use Rattle.controller_state.proofs.part_number.Goals.{After-judge, Else-is_others, Else-not-data_ok, Else-not-is_next, Else-not-offset_ok}
 
 -- the part
 abbrev part : tie.Else1 → Part
@@ -22,52 +23,35 @@ part c =
     let a = c.before.before.before.before.args in
     record { indicator = a.indicator; low = a.low; high = a.high; count = a.count; bytes = a.«data».now }
 
-alone : (c : goal.Else-is_others) → others_in c.args.id c.args.q ≡ false
+alone : (c : Else-is_others) → others_in c.args.id c.args.q ≡ false
 alone c = sym c.is_others.ensures ∙ c.if-is_others.false
 
--- TODO a place stands alone, Else-is_others
-placed : (c : goal.Else-not-offset_ok) → is_offset (offset_of (part c.before.before)) ≡ true
+placed : (c : Else-not-offset_ok) → is_offset (offset_of (part c.before.before)) ≡ true
 placed c = sym c.offset_ok.ensures ∙ not-false _ c.if-not-offset_ok.false-raw
 
--- TODO a place stands alone, Else-is_others
-counted : (c : goal.Else-not-data_ok) → data_ok (part c.before.before.before.before) ≡ true
+counted : (c : Else-not-data_ok) → data_ok (part c.before.before.before.before) ≡ true
 counted c = sym c.data_ok.ensures ∙ not-false _ c.if-not-data_ok.false-raw
 
--- TODO a place stands alone, Else-is_others
 -- its offset is the lower word
-low : (c : goal.Else-not-offset_ok) → offset_of (part c.before.before) ≡ c.args.low
+low : (c : Else-not-offset_ok) → offset_of (part c.before.before) ≡ c.args.low
 low c = offset-is _ _ (placed c)
 
--- TODO a place stands alone, Else-is_others
--- TODO a place stands alone, Else-not-offset_ok
-next : (c : goal.Else-not-is_next) → let a = c.args in is_next a.q a.id a.indicator (offset_of (part c.before.before.before.before.before.before)) ≡ true
+next : (c : Else-not-is_next) → let a = c.args in is_next a.q a.id a.indicator (offset_of (part c.before.before.before.before.before.before)) ≡ true
 next c = rw (low c.before.before.before.before) (sym c.is_next.ensures ∙ not-false _ c.if-not-is_next.false-raw)
 
-within : (c : goal.Else-not-offset_ok) → c.args.low ≤ 4096
+within : (c : Else-not-offset_ok) → c.args.low ≤ 4096
 within c = offset-within _ _ (placed c)
 
--- TODO a place stands alone, Else-is_others
--- TODO a place stands alone, Else-is_others
--- TODO a place stands alone, Else-not-offset_ok
 -- what was judged is the whole
-judged : (c : goal.After-judge)
-    → c.judge.result ≡ state_ok (assembled c.args.area.now (offset_of (part e)) (part e).bytes)
+judged : (c : After-judge)
+    → c.judge.result ≡ state_ok (assembled c.args.area.now (offset_of (part c.before.before.before.before.before.before.before.before.before.before)) (part c.before.before.before.before.before.before.before.before.before.before).bytes)
 judged c = rw (low c.before.before.before.before.before.before.before.before) c.judge.ensures
 
--- TODO a place stands alone, Else-is_others
--- TODO a place stands alone, Else-is_others
--- TODO a place stands alone, Else-is_others
--- TODO a place stands alone, Else-not-offset_ok
--- TODO a place stands alone, Else-not-data_ok
--- TODO a place stands alone, Else-not-is_next
--- TODO a place stands alone, Else-not-offset_ok
--- TODO a place stands alone, Else-not-offset_ok
--- TODO a place stands alone, Else-not-offset_ok
-last : (c : goal.After-judge)
+last : (c : After-judge)
     → let a = c.args in
-    cond c.judge.result 0 27 ≡ refusal (part_tests (arriving_in a.q a.area.now a.id) (part e))
+    cond c.judge.result 0 27 ≡ refusal (part_tests (arriving_in a.q a.area.now a.id) (part c.before.before.before.before.before.before.before.before.before.before))
 last c =
-    part-state c.args.q c.args.area.now c.args.id (part e) (alone e) (placed f) (counted n.before.before) c.requires.0 c.requires.1 (next n) (rw (low f) c.if-data-offset.false) (rw (low f) (within f))
+    part-state c.args.q c.args.area.now c.args.id (part c.before.before.before.before.before.before.before.before.before.before) (alone c.before.before.before.before.before.before.before.before.before.before) (placed c.before.before.before.before.before.before.before.before) (counted c.before.before.before.before.before.before) c.requires.0 c.requires.1 (next c.before.before.before.before) (rw (low c.before.before.before.before.before.before.before.before) c.if-data-offset.false) (rw (low c.before.before.before.before.before.before.before.before) (within c.before.before.before.before.before.before.before.before))
     (sym c.is_last.ensures ∙ not-false _ c.if-not-is_last.false-raw) _ (judged c)
 
 pub returns-then-is_others : goal.returns-then-is_others

@@ -15,19 +15,20 @@ use Rattle.calls.specs.Calls.{in_words}
 use Rattle.calls.proofs.PlaceLaws.{held_at}
 use Rattle.logged.proofs.HeldLaws.{share-counted, held-nowhere, held-off, held_on}
 use Rattle.logged.proofs.pending_units.Goals as goal
+use Rattle.logged.proofs.pending_units.Goals.{In-At, In-On}
 
 -- the place that was found
-found : (c : goal.In-At)
+found : (c : In-At)
     → let a = c.args in
     where_is a.d (length a.marks.now) a.id ≡ At c.in-At.i
 found c = sym c.locate-place.ensures ∙ c.in-At.is
 
 -- it is below 8
-below : (c : goal.In-At) → c.in-At.i < 8
+below : (c : In-At) → c.in-At.i < 8
 below c = (where_is-at _ _ _ _ (found c)).below
 
 -- the record has its eight controllers
-there : (c : goal.In-At) → c.in-At.i < length c.args.d.controllers
+there : (c : In-At) → c.in-At.i < length c.args.d.controllers
 there c =
     let e : length c.args.d.controllers ≡ 8 = search (length-mapped, rules) in
     omega (arith, below c)
@@ -40,7 +41,7 @@ abbrev controller-in : tie.After-known-told2 → Controller
 controller-in c = get_or (place c).before.before.before.before.before.args.d.controllers (place c).before.place.given.0.0 no_controller
 
 -- what it holds
-held : (c : goal.In-On)
+held : (c : In-On)
     → let n = c.in-On.n in
     HeldFacts (place c).before.before.before.before.before.args.d.settings c.in-On.g n (take n (controller-in c).ranges)
 held c = held_at _ _ _ _ (found (place c)) (there (place c)) _ _ c.in-On.is

@@ -10,9 +10,10 @@ use Rattle.pieces.proofs.PieceLaws.{piece-left, piece-length}
 use Rattle.marking.specs.Note.{write_to, mark_in, newly_in}
 use Rattle.marking.proofs.NoteLaws.{Marking, marking-start, range-held, marking-next, marking-end}
 use Rattle.marking.proofs.mark_pieces.Goals as goal
+use Rattle.marking.proofs.mark_pieces.Goals.{After-slice_known-in-loop-piece-1, In-Is}
 
 -- what the piece that was found is
-found : (c : goal.In-Is)
+found : (c : In-Is)
     → let a = c.args in
     let l = c.loop-piece in
     PieceFound (unit_size a.g) (take a.n a.ranges) l.i l.unit.0 c.in-Is.piece
@@ -21,9 +22,8 @@ found c =
     let l = c.loop-piece in
     subst (NextIs (unit_size a.g) (take a.n a.ranges) l.i l.unit.0) c.in-Is.is c.next_piece.ensures
 
--- TODO a place stands alone, In-Is
 -- what is to be marked after the piece
-marked : (c : goal.After-slice_known-in-loop-piece-1)
+marked : (c : After-slice_known-in-loop-piece-1)
     → let a = c.args in
     let p = c.in-Is.piece in
     Marking (write_to a.at a.last) (units_left (unit_size a.g) (take a.n a.ranges) p.row p.next.0) c.mark_range-sum.new.0 (c.loop-piece.bit + p.range.length) (c.loop-piece.sum + c.mark_range-sum.result)
@@ -31,7 +31,7 @@ marked : (c : goal.After-slice_known-in-loop-piece-1)
     (newly_in (write_to a.at a.last) (units_left (unit_size a.g) (take a.n a.ranges) a.row 0) (flat a.marks.now) a.from)
 marked c =
     let m = c.mark_range-sum in
-    marking-next _ _ _ _ _ _ _ c.loop-piece.invariant.2 _ _ _ _ (piece-left _ _ _ _ _ (found k)) _ _ m.auto.0 m.ensures.1 m.ensures.0
+    marking-next _ _ _ _ _ _ _ c.loop-piece.invariant.2 _ _ _ _ (piece-left _ _ _ _ _ (found c.before.before.before.before.before)) _ _ m.auto.0 m.ensures.1 m.ensures.0
 
 pub loop-piece-init : goal.loop-piece-init
 loop-piece-init c = (refl, omega arith, marking-start _ _ _ _ c.requires.4)

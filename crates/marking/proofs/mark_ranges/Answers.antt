@@ -13,9 +13,10 @@ use Rattle.pieces.proofs.PieceLaws.{EndBy, end-small, left-all, left-none, row-w
 use Rattle.marking.specs.Note.{write_to, mark_in, newly_in}
 use Rattle.marking.proofs.NoteLaws.{Marking, marking-start, range-held, marking-next, marking-rest, marking-end}
 use Rattle.marking.proofs.mark_ranges.Goals as goal
+use Rattle.marking.proofs.mark_ranges.Goals.{After-slice_known-in-loop-row-1, Else-first-end}
 
 -- a row that begins at or past the end is one piece
-whole : (c : goal.Else-first-end)
+whole : (c : Else-first-end)
     → let a = c.args in
     let r = row_of a.ranges c.loop-row.row in
     (units_left (unit_size a.g) (take a.n a.ranges) c.loop-row.row 0 ≡ units_of_row c.loop-row.row (unit_size a.g) r.start r.length ++ units_left (unit_size a.g) (take a.n a.ranges) (c.loop-row.row + 1) 0)
@@ -25,9 +26,8 @@ whole c =
     row-whole a.g a.n a.ranges c.loop-row.row c.loop-row.end.0 _ c.loop-row-test.true (omega (arith, c.requires.2, c.loop-row.invariant.1)) c.requires.3 c.loop-row.invariant.2
     c.whole_units-first.ensures c.if-first-end.false
 
--- TODO a place stands alone, Else-first-end
 -- what is to be marked after it
-marked : (c : goal.After-slice_known-in-loop-row-1)
+marked : (c : After-slice_known-in-loop-row-1)
     → let a = c.args in
     let m = c.mark_range-count in
     Marking (write_to a.at a.last) (units_left (unit_size a.g) (take a.n a.ranges) (c.loop-row.row + 1) 0) m.new.0 (c.loop-row.from + (row_of a.ranges c.loop-row.row).length) (c.loop-row.count + m.result)
@@ -35,7 +35,7 @@ marked : (c : goal.After-slice_known-in-loop-row-1)
     (newly_in (write_to a.at a.last) (units a.g (take a.n a.ranges)) (flat a.marks.now) a.base)
 marked c =
     let m = c.mark_range-count in
-    marking-next _ _ _ _ _ _ _ c.loop-row.invariant.3 _ _ _ _ (whole k).0 _ _ m.auto.0 m.ensures.1 m.ensures.0
+    marking-next _ _ _ _ _ _ _ c.loop-row.invariant.3 _ _ _ _ (whole c.before.before.before.before).0 _ _ m.auto.0 m.ensures.1 m.ensures.0
 
 pub loop-row-init : goal.loop-row-init
 loop-row-init c =

@@ -8,15 +8,16 @@ use Rattle.pool.specs.Pool.{new_base}
 use Rattle.pool.proofs.Pool.{words-turn}
 use Rattle.plain.proofs.PackLaws.{packing-none, packing-length, packing-kept, packing-clear, packing-room, packing-there, packing-share, packing-all}
 use Rattle.plain.proofs.pack.Goals as goal
+use Rattle.plain.proofs.pack.Goals.{In-loop-unit, Then-i-new}
 
 -- the next unit's place is within the bytes
-room : (c : goal.In-loop-unit) → c.loop-unit.place < 16384
+room : (c : In-loop-unit) → c.loop-unit.place < 16384
 room c =
     let p = c.requires in
     omega (arith, p.0, packing-room _ _ _ _ c.loop-unit.invariant.0 p.1 (omega arith) c.loop-unit-test.true)
 
 -- and so is where its byte is
-there : (c : goal.Then-i-new)
+there : (c : Then-i-new)
     → let a = c.args in
     get_or a.bases c.loop-i.i 0 + c.loop-unit.unit < 16384
 there c =

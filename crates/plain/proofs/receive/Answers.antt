@@ -18,29 +18,30 @@ use Rattle.track_receive.proofs.ReceiveLaws.{receives-nothing, receive-refused, 
 use Rattle.plain.specs.Bytes.{words_for, in_bytes}
 use Rattle.plain.proofs.WayLaws.{one_unit, Way, way, lists-few}
 use Rattle.plain.proofs.receive.Goals as goal
+use Rattle.plain.proofs.receive.Goals.{After-bytes_of-unit, After-number_of, In-At, In-On}
 
 -- the place that was found, or the refusal
-found : (c : goal.In-At)
+found : (c : In-At)
     → let a = c.args in
     where_by a.d (words_for (length a.area.now)) a.manager a.id ≡ At c.in-At.i
 found c = rw (sym c.words_for.ensures) (sym c.locate_by-place.ensures ∙ c.in-At.is)
 
-refused : (c : goal.After-number_of)
+refused : (c : After-number_of)
     → let a = c.args in
     where_by a.d (words_for (length a.area.now)) a.manager a.id ≡ Refused c.number_of.result
 refused c = rw (sym c.words_for.ensures) (sym c.locate_by-place.ensures ∙ refused-place _ _ _ c.in_default.is c.number_of.ensures)
 
 -- whichever manager asks
-placed : (c : goal.In-At)
+placed : (c : In-At)
     → let a = c.args in
     where_is a.d (words_for (length a.area.now)) a.id ≡ At c.in-At.i
 placed c = (where_by-at _ _ _ _ _ (found c)).1
 
-below : (c : goal.In-At) → c.in-At.i < 8
+below : (c : In-At) → c.in-At.i < 8
 below c = (where_is-at _ _ _ _ (placed c)).below
 
 -- the record has its eight controllers
-there : (c : goal.In-At) → c.in-At.i < length c.args.d.controllers
+there : (c : In-At) → c.in-At.i < length c.args.d.controllers
 there c =
     let e : length c.args.d.controllers ≡ 8 = search (length-mapped, rules) in
     omega (arith, below c)
@@ -53,23 +54,18 @@ abbrev controller-in : tie.After-known-told2 → Controller
 controller-in c = get_or (place c).before.before.before.before.before.before.before.args.d.controllers (place c).before.place.given.0.0 no_controller
 
 -- by the manager that asks
-by : (c : goal.In-On)
+by : (c : In-On)
     → tracking_by (place c).before.before.before.before.before.before.before.args.manager (controller-in c).tracking (controller-in c).manager ≡ On c.in-On.g c.in-On.n
 by c = sym c.tracking_by-t.ensures ∙ c.in-On.is
 
-tracked : (c : goal.In-On) → (controller-in c).tracking ≡ On c.in-On.g c.in-On.n
+tracked : (c : In-On) → (controller-in c).tracking ≡ On c.in-On.g c.in-On.n
 tracked c = (tracking_by-on _ (controller-in c).tracking (controller-in c).manager _ _ (by c)).0
 
--- TODO a place stands alone, In-On
--- TODO a place stands alone, In-On
--- TODO a place stands alone, In-On
--- TODO a place stands alone, In-On
--- TODO a place stands alone, In-On
 -- what the way over the units of a tracked controller asks
-asks : (c : goal.After-bytes_of-unit)
-    → Way c.bytes_of-unit.result.0 c.in-On.n c.ranges_of-ranges.result (place k).before.before.before.before.before.before.before.args.area.now (controller-in k).base
+asks : (c : After-bytes_of-unit)
+    → Way c.bytes_of-unit.result.0 c.in-On.n c.ranges_of-ranges.result (place c.before.before.before).before.before.before.before.before.before.before.args.area.now (controller-in c.before.before.before).base
 asks c =
-    way _ _ _ _ (placed (place k)) (there (place k)) _ _ (tracked k) _ c.bytes_of-unit.ensures _ c.ranges_of-ranges.ensures.0 c.ranges_of-ranges.ensures.1
+    way _ _ _ _ (placed (place c.before.before.before)) (there (place c.before.before.before)) _ _ (tracked c.before.before.before) _ c.bytes_of-unit.ensures _ c.ranges_of-ranges.ensures.0 c.ranges_of-ranges.ensures.1
 
 pub returns-in_default : goal.returns-in_default
 returns-in_default c = receives-nothing _ _ _ _ _ (receive-refused in_bytes _ _ _ _ _ _ (refused (goal.at.returns-in_default c).After-number_of)) c.nothing.ensures

@@ -24,20 +24,21 @@ use Rattle.track_send.proofs.StartedLaws.{start-refused, start-suspended, start-
 use Rattle.plain.specs.Bytes.{words_for}
 use Rattle.plain.proofs.AreaLaws.{area-whole}
 use Rattle.plain.proofs.start.Goals as goal
+use Rattle.plain.proofs.start.Goals.{After-number_of, After-read_ranges-ranges, After-sizes_with-sizes, After-slice_known-1, Else-refusal-ne0, In-At, In-Is}
 
 -- the record has its eight controllers
-eight : (c : goal.After-slice_known-1) → length c.args.d.controllers ≡ 8
+eight : (c : After-slice_known-1) → length c.args.d.controllers ≡ 8
 eight c = search (length-mapped, rules)
 
 -- the place that was found, or the refusal
-found : (c : goal.In-At)
+found : (c : In-At)
     → let a = c.args in
     where_by a.d (words_for (length a.area.now)) a.manager a.id ≡ At c.in-At.i
 found c =
     let a = c.args in
     ap (λ w. where_by a.d w a.manager a.id) (sym c.words_for.ensures) ∙ sym c.locate_by-place.ensures ∙ c.in-At.is
 
-refused : (c : goal.After-number_of)
+refused : (c : After-number_of)
     → let a = c.args in
     where_by a.d (words_for (length a.area.now)) a.manager a.id ≡ Refused c.number_of.result
 refused c =
@@ -45,50 +46,42 @@ refused c =
     ap (λ w. where_by a.d w a.manager a.id) (sym c.words_for.ensures) ∙ sym c.locate_by-place.ensures ∙ refused-place _ _ _ c.in_default.is c.number_of.ensures
 
 -- by a manager of the settings, in a sound record
-by : (c : goal.In-At)
+by : (c : In-At)
     → let a = c.args in
     is_manager a.d.settings a.manager ≡ true
 by c = (where_by-at _ _ _ _ _ (found c)).0
 
-located : (c : goal.In-At)
+located : (c : In-At)
     → let a = c.args in
     Located a.d (words_for (length a.area.now)) a.id c.in-At.i
 located c = where_is-at _ _ _ _ (where_by-at _ _ _ _ _ (found c)).1
 
 -- the header that was read
-listed : (c : goal.In-Is) → header_of c.args.«data».now ≡ Is c.in-Is.g c.in-Is.n
+listed : (c : In-Is) → header_of c.args.«data».now ≡ Is c.in-Is.g c.in-Is.n
 listed c = sym c.read_header-header.ensures.is ∙ c.in-Is.is
 
--- TODO a place stands alone, In-Is
--- TODO a place stands alone, In-Is
 -- what is known of its ranges, once they have passed
-known : (c : goal.Else-refusal-ne0)
+known : (c : Else-refusal-ne0)
     → let a = c.args in
     Listed a.d.settings a.manager (units_of a.d) (managed_of a.d a.manager) (counts_of a.d) a.«data».now c.in-Is.g c.in-Is.n (listed c.before.before.before)
 known c = listed-known _ _ _ _ _ _ _ _ (listed c.before.before.before) _ c.listed_refusal-refusal.ensures c.if-refusal-ne0.false
 
--- TODO a place stands alone, Else-refusal-ne0
 -- the ranges that were read are those listed
-read : (c : goal.After-read_ranges-ranges) → c.read_ranges-ranges.result ≡ placed (records_at range_at 12 c.args.«data».now 8 c.in-Is.n)
+read : (c : After-read_ranges-ranges) → c.read_ranges-ranges.result ≡ placed (records_at range_at 12 c.args.«data».now 8 c.in-Is.n)
 read c = let k = known c.before in c.read_ranges-ranges.ensures ∙ ranges_read-there _ _ k.few k.there
 
--- TODO a place stands alone, In-At
--- TODO a place stands alone, In-Is
--- TODO a place stands alone, Else-refusal-ne0
 -- what is known of them and of the record
-starts : (c : goal.After-read_ranges-ranges)
+starts : (c : After-read_ranges-ranges)
     → Starts c.args.d c.in-At.i c.in-Is.g c.in-Is.n c.read_ranges-ranges.result
 starts c =
     let l = located c.before.before.before.before.before.before.before.before.before.before.before.before in
     rw (read c) (start-known _ _ _ _ _ _ l.sound l.used c.in-Off.is (listed c.before.before.before.before) (known c.before))
 
--- TODO a place stands alone, After-slice_known-1
--- TODO a place stands alone, After-read_ranges-ranges
 -- the sizes are those of the record in which the controller is tracked
-sizes : (c : goal.After-sizes_with-sizes)
+sizes : (c : After-sizes_with-sizes)
     → c.sizes_with-sizes.result ≡ sizes_of (tracking c.args.d c.args.manager c.in-At.i c.in-Is.g c.in-Is.n c.read_ranges-ranges.result)
 sizes c =
-    c.sizes_with-sizes.ensures ∙ rw (c.shares-shares.ensures, c.units_in-units.ensures.0) (starts-sizes c.args.d (eight r.before.before.before.before.before.before.before.before.before.before.before.before.before.before.before.before.before.before) _ _ _ _ (starts r) c.args.manager)
+    c.sizes_with-sizes.ensures ∙ rw (c.shares-shares.ensures, c.units_in-units.ensures.0) (starts-sizes c.args.d (eight c.before.before.before.before.before.before.before.before.before.before.before.before.before.before.before.before.before.before.before.before.before) _ _ _ _ (starts c.before.before.before) c.args.manager)
 
 pub returns-in_default : goal.returns-in_default
 returns-in_default c = leaves _ _ _ _ _ (start-refused _ _ _ _ _ _ _ (refused (goal.at.returns-in_default c).After-number_of)) c.refused.ensures refl

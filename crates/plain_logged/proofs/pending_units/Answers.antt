@@ -18,19 +18,20 @@ use Rattle.plain.specs.Bytes.{words_for, in_bytes}
 use Rattle.calls.proofs.PlaceLaws.{held_at, share-within}
 use Rattle.logged.proofs.HeldLaws.{held-nowhere, held-off, held_on}
 use Rattle.plain_logged.proofs.pending_units.Goals as goal
+use Rattle.plain_logged.proofs.pending_units.Goals.{In-At, In-On}
 
 -- the place that was found
-found : (c : goal.In-At)
+found : (c : In-At)
     → let a = c.args in
     where_is a.d (words_for (length a.area.now)) a.id ≡ At c.in-At.i
 found c = rw c.words_for.ensures at (sym c.locate-place.ensures ∙ c.in-At.is)
 
 -- it is below 8
-below : (c : goal.In-At) → c.in-At.i < 8
+below : (c : In-At) → c.in-At.i < 8
 below c = (where_is-at _ _ _ _ (found c)).below
 
 -- the record has its eight controllers
-there : (c : goal.In-At) → c.in-At.i < length c.args.d.controllers
+there : (c : In-At) → c.in-At.i < length c.args.d.controllers
 there c =
     let e : length c.args.d.controllers ≡ 8 = search (length-mapped, rules) in
     omega (arith, below c)
@@ -43,7 +44,7 @@ abbrev controller-in : tie.After-known-told2 → Controller
 controller-in c = get_or (place c).before.before.before.before.before.before.args.d.controllers (place c).before.place.given.0.0 no_controller
 
 -- what it holds
-held : (c : goal.In-On)
+held : (c : In-On)
     → let n = c.in-On.n in
     HeldFacts (place c).before.before.before.before.before.before.args.d.settings c.in-On.g n (take n (controller-in c).ranges)
 held c = held_at _ _ _ _ (found (place c)) (there (place c)) _ _ c.in-On.is

@@ -7,6 +7,7 @@ use Rattle.rules.proofs.LoopLaws.{length-mapped}
 use Rattle.plain.specs.Bytes.{in_bytes}
 use Rattle.logged.proofs.ReportLaws.{receive-sums, receive-books}
 use Rattle.plain_logged.proofs.receive.Goals as goal
+use Rattle.plain_logged.proofs.receive.Goals.{After-units_listed-reported}
 
 -- what is known of the arguments by their types
 typed : (c : tie.After-units-listed-arg)

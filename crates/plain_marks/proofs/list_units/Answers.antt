@@ -9,9 +9,10 @@ use Rattle.pieces.specs.Pieces.{row_of}
 use Rattle.plain_marks.proofs.MarkLaws.{unit-within}
 use Rattle.plain_marks.proofs.ListLaws.{stored-length, listing_start, listing-row, listing-covered, listing-there, listing-clear, listing_full, listing-grow, listing-done, listing-promise}
 use Rattle.plain_marks.proofs.list_units.Goals as goal
+use Rattle.plain_marks.proofs.list_units.Goals.{At-loop-unit, Else-covered, In-loop-unit}
 
 -- a unit ends at most at 2^64
-ends : (c : goal.In-loop-unit)
+ends : (c : In-loop-unit)
     → let a = c.args in
     (row_of a.ranges c.loop-row.row).start + c.loop-unit.unit * a.size + a.size ≤ 18446744073709551616
 ends c =
@@ -20,12 +21,12 @@ ends c =
     (c.requires.3 c.loop-row.row (omega arith))
 
 -- there is room for the descriptor of a run that is growing
-roomy : (c : goal.At-loop-unit) → 0 < c.loop-unit.units → 16 + 16 * c.loop-unit.runs + 16 ≤ length c.loop-unit.buffer
+roomy : (c : At-loop-unit) → 0 < c.loop-unit.units → 16 + 16 * c.loop-unit.runs + 16 ≤ length c.loop-unit.buffer
 roomy c h =
     omega (arith, (c.loop-unit.invariant.2 _ _ _ _ _ c.loop-row.invariant.3).ahead.growing h, c.loop-unit.invariant.1, c.loop-row.invariant.1, c.requires.4)
 
 -- the byte of the controller's next unit is there
-there : (c : goal.Else-covered) → c.loop-unit.place < length c.loop-unit.area
+there : (c : Else-covered) → c.loop-unit.place < length c.loop-unit.area
 there c =
     listing-there _ _ _ c.requires.0 _ _ _ (omega arith) _ _ _ _ _ _ _ _ _ _ _ _ (c.loop-unit.invariant.2 _ _ _ _ _ c.loop-row.invariant.3) c.loop-unit-test.true (sym c.covered.ensures ∙ c.if-covered.false)
 

@@ -13,9 +13,10 @@ use Rattle.pieces.proofs.PieceLaws.{left-all, left-none}
 use Rattle.plain_marks.specs.Plain.{marks_of, write_to}
 use Rattle.plain_marks.proofs.MarkLaws.{unit-within, left_end, left-covered, left-own, Marking, marking-of, marking-start, marking-hit, marking-miss, marking-done}
 use Rattle.plain_marks.proofs.mark_units.Goals as goal
+use Rattle.plain_marks.proofs.mark_units.Goals.{After-covered, In-loop-unit, Then-not-covered}
 
 -- a unit ends at most at 2^64
-ends : (c : goal.In-loop-unit)
+ends : (c : In-loop-unit)
     → let a = c.args in
     (row_of a.ranges c.loop-row.row).start + c.loop-unit.unit * a.size + a.size ≤ 18446744073709551616
 ends c =
@@ -24,7 +25,7 @@ ends c =
     (c.requires.4 c.loop-row.row (omega arith))
 
 -- what is left to mark, where the unit is the controller's next
-own : (c : goal.Then-not-covered) (final : List ℕ) (total : ℕ)
+own : (c : Then-not-covered) (final : List ℕ) (total : ℕ)
     → let a = c.args in
     Marking (write_to a.at a.last) (units_left a.size (take a.n a.ranges) c.loop-row.row 0) c.loop-row.area c.loop-row.place c.loop-row.count final total
     → Marking (write_to a.at a.last)
@@ -37,7 +38,7 @@ own c final total m =
     (c.loop-unit.invariant.1 final total m)
 
 -- its byte is there
-there : (c : goal.Then-not-covered) → c.loop-unit.place < length c.loop-unit.area
+there : (c : Then-not-covered) → c.loop-unit.place < length c.loop-unit.area
 there c = omega (arith, (own c _ _ c.loop-row.invariant.2).fits)
 
 pub loop-row-init : goal.loop-row-init

@@ -8,65 +8,59 @@ use Rattle.rules.proofs.LoopLaws.{length-mapped}
 use Rattle.settings.proofs.SettingsLaws.{settings_ok-some, settings_ok-count, settings_ok-greatest}
 use Rattle.record.proofs.WalkLaws.{Reached, reached-none, reached-next, reached-all}
 use Rattle.record.proofs.walk.Goals as goal
+use Rattle.record.proofs.walk.Goals.{After-walk_on-w, After-walk_on-w-2, After-walk_on-w-3, After-walk_on-w-4, After-walk_on-w-5, After-walk_on-w-6, After-walk_on-w-7, After-walk_on-w-8, Start}
 
 -- the record has places for 8 controllers
-eight : (c : goal.Start) → length c.args.d.controllers ≡ 8
+eight : (c : Start) → length c.args.d.controllers ≡ 8
 eight c = search (length-mapped, rules)
 
 -- after each controller: where the function began, and how far it has come
 abbrev start1 : tie.After-walk-on → tie.Start
 start1 c = c.before.before.before
 
-to1 : (c : goal.After-walk_on-w) → Reached (start1 c).args.d 1 c.walk_on-w.result
+to1 : (c : After-walk_on-w) → Reached (start1 c).args.d 1 c.walk_on-w.result
 to1 c = reached-next (start1 c).args.d 0 _ _ (eight (start1 c)) (omega arith) (reached-none (start1 c).args.d) c.walk_on-w.ensures
 
 abbrev start2 : tie.After-walk-on2 → tie.Start
 start2 c = start1 c.before.before.before
 
--- TODO a place stands alone, After-walk_on-w
-to2 : (c : goal.After-walk_on-w-2) → Reached (start2 c).args.d 2 c.walk_on-w-2.result
+to2 : (c : After-walk_on-w-2) → Reached (start2 c).args.d 2 c.walk_on-w-2.result
 to2 c = reached-next (start2 c).args.d 1 _ _ (eight (start2 c)) (omega arith) (to1 c.before.before.before) c.walk_on-w-2.ensures
 
 abbrev start3 : tie.After-walk-on3 → tie.Start
 start3 c = start2 c.before.before.before
 
--- TODO a place stands alone, After-walk_on-w-2
-to3 : (c : goal.After-walk_on-w-3) → Reached (start3 c).args.d 3 c.walk_on-w-3.result
+to3 : (c : After-walk_on-w-3) → Reached (start3 c).args.d 3 c.walk_on-w-3.result
 to3 c = reached-next (start3 c).args.d 2 _ _ (eight (start3 c)) (omega arith) (to2 c.before.before.before) c.walk_on-w-3.ensures
 
 abbrev start4 : tie.After-walk-on4 → tie.Start
 start4 c = start3 c.before.before.before
 
--- TODO a place stands alone, After-walk_on-w-3
-to4 : (c : goal.After-walk_on-w-4) → Reached (start4 c).args.d 4 c.walk_on-w-4.result
+to4 : (c : After-walk_on-w-4) → Reached (start4 c).args.d 4 c.walk_on-w-4.result
 to4 c = reached-next (start4 c).args.d 3 _ _ (eight (start4 c)) (omega arith) (to3 c.before.before.before) c.walk_on-w-4.ensures
 
 abbrev start5 : tie.After-walk-on5 → tie.Start
 start5 c = start4 c.before.before.before
 
--- TODO a place stands alone, After-walk_on-w-4
-to5 : (c : goal.After-walk_on-w-5) → Reached (start5 c).args.d 5 c.walk_on-w-5.result
+to5 : (c : After-walk_on-w-5) → Reached (start5 c).args.d 5 c.walk_on-w-5.result
 to5 c = reached-next (start5 c).args.d 4 _ _ (eight (start5 c)) (omega arith) (to4 c.before.before.before) c.walk_on-w-5.ensures
 
 abbrev start6 : tie.After-walk-on6 → tie.Start
 start6 c = start5 c.before.before.before
 
--- TODO a place stands alone, After-walk_on-w-5
-to6 : (c : goal.After-walk_on-w-6) → Reached (start6 c).args.d 6 c.walk_on-w-6.result
+to6 : (c : After-walk_on-w-6) → Reached (start6 c).args.d 6 c.walk_on-w-6.result
 to6 c = reached-next (start6 c).args.d 5 _ _ (eight (start6 c)) (omega arith) (to5 c.before.before.before) c.walk_on-w-6.ensures
 
 abbrev start7 : tie.After-walk-on7 → tie.Start
 start7 c = start6 c.before.before.before
 
--- TODO a place stands alone, After-walk_on-w-6
-to7 : (c : goal.After-walk_on-w-7) → Reached (start7 c).args.d 7 c.walk_on-w-7.result
+to7 : (c : After-walk_on-w-7) → Reached (start7 c).args.d 7 c.walk_on-w-7.result
 to7 c = reached-next (start7 c).args.d 6 _ _ (eight (start7 c)) (omega arith) (to6 c.before.before.before) c.walk_on-w-7.ensures
 
 abbrev start8 : tie.After-walk-on8 → tie.Start
 start8 c = start7 c.before.before.before
 
--- TODO a place stands alone, After-walk_on-w-7
-to8 : (c : goal.After-walk_on-w-8) → Reached (start8 c).args.d 8 c.walk_on-w-8.result
+to8 : (c : After-walk_on-w-8) → Reached (start8 c).args.d 8 c.walk_on-w-8.result
 to8 c = reached-next (start8 c).args.d 7 _ _ (eight (start8 c)) (omega arith) (to7 c.before.before.before) c.walk_on-w-8.ensures
 
 pub walk_on-w-requires : goal.walk_on-w-requires

@@ -16,9 +16,10 @@ use Rattle.scan.specs.declared.Found.{Found}
 use Rattle.scan.proofs.ScanSteps.{RunFound, run-found, found-end, found-begins, next-from}
 use Rattle.scan.proofs.ListSteps.{listing_start, listing-done, listing_full, listing-next}
 use Rattle.scan.proofs.list_runs.Goals as goal
+use Rattle.scan.proofs.list_runs.Goals.{After-run_from-run, At-loop-found, In-Is, In-Is-2}
 
 -- the ranges' marks are there
-fits : (c : goal.At-loop-found)
+fits : (c : At-loop-found)
     → let a = c.args in
     a.base + length (units a.g (take a.n a.ranges)) ≤ length (flat a.marks.now)
 fits c = omega (arith, c.requires.1.0.within, flat-length c.args.marks.now)
@@ -82,11 +83,11 @@ next_pending-next-requires c =
 pub returns-in_default : goal.returns-in_default
 returns-in_default c =
     let q = subst (NextIs _ _ _ _) c.in_default.is c.next_pending-next.ensures in
-    listing-done _ _ _ _ _ _ (fits (goal.at.returns-in_default c).After-slice_known-2-1) _ _ _ _ _ _ c.loop-found.invariant.2 _ (q.0, c.units_in-total.ensures ∙ ap units_in c.in_default.is ∙ q.1)
+    listing-done _ _ _ _ _ _ (fits (goal.at.returns-in_default c).At-loop-found) _ _ _ _ _ _ c.loop-found.invariant.2 _ (q.0, c.units_in-total.ensures ∙ ap units_in c.in_default.is ∙ q.1)
 
 pub returns-then-runs-room : goal.returns-then-runs-room
 returns-then-runs-room c =
-    listing_full _ _ _ _ _ _ (fits (goal.at.returns-then-runs-room c).After-slice_known-2-1) _ _ _ _ _ _ c.loop-found.invariant.2 _ (run_at (goal.at.returns-then-runs-room c).In-Is _ refl) c.if-runs-room.true
+    listing_full _ _ _ _ _ _ (fits (goal.at.returns-then-runs-room c).At-loop-found) _ _ _ _ _ _ c.loop-found.invariant.2 _ (run_at (goal.at.returns-then-runs-room c).In-Is _ refl) c.if-runs-room.true
 
 pub run_from-run-requires : goal.run_from-run-requires
 run_from-run-requires c =

@@ -17,6 +17,7 @@ use Rattle.pieces.proofs.PieceLaws.{piece-length}
 use Rattle.scan.specs.Scan.{Scanned}
 use Rattle.scan.proofs.ScanSteps.{scanned-start, scanned-nothing, piece-end, scanned-piece, next-from}
 use Rattle.scan.proofs.next_pending.Goals as goal
+use Rattle.scan.proofs.next_pending.Goals.{In-Is}
 
 module _ (k : tie.After-known-told invariant-loop decreases-loop) where
   abbrev f : tie.Start invariant-loop decreases-loop

@@ -16,37 +16,36 @@ use Rattle.calls.proofs.Answers.{leaves}
 use Rattle.calls.proofs.PlaceLaws.{refused-place}
 use Rattle.track_send.proofs.StartedLaws.{start-refused, start-suspended, start-tracked, start-header, start-listed, start-known, start-done, Listed, listed-known}
 use Rattle.track_send.proofs.start.Goals as goal
+use Rattle.track_send.proofs.start.Goals.{After-number_of, Else-refusal-ne0, In-At, In-Is}
 
 -- the place that was found, or the refusal
-found : (c : goal.In-At)
+found : (c : In-At)
     → let a = c.args in
     where_by a.d (length a.marks.now) a.manager a.id ≡ At c.in-At.i
 found c = sym c.locate_by-place.ensures ∙ c.in-At.is
 
-refused : (c : goal.After-number_of)
+refused : (c : After-number_of)
     → let a = c.args in
     where_by a.d (length a.marks.now) a.manager a.id ≡ Refused c.number_of.result
 refused c = sym c.locate_by-place.ensures ∙ refused-place _ _ _ c.in_default.is c.number_of.ensures
 
 -- by a manager of the settings, in a sound record
-by : (c : goal.In-At)
+by : (c : In-At)
     → let a = c.args in
     is_manager a.d.settings a.manager ≡ true
 by c = (where_by-at _ _ _ _ _ (found c)).0
 
-located : (c : goal.In-At)
+located : (c : In-At)
     → let a = c.args in
     Located a.d (length a.marks.now) a.id c.in-At.i
 located c = where_is-at _ _ _ _ (where_by-at _ _ _ _ _ (found c)).1
 
 -- the header that was read
-listed : (c : goal.In-Is) → header_of c.args.«data».now ≡ Is c.in-Is.g c.in-Is.n
+listed : (c : In-Is) → header_of c.args.«data».now ≡ Is c.in-Is.g c.in-Is.n
 listed c = sym c.read_header-header.ensures.is ∙ c.in-Is.is
 
--- TODO a place stands alone, In-Is
--- TODO a place stands alone, In-Is
 -- what is known of its ranges, once they have passed
-known : (c : goal.Else-refusal-ne0)
+known : (c : Else-refusal-ne0)
     → let a = c.args in
     Listed a.d.settings a.manager (units_of a.d) (managed_of a.d a.manager) (counts_of a.d) a.«data».now c.in-Is.g c.in-Is.n (listed c.before.before.before)
 known c = listed-known _ _ _ _ _ _ _ _ (listed c.before.before.before) _ c.listed_refusal-refusal.ensures c.if-refusal-ne0.false

@@ -12,23 +12,23 @@ use Rattle.rules.proofs.LoopLaws.{length-mapped}
 use Rattle.calls.proofs.Answers.{leaves-unchanged, leaves-as}
 use Rattle.writes.proofs.WriteLaws.{sound-found, sound-nothing, write-refused, write-on, may-note, last-place, one-note, one-may, same_base}
 use Rattle.writes.proofs.note.Goals as goal
+use Rattle.writes.proofs.note.Goals.{In-At, In_default-i}
 
 -- the place that was found
-found : (c : goal.In-At)
+found : (c : In-At)
     → let a = c.args in
     where_is a.d (length a.marks.now) a.id ≡ At c.in-At.i
 found c = sound-found _ _ _ c.requires _ (sym c.find.ensures ∙ c.in-At.is)
 
-below : (c : goal.In-At) → c.in-At.i < 8
+below : (c : In-At) → c.in-At.i < 8
 below c = (where_is-at _ _ _ _ (found c)).below
 
 -- the record has its eight controllers
-eight : (c : goal.In-At) → length c.args.d.controllers ≡ 8
+eight : (c : In-At) → length c.args.d.controllers ≡ 8
 eight c = search (length-mapped, rules)
 
--- TODO a place stands alone, In-At
 -- the place that the last arm is left with
-last : (c : goal.In_default-i) → c.in-At.i ≡ 7
+last : (c : In_default-i) → c.in-At.i ≡ 7
 last c =
     let r = c.in_default-i.rest in
     last-place _ (below c.before.before.before.before.before) r.0.0.0.0.0.0.1 r.0.0.0.0.0.1 r.0.0.0.0.1 r.0.0.0.1 r.0.0.1 r.0.1 r.1

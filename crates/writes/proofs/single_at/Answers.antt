@@ -4,9 +4,10 @@ use borrow.Author.Rules.{rules}
 use Rattle.rules.proofs.LoopLaws.{length-mapped}
 use Rattle.writes.proofs.WriteLaws.{single-known, last-place}
 use Rattle.writes.proofs.single_at.Goals as goal
+use Rattle.writes.proofs.single_at.Goals.{In_default}
 
 -- the place that the last arm is left with
-last : (c : goal.In_default) → c.args.i ≡ 7
+last : (c : In_default) → c.args.i ≡ 7
 last c =
     let r = c.in_default.rest in
     last-place _ c.requires r.0.0.0.0.0.0.1 r.0.0.0.0.0.1 r.0.0.0.0.1 r.0.0.0.1 r.0.0.1 r.0.1 r.1
