@@ -11,7 +11,7 @@ use Rattle.bits.specs.Share.{get_share}
 use Rattle.bits.proofs.Flat.{flat-length}
 use Rattle.rules.specs.Units.{units}
 use Rattle.rules.specs.declared.Range.{Range}
-use Rattle.scan.specs.Scan.{NextIs, PendingFound, piece_end, run_of, units_in}
+use Rattle.scan.specs.Scan.{PendingFound, piece_end, run_of, units_in}
 use Rattle.scan.specs.declared.Found.{Found}
 use Rattle.scan.specs.declared.Run.{Run}
 use Rattle.scan.proofs.ScanSteps.{RunFound, run-found, found-end, found-begins, next-from}
@@ -40,7 +40,7 @@ module _ (k : In-Is) where
   unit = k.in-Is.found
 
   pending : PendingFound k.args.g rs p k.loop-found.pos unit
-  pending = subst (NextIs k.args.g rs p k.loop-found.pos) k.in-Is.is k.next_pending-next.ensures
+  pending = k.in-Is.ensures
 
   run_at : (to : ℕ) → to ≡ next false p unit.from (piece_end unit) → RunFound k.args.g rs p k.loop-found.pos (run_of k.args.g unit to)
   run_at = run-found k.args.g rs p _ unit pending
@@ -69,7 +69,7 @@ next_pending-next-requires c =
 
 pub returns-in_default : goal.returns-in_default
 returns-in_default c =
-    let q = subst (NextIs _ _ _ _) c.in_default.is c.next_pending-next.ensures in
+    let q = c.in_default.ensures in
     listing-done _ _ _ _ _ _ (fits (goal.at.returns-in_default c).At-loop-found) _ _ _ _ _ _ c.loop-found.invariant.2 _ (q.0, c.units_in-total.ensures ∙ ap units_in c.in_default.is ∙ q.1)
 
 pub returns-then-runs-room : goal.returns-then-runs-room

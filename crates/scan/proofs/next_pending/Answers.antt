@@ -1,4 +1,4 @@
-use mathlib.Core.Path.{◌≡◌, subst}
+use mathlib.Core.Path.{◌≡◌}
 use mathlib.Core.Bool.{Bool, true}
 use mathlib.Core.List.{List}
 use Prim.Native.Nat.{ℕ, ◌≤◌, ◌<◌, ◌-◌, ◌+◌, ◌^◌}
@@ -11,7 +11,7 @@ use Rattle.bits.proofs.Flat.{flat-length}
 use Rattle.rules.specs.Settings.{unit_size}
 use Rattle.rules.specs.Units.{units}
 use Rattle.rules.specs.declared.Range.{Range}
-use Rattle.pieces.specs.Pieces.{PieceFound, NextIs}
+use Rattle.pieces.specs.Pieces.{PieceFound}
 use Rattle.pieces.specs.declared.Piece.{Piece}
 use Rattle.pieces.proofs.PieceLaws.{piece-length}
 use Rattle.scan.specs.Scan.{Scanned}
@@ -49,7 +49,7 @@ module _ (k : In-Is) where
   stood = k.loop-piece.invariant
 
   found : PieceFound (unit_size k.args.g) rs i u q
-  found = subst (NextIs (unit_size k.args.g) rs i u) k.in-Is.is k.next_piece.ensures
+  found = k.in-Is.ensures
 
   abbrev end : ℕ
   end = p + q.range.length
@@ -77,7 +77,7 @@ next_piece-requires c =
 
 pub returns-in_default : goal.returns-in_default
 returns-in_default c =
-    scanned-nothing _ _ _ _ _ _ _ (subst (NextIs _ _ _ _) c.in_default.is c.next_piece.ensures) c.loop-piece.invariant
+    scanned-nothing _ _ _ _ _ _ _ c.in_default.ensures c.loop-piece.invariant
 
 pub overflow_add-end : goal.overflow_add-end
 overflow_add-end c = omega (arith, small (goal.at.overflow_add-end c).In-Is)
