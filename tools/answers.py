@@ -325,7 +325,8 @@ def turn(names, crate, path):
                         expr = front + f" let all = {last.strip()} in record {{ " + " ".join(f"{a} = all.{i};" for i, a in enumerate(fields)) + " }"
             notes += [f"{new}: {s}" for s in said]
             asked_place[new] = f.places[place]["name"] if place in f.places else place
-            answers.append("\n".join([f"-- {s}" for s in said] + comments + [f"pub {new} : goal.{new}"] + ([unf.rstrip()] if unf else []) + [f"{new} c ={expr}"]))
+            more = ''.join(' ' + q for q in params[1:] if q != 'κs')
+            answers.append("\n".join([f"-- {s}" for s in said] + comments + [f"pub {new} : goal.{new}"] + ([unf.rstrip()] if unf else []) + [f"{new} c{more} ={expr}"]))
             continue
         # a helper about the facts at a place
         found = re.findall(r"\((" + IDENT + r") : tie\.([A-Z][\w'-]*)((?: [\w-]+)*)\)", b)
