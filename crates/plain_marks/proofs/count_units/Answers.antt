@@ -1,8 +1,7 @@
-use mathlib.Core.Logic.{⊎_elim}
-use Prim.Native.Nat.{◌-◌}
 use native.Mathlib.Omega.{arith}
 use Rattle.plain_marks.proofs.CountLaws.{count-within, count-start, count-hit, count-miss, count-end}
 use Rattle.plain_marks.proofs.count_units.Goals as goal
+use Rattle.plain_marks.proofs.count_units.Goals.{then-area-base-ne0, else-area-base-ne0}
 
 pub loop-i-init : goal.loop-i-init
 loop-i-init c = count-start c.args.area.now c.args.base c.args.n
@@ -17,10 +16,10 @@ pub loop-i-preserved : goal.loop-i-preserved
 loop-i-preserved c =
     let l = c.loop-i in
     let a = c.args in
-    ⊎_elim
-    (λ w. omega (arith, w.1, count-hit a.area.now a.base a.n l.i (omega arith) (omega arith) (omega (arith, w.0.taken))))
-    (λ w. omega (arith, w.1, count-miss a.area.now a.base a.n l.i (omega arith) (omega arith) (omega (arith, w.0.left))))
-    c.if-area-base-ne0.branch
+    elim c.if-area-base-ne0.branch [
+      | then-area-base-ne0 w ↦ omega (arith, count-hit a.area.now a.base a.n l.i (omega arith) (omega arith) w.if-area-base-ne0.true)
+      | else-area-base-ne0 w ↦ omega (arith, count-miss a.area.now a.base a.n l.i (omega arith) (omega arith) w.if-area-base-ne0.false)
+    ]
 
 pub returns : goal.returns
 returns c =
