@@ -16,7 +16,7 @@ use Rattle.rules.specs.Report.{room, report_on, marks_left}
 use Rattle.rules.specs.Order.{Op, start, stop, write, receive, suspend, resume, part, queue, QueueCall, make, post, take, Part, offset_of, is_first, is_last, follows_on, follows, so_far, joined_with, Seen, Arriving, order}
 use Rattle.rules.specs.Machine.{Answer, refused, done, wrote, reported, assembled, Marks, off, on, Slot, fresh_slot, tracker_in, pending_on, places_in, wrote_in, reported_in, queue_in, accepted, slot_step}
 use Rattle.rules.specs.Queue.{Queued}
-use Rattle.rules.specs.History.{Did, is_accepted, touched_by, started_by, reported_by, quiet_since, pending_by, PendingBy, told_by, tracks_after, tracks_by, suspends_after, suspended_by, manages_after, manager_by, opens_after, open_by, joins_with, joins_after, joined_by, front_by, queue_by, marks_by, slot_by}
+use Rattle.rules.specs.History.{Did, is_accepted, touched_by, started_by, reported_by, quiet_since, pending_by, PendingBy, told_by, tracks_after, tracks_by, suspends_after, suspended_by, manages_after, manager_by, opens_after, open_by, joins_with, joins_after, joined_by, front_by, marks_by, slot_by}
 use Rattle.rules.specs.Totals.{units_pending}
 use Rattle.rules.specs.declared.Range.{Range}
 use Rattle.rules.specs.declared.Settings.{Settings}

@@ -1,6 +1,6 @@
 -- The bytes of a start structure and of a report, written out once: where each field stands, and its lowest byte first. That the rules give these bytes is
 -- proved by computing (proofs/Theorems.antt).
-use Rattle.std.specs.Prelude.{ℕ, ◌+◌, ◌≡◌, true, false, cond, List, [], ◌∷◌, take, drop, get_or}
+use Rattle.std.specs.Prelude.{ℕ, ◌+◌, ◌≡◌, true, false, cond, [], ◌∷◌, take, drop, get_or}
 use Rattle.rules.specs.StartData.{start_bytes}
 use Rattle.little.specs.Little.{records}
 use Rattle.rules.specs.Report.{Report, Descriptor, descriptor_bytes, report_bytes}

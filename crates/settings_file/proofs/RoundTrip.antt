@@ -16,13 +16,12 @@ use Rattle.little.proofs.Numbers.{number_at-here, number_at-next, number_at-boun
 use Rattle.little.proofs.Records.{records_at-here, records_at-at, records_at-length, records-records_at}
 use Rattle.rules.specs.Lists.{all}
 use Rattle.rules.specs.Refusals.{refusal}
-use Rattle.rules.specs.Settings.{second_rules, settings_ok, second_limit}
+use Rattle.rules.specs.Settings.{settings_ok, second_limit}
 use Rattle.rules.specs.Device.{cleaned}
 use Rattle.rules.specs.Demands.{Bytes}
 use Rattle.rules.specs.declared.Second.{Second}
 use Rattle.rules.specs.declared.Second.TheVariants.{Nothing, Is}
 use Rattle.rules.specs.declared.Settings.{Settings}
-use Rattle.rules.proofs.StateLaws.{cleaned-identifiers}
 use Rattle.rules.proofs.SoundLaws.{cleaned-ok}
 use Rattle.rules.proofs.RefusalLaws.{Passed, passes-Passed, refusal-none}
 use Rattle.settings.proofs.SettingsLaws.{settings_ok-at, settings_ok-count, settings_ok-greatest, settings_ok-limit, settings_ok-shelf, settings_ok-other}
