@@ -71,6 +71,9 @@ class Body:
             return None
         f = self.f
         toks = [t for t in rest.split(".") if t]
+        if isinstance(place, tuple):
+            place, front = place
+            toks = front + toks
         i = 0
         while i < len(toks) and toks[i] == "before":
             # the older names had a place or two more on some ways
@@ -126,6 +129,10 @@ class Body:
             if got and got[0] == "place":
                 self.alias[m.group(1)] = got[1]
                 continue
+            if got and got[1].endswith(".given"):
+                # a part of a pattern's facts, which are named one by one now
+                self.alias[m.group(1)] = (self.place, [t for t in m.group(3).split(".") if t and t != "before"])
+                continue
             self.alias.pop(m.group(1), None)
             out += "let %s = %s in%s" % (m.group(1), got[1] if got else m.group(2) + m.group(3), re.search(r"\s*$", m.group(0)).group(0) or " ")
         out += self.paths(text[pos:])
@@ -135,7 +142,7 @@ class Body:
         def sub(m):
             name, rest = m.group(1), m.group(2)
             if name in self.alias:
-                got = self.chain(name, rest) if rest else ("place", self.alias[name])
+                got = self.chain(name, rest) if rest or isinstance(self.alias[name], tuple) else ("place", self.alias[name])
                 if got[0] == "place":
                     at = self.f.places.get(got[1], {}).get("name", got[1])
                     if got[1] == self.place:
@@ -318,7 +325,8 @@ def turn(names, crate, path):
                         expr = front + f" let all = {last.strip()} in record {{ " + " ".join(f"{a} = all.{i};" for i, a in enumerate(fields)) + " }"
             notes += [f"{new}: {s}" for s in said]
             asked_place[new] = f.places[place]["name"] if place in f.places else place
-            answers.append("\n".join([f"-- {s}" for s in said] + comments + [f"pub {new} : goal.{new}"] + ([unf.rstrip()] if unf else []) + [f"{new} c ={expr}"]))
+            more = ''.join(' ' + q for q in params[1:] if q != 'κs')
+            answers.append("\n".join([f"-- {s}" for s in said] + comments + [f"pub {new} : goal.{new}"] + ([unf.rstrip()] if unf else []) + [f"{new} c{more} ={expr}"]))
             continue
         # a helper about the facts at a place
         found = re.findall(r"\((" + IDENT + r") : tie\.([A-Z][\w'-]*)((?: [\w-]+)*)\)", b)

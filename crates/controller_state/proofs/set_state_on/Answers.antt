@@ -1,5 +1,4 @@
 -- `controller_state::set_state_on` is right: it refuses in the order of its table, and stores an accepted part where its offset says. Assumes nothing.
--- ---- a part whose other tests are passed, or not
 use mathlib.Core.Path.{◌≡◌, sym, ap, ◌∙◌}
 use Prim.Native.Nat.{◌+◌, ◌≤◌, ◌<◌}
 use native.Mathlib.Omega.{arith}
@@ -16,8 +15,8 @@ use Rattle.controller_state.proofs.set_state_on.Goals as goal
 use Rattle.controller_state.proofs.set_state_on.Goals.{After-number_of-number, Else-number-ne0, In-At, Start}
 
 -- the part
-abbrev part : tie.Start → Part
-part s = let a = s.args in record { indicator = a.indicator; low = a.low; high = a.high; count = a.count; bytes = a.«data».now }
+abbrev part : Start → Part
+part c = let a = c.args in record { indicator = a.indicator; low = a.low; high = a.high; count = a.count; bytes = a.«data».now }
 
 -- the place that was found, or the refusal
 found : (c : In-At)
@@ -46,7 +45,10 @@ ends c = sequence-within c.args.d (located c).sound
 -- an accepted one fits the area
 fits : (c : Else-number-ne0) → c.args.low + length c.args.«data».now ≤ 4096
 fits c =
-    call_fits _ _ _ _ _ (part c.before.before.before.before.before.before.before.before.before.before.before.before) c.if-area-ne-STATE_BYTES.false _ (found c.before.before.before.before.before.before) (not-false _ c.if-not-c.false) _ c.part_number-number.ensures c.if-number-ne0.false (ends c.before.before.before.before.before.before)
+    let a = c.args in
+    let f = sym c.locate_by-place.ensures ∙ c.in-At.is in
+    let w = sequence-within a.d (where_is-at _ _ _ _ (where_by-at _ _ _ _ _ f).1).sound in
+    call_fits _ _ _ _ _ (record { indicator = a.indicator; low = a.low; high = a.high; count = a.count; bytes = a.«data».now }) c.if-area-ne-STATE_BYTES.false _ f (not-false _ c.if-not-c.false) _ c.part_number-number.ensures c.if-number-ne0.false w
 
 pub returns-then-area-ne-STATE_BYTES : goal.returns-then-area-ne-STATE_BYTES
 returns-then-area-ne-STATE_BYTES c = leaves _ _ _ (call-area _ _ _ _ _ (part (goal.at.returns-then-area-ne-STATE_BYTES c).Start) c.if-area-ne-STATE_BYTES.true)

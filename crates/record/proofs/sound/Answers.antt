@@ -71,10 +71,9 @@ pub returns-then-not-w : goal.returns-then-not-w
 returns-then-not-w c =
     sym (sound_device-queues-not c.args.d (sym (queued (goal.at.returns-then-not-w c).After-walk-w) ∙ not-true _ c.if-not-w.true))
 
--- TODO no step end at After-walk
 pub returns-then-w-le-MOST_UNITS : goal.returns-then-w-le-MOST_UNITS
 returns-then-w-le-MOST_UNITS c =
-    sym (sound_device-lined c.args.d (passed (goal.at.returns-then-w-le-MOST_UNITS c).Else-not-settings_ok) (light (goal.at.returns-then-w-le-MOST_UNITS c).Else-not-counts_ok) (follows (goal.at.returns-then-w-le-MOST_UNITS c).Else-not-sequence_ok) (in_order (goal.at.returns-then-w-le-MOST_UNITS c).Else-not-w) (omega (arith, ap (λ ((goal.at.returns-then-w-le-MOST_UNITS c).After-walk-w : Walked). c.end) c.walk-w.ensures.0, c.if-w-le-MOST_UNITS.true)))
+    sym (sound_device-lined c.args.d (passed (goal.at.returns-then-w-le-MOST_UNITS c).Else-not-settings_ok) (light (goal.at.returns-then-w-le-MOST_UNITS c).Else-not-counts_ok) (follows (goal.at.returns-then-w-le-MOST_UNITS c).Else-not-sequence_ok) (in_order (goal.at.returns-then-w-le-MOST_UNITS c).Else-not-w) (omega (arith, ap (λ (w : Walked). w.end) c.walk-w.ensures.0, c.if-w-le-MOST_UNITS.true)))
 
 pub pool_ok-requires : goal.pool_ok-requires
 pool_ok-requires c =

@@ -41,7 +41,7 @@ shared : (c : After-units_in-units)
     let u = c.units_in-units.result.0 in
     refusal_at (listed_tests d.settings m (units_of d) (managed_of d m) (counts_of d) a.«data».now) ≡ refusal_at (shared_tests d.settings m (u + units_of d) (a.n + managed_of d m) (a.n + counts_of d))
 shared c =
-    listed-shared _ _ _ _ _ _ _ _ c.requires.2 (allowed c.before.before.before.before.before.before.before) c.if-data-count.false c.if-count-gt16.false _ (c.list_refusal-refusal.ensures ∙ rw (read c.before.before.before.before)) c.if-refusal-ne0.false _ (c.units_in-units.ensures.0 ∙ rw (read c.before.before.before.before))
+    listed-shared _ _ _ _ _ _ _ _ c.requires.2 (sym c.granularity_ok.ensures ∙ not-false _ c.if-not-granularity_ok.false-raw) c.if-data-count.false c.if-count-gt16.false _ (c.list_refusal-refusal.ensures ∙ rw (c.read_ranges-ranges.ensures ∙ ranges_read-there _ _ (omega arith) c.if-data-count.false)) c.if-refusal-ne0.false _ (c.units_in-units.ensures.0 ∙ rw (c.read_ranges-ranges.ensures ∙ ranges_read-there _ _ (omega arith) c.if-data-count.false))
 
 -- the shares of a sound record have its units, which fit the pool
 held : (c : After-together-held) → c.together-held.result ≡ units_of c.args.d
@@ -60,10 +60,14 @@ counted c = c.weights.ensures ∙ sound_device-counts c.args.d c.requires.0
 
 -- at 11 the pool is passed; past it there is room, and past 12 the manager's limit is kept
 full : (c : Then-units-held) → most_units < c.units_in-units.result.0 + units_of c.args.d
-full c = omega (arith, c.if-units-held.true, held c.before.before, most c.before.before)
+full c =
+    let e : c.together-held.result ≡ units_of c.args.d = c.together-held.ensures ∙ rw c.shares.ensures (shares_of-sizes c.args.d) in
+    omega (arith, c.if-units-held.true, e, (sound_device-facts c.args.d c.requires.0).units)
 
 room : (c : Else-units-held) → c.units_in-units.result.0 + units_of c.args.d ≤ most_units
-room c = omega (arith, c.if-units-held.false, held c.before.before, most c.before.before)
+room c =
+    let e : c.together-held.result ≡ units_of c.args.d = c.together-held.ensures ∙ rw c.shares.ensures (shares_of-sizes c.args.d) in
+    omega (arith, c.if-units-held.false, e, (sound_device-facts c.args.d c.requires.0).units)
 
 own : (c : Else-count-managed) → let a = c.args in a.n + managed_of a.d a.manager ≤ limit_of a.d.settings a.manager
 own c = omega (arith, c.if-count-managed.false, c.managed.ensures, c.limit_of-limit.ensures)
@@ -107,7 +111,7 @@ pub managed-requires : goal.managed-requires
 managed-requires c = (c.requires.0, c.requires.1)
 
 pub overflow_add-count-2 : goal.overflow_add-count-2
-overflow_add-count-2 c = omega (arith, c.managed.ensures, few c, c.limit_of-limit.ensures, c.limit_of-limit.type-inv)
+overflow_add-count-2 c = omega (arith, c.managed.ensures, few c, c.limit_of-limit.ensures, c.limit_of-limit.type_inv)
 
 pub returns-then-count-managed : goal.returns-then-count-managed
 returns-then-count-managed c =

@@ -46,25 +46,27 @@ there c =
     omega (arith, below c)
 
 -- where a controller was found tracked, its place was found
-abbrev place : tie.After-known-told2 → tie.After-known-told
-place c = c.before.before.before.before.before.before
+placed' : (c : In-On) → where_is c.args.d (length c.args.marks.now) c.args.id ≡ At c.in-At.i
+placed' c = (where_by-at _ _ _ _ _ (sym c.locate_by-place.ensures ∙ c.in-At.is)).1
 
-abbrev controller-in : tie.After-known-told2 → Controller
-controller-in c = get_or (place c).before.before.before.before.before.args.d.controllers (place c).before.place.given.0.0 no_controller
+there' : (c : In-On) → c.in-At.i < length c.args.d.controllers
+there' c =
+    let e : length c.args.d.controllers ≡ 8 = search (length-mapped, rules) in
+    omega (arith, (where_is-at _ _ _ _ (placed' c)).below)
 
 -- by the manager that asks
 by : (c : In-On)
-    → tracking_by (place c).before.before.before.before.before.args.manager (controller-in c).tracking (controller-in c).manager ≡ On c.in-On.g c.in-On.n
+    → tracking_by c.args.manager (get_or c.args.d.controllers c.in-At.i no_controller).tracking (get_or c.args.d.controllers c.in-At.i no_controller).manager ≡ On c.in-On.g c.in-On.n
 by c = sym c.tracking_by-t.ensures ∙ c.in-On.is
 
-tracked : (c : In-On) → (controller-in c).tracking ≡ On c.in-On.g c.in-On.n
-tracked c = (tracking_by-on _ (controller-in c).tracking (controller-in c).manager _ _ (by c)).0
+tracked : (c : In-On) → (get_or c.args.d.controllers c.in-At.i no_controller).tracking ≡ On c.in-On.g c.in-On.n
+tracked c = (tracking_by-on _ (get_or c.args.d.controllers c.in-At.i no_controller).tracking (get_or c.args.d.controllers c.in-At.i no_controller).manager _ _ (by c)).0
 
 -- what a tracked controller of a sound record holds
 held : (c : In-On)
     → let n = c.in-On.n in
-    HeldFacts (place c).before.before.before.before.before.args.d.settings c.in-On.g n (take n (controller-in c).ranges)
-held c = held_at _ _ _ _ (placed (place c)) (there (place c)) _ _ (tracked c)
+    HeldFacts c.args.d.settings c.in-On.g n (take n (get_or c.args.d.controllers c.in-At.i no_controller).ranges)
+held c = held_at _ _ _ _ (placed' c) (there' c) _ _ (tracked c)
 
 pub returns-in_default : goal.returns-in_default
 returns-in_default c = leaves-unchanged _ _ _ (stop-refused _ _ _ _ _ _ (refused c))
@@ -88,17 +90,17 @@ pub clear_share-requires : goal.clear_share-requires
 clear_share-requires c =
     let r = c.ranges_of-ranges in
     let u = c.units_in-units.ensures.0 in (
-      omega (arith, rw r.ensures.0 at u, share-within _ _ _ _ (placed (place (goal.at.clear_share-requires c).In-On)) (there (place (goal.at.clear_share-requires c).In-On)) _ _ (tracked (goal.at.clear_share-requires c).In-On) (omega (arith, ap length r.ensures.0, r.ensures.1))),
-      (where_is-at _ _ _ _ (placed (place (goal.at.clear_share-requires c).In-On))).whole,
+      omega (arith, rw r.ensures.0 at u, share-within _ _ _ _ (placed' (goal.at.clear_share-requires c).In-On) (there' (goal.at.clear_share-requires c).In-On) _ _ (tracked (goal.at.clear_share-requires c).In-On) (omega (arith, ap length r.ensures.0, r.ensures.1))),
+      (where_is-at _ _ _ _ (placed' (goal.at.clear_share-requires c).In-On)).whole,
     )
 
 pub forgotten-device-requires : goal.forgotten-device-requires
-forgotten-device-requires c = below (place (goal.at.forgotten-device-requires c).In-On)
+forgotten-device-requires c = below (goal.at.forgotten-device-requires c).In-At
 
 pub returns : goal.returns
 returns c =
-    let a = (place (goal.at.returns c).In-On).before.before.before.before.before.args in
+    let a = c.args in
     let r = c.ranges_of-ranges in
     let u = c.units_in-units.ensures.0 in
-    leaves _ _ _ _ _ (stop-done _ a.d a.manager a.id a.marks.now _ (found (place (goal.at.returns c).In-On)) _ _ c.if-c.false (by (goal.at.returns c).In-On))
+    leaves _ _ _ _ _ (stop-done _ a.d a.manager a.id a.marks.now _ (found (goal.at.returns c).In-At) _ _ c.if-c.false (by (goal.at.returns c).In-On))
     (rw c.forgotten-device.ensures) (c.clear_share.ensures ∙ rw (u, r.ensures.0))

@@ -52,4 +52,4 @@ returns c =
     ap (λ (b : ℕ). record { address = a.at; bytes = b }) e in
     let r = c.mark_one-new in
     leaves-unchanged _ _ _ (on-done (alone a.c) a.marks.now _ _ _ c.note_number-number.ensures c.if-number-ne0.false _ 1 (single (goal.at.returns c).In-On) _ _
-    (λ i. (c.slice_known-2-1.given i).fits) r.auto.0 (rw w at r.ensures.0) (rw w at r.ensures.1))
+    (λ i. (c.slice_known-2-1.given i).fits) r.auto.marks (rw w at r.ensures.0) (rw w at r.ensures.1))
