@@ -101,18 +101,18 @@ told_is : (h : List Did) (t : Marks) → Told h t → t ≡ marks_by h (tracking
 told_is h off k = refl
 told_is h (on g rs p) k = ap (on g rs) k.0
 
-marks-are : (h : List Did) (c : Slot) → Known h c → c.marks ≡ marks_by h (tracks_by none h)
-marks-are h c k = told_is h c.marks k.marks ∙ ap (marks_by h) k.tracked
+marks_are : (h : List Did) (c : Slot) → Known h c → c.marks ≡ marks_by h (tracks_by none h)
+marks_are h c k = told_is h c.marks k.marks ∙ ap (marks_by h) k.tracked
 
 pub known_is : (h : List Did) (c : Slot) → Known h c → c ≡ slot_by h
 known_is h c k =
-    ap₂ (λ b t. record { suspended = b; manager = c.manager; marks = t; front = c.front; queue = c.queue }) k.suspended (marks-are h c k)
+    ap₂ (λ b t. record { suspended = b; manager = c.manager; marks = t; front = c.front; queue = c.queue }) k.suspended (marks_are h c k)
     ∙ ap (λ m. record { suspended = suspended_by false h; manager = m; marks = marks_by h (tracks_by none h); front = c.front; queue = c.queue }) k.manager
     ∙ ap₂ (λ (f : Option (List ℕ)) (q : Option Queued). record { suspended = suspended_by false h; manager = manager_by h; marks = marks_by h (tracks_by none h); front = f; queue = q }) k.front (logged-is h c.queue k.queue)
 
 -- W13: as many units are pending by the history as in the slot
 pub known-pending : (h : List Did) (c : Slot) → Known h c → units_pending h ≡ length (pending_on c.marks)
-known-pending h c k = sym (ap (λ t. length (pending_on t)) (marks-are h c k) ∙ pending_among-is h (tracks_by none h))
+known-pending h c k = sym (ap (λ t. length (pending_on t)) (marks_are h c k) ∙ pending_among-is h (tracks_by none h))
 
 pub known-fresh : Known [] fresh_slot
 known-fresh = record { marks = tt; tracked = refl; manager = refl; suspended = refl; front = refl; queue = logged-fresh; accounts = refl }

@@ -21,5 +21,5 @@ pub record Layouts : Type 0 where
   pub behind : (id : ℕ) (r : Report) → drop 16 (report_bytes id r) ≡ records descriptor_bytes r.descriptors
   pub spare : (d : Descriptor) → drop 12 (descriptor_bytes d) ≡ 0 ∷ 0 ∷ 0 ∷ 0 ∷ []
   -- W10: no byte tells of the groups that were examined
-  pub no-groups : (id n : ℕ) (r : Report)
+  pub no_groups : (id n : ℕ) (r : Report)
       → report_bytes id (record { suspended = r.suspended; more = r.more; granularity = r.granularity; descriptors = r.descriptors; groups = n }) ≡ report_bytes id r
