@@ -27,7 +27,7 @@ use Rattle.calls.specs.declared.WriteRecord.{WriteRecord}
 use Rattle.calls.specs.declared.Batched.{Batched}
 use Rattle.calls.specs.Calls.{Engine, batch_by, in_words, write_by, Change, with_marks, Note, noted, note_in, write_done, write_note, write_in, batched, notes_from}
 use Rattle.demands.specs.View.{run}
-use Rattle.demands.specs.Sessions.{Left, Given, Sized, Step, one, batch, next, left_after, answers_to, stepped, left_is, note_of, tried, calls_of, expand, begun, calls_in, history_in}
+use Rattle.demands.specs.Sessions.{Left, Given, Sized, Step, one, batch, next, left_after, answers_to, stepped, left_by, note_of, tried, calls_of, expand, begun, calls_in, history_in}
 use Rattle.demands.specs.Demand2.{Equals, Stands}
 use Rattle.demands.specs.Batches.{done_in, newly_in, last_number, IsNotes, ByNote, Batches, BatchesStand}
 use Rattle.demands.specs.Demand3.{Demand3}
@@ -217,7 +217,7 @@ module _ (en : Engine) (keeps : (d : Device) (ws : List ℕ) (id : ℕ) (w : Wri
           let calls : calls_of en l (batch rs) ≡ [] = rw (ne_eqb (batch_by en l.device l.marks rs).answer.number 0 (λ z. absurd (omega (arith, z, e)))) in
           ap (λ m. record { device = l.device; marks = m; area = l.area; queues = l.queues }) ((is-notes l rs).answers.refused (λ z. absurd (omega (arith, z, e)))).3 ∙ ap (left_after en l) (sym calls)
 
-  left_is : (xs : List Step) (l : Left) → left_is en l xs ≡ left_after en l (expand en l xs)
+  left_is : (xs : List Step) (l : Left) → left_by en l xs ≡ left_after en l (expand en l xs)
   left_is [] l = refl
   left_is (x ∷ xs) l =
       left_is xs (stepped en l x) ∙ ap (λ (q : Left). left_after en q (expand en (stepped en l x) xs)) (step_left l x) ∙ sym (left-append en (calls_of en l x) (expand en (stepped en l x) xs) l)

@@ -30,14 +30,14 @@ use Rattle.log_numbers.specs.declared.Sums.{Sums}
 use Rattle.log_numbers.specs.Sums.{no_sums}
 use Rattle.log_numbers.proofs.LogLaws.{shown, shown-showing}
 use Rattle.log_numbers.proofs.SumLaws.{is_known, marked_in, reported_in, dropped_in, sum_over, sums_over, summed-none, summed-snoc}
-use Rattle.record.specs.Record.{sound_with, placed_is, where_is}
+use Rattle.record.specs.Record.{sound_with, place_at, where_is}
 use Rattle.calls.specs.declared.WriteRecord.{WriteRecord}
 use Rattle.calls.specs.declared.Batched.{Batched}
 use Rattle.calls.specs.Calls.{Engine, in_words, Change, fresh_by, write_by, batch_by}
 use Rattle.booking.specs.declared.Reading.{Reading}
 use Rattle.booking.specs.Booking.{begun_by, fresh_log, batch_log, units_held, reading_at}
 use Rattle.booking.proofs.BookLaws.{begun-refused, begun-done}
-use Rattle.plain.specs.Bytes.{words_for, plain_bytes}
+use Rattle.plain.specs.Bytes.{words_for, in_bytes}
 use Rattle.demands.specs.View.{run}
 use Rattle.demands.specs.Sessions.{Left, Given, Sized, Step, one, batch, begun, outcome, left_after, answers_to, stepped, left_by, calls_of, expand, end_of, end_by, calls_in, history_in}
 use Rattle.demands.specs.Demand2.{pending_of, Equals}
@@ -172,7 +172,7 @@ module _ (en : Engine) (keeps : (d : _) (ws : List ℕ) (id : ℕ) (w : _) → e
           abbrev h : List Did
           h = history_in en s m (calls_in en s m xs) a
 
-          placed_is : (p : Option ℕ) → place_of s a ≡ p → where_is end.device (en.words end.marks) a ≡ placed_is p
+          placed_is : (p : Option ℕ) → place_of s a ≡ p → where_is end.device (en.words end.marks) a ≡ place_at p
           unfolding where_is
           placed_is p e = rw (end-sound, end-place a, e)
 
@@ -269,9 +269,9 @@ module _ (en : Engine) (keeps : (d : _) (ws : List ℕ) (id : ℕ) (w : _) → e
 in-words-log : MigrationLog in_words
 in-words-log = log-of in_words words-kept batches demand-3 (λ s m ks sized made a. in_words_lem.place-of s m ks sized made a) (λ s m ks sized made. in_words_lem.sure s m ks sized made) demand-2.rules
 
-in-bytes-log : MigrationLog plain_bytes
+in-bytes-log : MigrationLog in_bytes
 in-bytes-log =
-    log-of plain_bytes (λ d bs id w. ap words_for (write_bytes d bs id w)) plain-demands.batches plain-demands.apart (λ s m ks sized made a. plain_bytes.place-of s m ks sized made a) (λ s m ks sized made. plain_bytes.sure s m ks sized made)
+    log-of in_bytes (λ d bs id w. ap words_for (write_bytes d bs id w)) plain-demands.batches plain-demands.apart (λ s m ks sized made a. plain_bytes.place-of s m ks sized made a) (λ s m ks sized made. plain_bytes.sure s m ks sized made)
     plain-demands.rules
 
 pub migration-logs : MigrationLogs
