@@ -1,5 +1,4 @@
-use Prim.Native.Nat.{◌-◌}
-use native.Mathlib.Omega.{arith}
+use Rattle.std.proofs.Common.{◌-◌, arith}
 use borrow.Author.Tests.{not-false}
 use Rattle.bursts.proofs.batch_line.Goals as goal
 

@@ -1,7 +1,5 @@
 -- `bursts::read_record` stays in the line, and goes on where it reads a record.
-use mathlib.Core.Path.{sym}
-use mathlib.Core.Bool.{true≢false}
-use native.Mathlib.Omega.{arith}
+use Rattle.std.proofs.Common.{sym, true≢false, arith}
 use Rattle.bursts.proofs.read_record.Goals as goal
 
 pub overflow_cast-record : goal.overflow_cast-record

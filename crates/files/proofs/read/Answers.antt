@@ -1,7 +1,5 @@
 -- `files::read` is safe: the file that is handed on lies in its buffer.
-use mathlib.Core.Path.{sym}
-use native.Mathlib.Omega.{arith}
-use lib.Seq.{length-take-le}
+use Rattle.std.proofs.Common.{sym, arith, length-take-le}
 use Rattle.files.proofs.read.Goals as goal
 
 pub slice_bounds-put_old-end : goal.slice_bounds-put_old-end

@@ -1,7 +1,4 @@
-use mathlib.Core.Path.{sym}
-use native.Mathlib.Omega.{arith}
-use lib.Seq.{length-take-le}
-use borrow.Author.Rules.{rules}
+use Rattle.std.proofs.Common.{sym, arith, length-take-le, rules}
 use Rattle.hand_lines.proofs.run.Goals as goal
 
 pub slice_bounds-play-end : goal.slice_bounds-play-end

@@ -1,11 +1,5 @@
 -- `listings::caller_of` keeps its promise: the line lies in the bytes, and what `managers` answers lies in the line.
-use Prim.Native.Nat.{ℕ, ◌≤◌}
-use mathlib.Core.Path.{sym}
-use mathlib.Core.List.{List}
-use native.Mathlib.Omega.{arith}
-use lib.ListN.{length, take}
-use lib.Seq.{length-take-le}
-use borrow.Author.Rules.{rules}
+use Rattle.std.proofs.Common.{ℕ, ◌≤◌, sym, List, arith, length, take, length-take-le, rules}
 use Rattle.listings.proofs.caller_of.Goals as goal
 
 -- a place in a list's first n lies among them

@@ -1,4 +1,4 @@
-use native.Mathlib.Omega.{arith}
+use Rattle.std.proofs.Common.{arith}
 use Rattle.listing.proofs.BoundLaws.{read-bounded}
 use Rattle.listings.proofs.run.Goals as goal
 

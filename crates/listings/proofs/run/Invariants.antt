@@ -1,8 +1,6 @@
 -- `listings::run` is safe and ends. The loop's invariant: the buffers keep their lengths, a line lies in its buffer, and the input that is left in its own. The measure
 -- is the number of turns left.
-use Prim.Native.Nat.{◌≤◌}
-use mathlib.Core.Path.{◌≡◌}
-use lib.ListN.{length}
+use Rattle.std.proofs.Common.{◌≤◌, ◌≡◌, length}
 use Rattle.listings.proofs.run.Given as goal
 
 abbrev pub invariant-loop-turns : goal.invariant-loop-turns

@@ -1,7 +1,5 @@
 -- `parts::play` is safe: the numbers begin in the line, and the data that are handed on lie in their buffer.
-use mathlib.Core.Path.{sym}
-use native.Mathlib.Omega.{arith}
-use lib.Seq.{length-take-le}
+use Rattle.std.proofs.Common.{sym, arith, length-take-le}
 use Rattle.fields.proofs.FieldLaws.{first_field-within}
 use Rattle.parts.proofs.play.Goals as goal
 

@@ -1,5 +1,5 @@
 -- `playing::receive` is safe: the runs of a receive that was not refused stand in the report's buffer.
-use native.Mathlib.Omega.{arith}
+use Rattle.std.proofs.Common.{arith}
 use Rattle.playing.proofs.receive.Goals as goal
 
 -- TODO no step receive-logged at After-receive_logged-arg3

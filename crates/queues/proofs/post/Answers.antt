@@ -1,7 +1,5 @@
 -- `queues::post` is safe: the entry that is handed on lies in its buffer.
-use mathlib.Core.Path.{sym}
-use native.Mathlib.Omega.{arith}
-use lib.Seq.{length-take-le}
+use Rattle.std.proofs.Common.{sym, arith, length-take-le}
 use Rattle.queues.proofs.post.Goals as goal
 
 pub slice_bounds-post-end : goal.slice_bounds-post-end

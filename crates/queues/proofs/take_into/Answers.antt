@@ -1,5 +1,5 @@
 -- `queues::take_into` is safe: the entries that were taken stand in the buffer.
-use native.Mathlib.Omega.{arith}
+use Rattle.std.proofs.Common.{arith}
 use Rattle.queues.proofs.take_into.Goals as goal
 
 -- TODO no step take at After-take-arg
