@@ -7,6 +7,7 @@ ghost use Rattle.std.specs.Prelude.{◌≤◌};
 use std::io::{Stdout, Write};
 
 // What waits stands at the front of the bytes, and is written to standard output.
+#[derive(Drop)]
 pub struct Buffer {
     bytes: [u8; 65536],
     to: Stdout,
