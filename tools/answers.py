@@ -71,24 +71,23 @@ class Body:
         toks = [t for t in rest.split(".") if t]
         i = 0
         while i < len(toks) and toks[i] == "before":
-            if place not in f.places or f.places[place]["parent"] is None:
-                self.notes.append(f"TODO no place before {place}")
-                return ("text", f"{name}{rest}")
-            place = f.places[place]["parent"]
+            # the older names had a place or two more on some ways
+            if place in f.places and f.places[place]["parent"] is not None:
+                place = f.places[place]["parent"]
             i += 1
         if i == len(toks):
             return ("place", place)
         tok, more = toks[i], toks[i + 1:]
+        # a step that the kit's script took for a name of its own list
+        tok = re.sub("_lem$", "", tok[0].lower() + tok[1:])
         same = lambda a, b: a.replace("_", "-") == b.replace("_", "-")
         # the step itself, or one before it
-        at = place
-        while at is not None and at in f.places:
-            p = f.places[at]
-            if p["old"] and same(p["old"], tok):
-                return ("text", self.step(p, more))
-            at = p["parent"] if tok not in START else None
-            if tok in START:
-                break
+        for at in (place, self.place):
+            while at is not None and at in f.places and tok not in START:
+                p = f.places[at]
+                if p["old"] and same(p["old"], tok):
+                    return ("text", self.step(p, more))
+                at = p["parent"]
         if tok in START:
             if tok in ("args", "ranges", "type_inv") and more:
                 more = [f.args.get(more[0], more[0])] + more[1:]
@@ -216,13 +215,13 @@ def turn(names, crate, path):
                 notes.append(f"TODO loop {loop}")
                 helpers.append("-- TODO\n" + b)
                 continue
-            params = d.group(1).split()
+            params = [q.strip("«»") for q in d.group(1).split()]
             vs, changed = f.loops[at][1], f.changed[at]
             first = len(vs)
             want = vs + [v for v, c in zip(vs, changed) if c]
             if len(params) != len(want):
                 notes.append(f"TODO loop {loop}: {len(params)} parameters {params}, of {want}")
-            expr = d.group(2)
+            expr = re.sub("«(\\w+)»", r"\1", d.group(2))
             record = "l"
             free = set(re.findall(r"(?<![\w.'-])" + IDENT, expr))
             for record in ("l", "v", "at", "here"):
@@ -291,7 +290,13 @@ def turn(names, crate, path):
                                 done = True
                             break
                 if not done:
-                    said.append(f"TODO clauses {fields}")
+                    # the last expression answers all clauses at once
+                    k = re.search(r"^([\s\S]*\bin\b)([\s\S]*)$", expr)
+                    front, last = (k.group(1), k.group(2)) if k else ("", expr)
+                    if k and not depth_ok(last):
+                        said.append(f"TODO clauses {fields}")
+                    else:
+                        expr = front + f" let all = {last.strip()} in record {{ " + " ".join(f"{a} = all.{i};" for i, a in enumerate(fields)) + " }"
             notes += [f"{new}: {s}" for s in said]
             answers.append("\n".join([f"-- {s}" for s in said] + comments + [f"pub {new} : goal.{new}"] + ([unf.rstrip()] if unf else []) + [f"{new} c ={expr}"]))
             continue
@@ -308,6 +313,13 @@ def turn(names, crate, path):
             helpers.append("\n".join([f"-- {s}" for s in said] + [b]))
             continue
         helpers.append(b)
+    def named(text):
+        for old, new in f.args.items():
+            text = re.sub(r"\." + old + r"(?![\w'-])", "." + new, text)
+        return text
+
+    answers = [named(a) for a in answers]
+    helpers = [named(a) for a in helpers]
     folder = f"crates/{crate}/proofs/{path}"
     own = f"Rattle.{crate}.proofs.{path.replace('/', '.')}"
     helped = "\n\n".join(helpers)

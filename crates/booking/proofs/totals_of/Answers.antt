@@ -18,10 +18,9 @@ found c = sym c.locate-place.ensures ∙ c.in-At.is
 below : (c : goal.In-At) → c.in-At.i < 8
 below c = (where_is-at _ _ _ _ (found c)).below
 
--- TODO no step number_of_lem at After-number_of
 pub returns-in_default : goal.returns-in_default
 returns-in_default c =
-    sym (ap (reading_at _) (sym c.locate-place.ensures ∙ refused-place _ _ _ c.in_default.is c.number_of_lem.ensures))
+    sym (ap (reading_at _) (sym c.locate-place.ensures ∙ refused-place _ _ _ c.in_default.is c.number_of-number.ensures))
 
 pub offset_bounds-l-i : goal.offset_bounds-l-i
 offset_bounds-l-i c = omega (arith, below c)

@@ -9,6 +9,5 @@ returns-then-r-ne0 c = rw (ne_eqb _ 0 c.if-r-ne0.true)
 pub units_in-requires : goal.units_in-requires
 units_in-requires c = c.requires c.if-r-ne0.false
 
--- TODO no step Units-in at After-units_in
 pub returns : goal.returns
-returns c = c.Units-in.ensures ∙ rw (eq-eqb _ 0 c.if-r-ne0.false)
+returns c = c.units_in.ensures ∙ rw (eq-eqb _ 0 c.if-r-ne0.false)

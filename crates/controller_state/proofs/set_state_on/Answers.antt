@@ -21,20 +21,18 @@ part s = let a = s.args in record { indicator = a.indicator; low = a.low; high =
 -- the place that was found, or the refusal
 found : (c : goal.In-At)
     → let a = c.args in
-    where_by a.t1 a.words a.manager a.id ≡ At c.in-At.i
+    where_by a.d a.words a.manager a.id ≡ At c.in-At.i
 found c = sym c.locate_by-place.ensures ∙ c.in-At.is
 
--- TODO no step number_of_lem at After-number_of
--- TODO no step number_of_lem at After-number_of
 refused : (c : goal.After-number_of-number)
     → let a = c.args in
-    where_by a.t1 a.words a.manager a.id ≡ Refused c.number_of_lem.result
-refused c = sym c.locate_by-place.ensures ∙ refused-place _ _ _ c.in_default.is c.number_of_lem.ensures
+    where_by a.d a.words a.manager a.id ≡ Refused c.number_of-number.result
+refused c = sym c.locate_by-place.ensures ∙ refused-place _ _ _ c.in_default.is c.number_of-number.ensures
 
 -- what is known of it, whichever manager asks
 located : (c : goal.In-At)
     → let a = c.args in
-    Located a.t1 a.words a.id c.in-At.i
+    Located a.d a.words a.id c.in-At.i
 located c = where_is-at _ _ _ _ (where_by-at _ _ _ _ _ (found c)).1
 
 below : (c : goal.In-At) → c.in-At.i < 8
@@ -44,16 +42,13 @@ below c = (located c).below
 ends : (c : goal.In-At) → Within c.args.d.sequence
 ends c = sequence-within c.args.d (located c).sound
 
--- TODO no place before Start
--- TODO no place before Start
--- TODO no step if1 at After-shared_slice_known
+-- TODO a place stands alone, Start
 -- TODO a place stands alone, In-At-2
--- TODO no step if2 at After-struct_known
 -- TODO a place stands alone, In-At-2
 -- an accepted one fits the area
-fits : (c : goal.Else-number-ne0) → let s = c.before.before.before.before.before.before.before.before.before.before.before.before.before in s.args.low + length s.args.«data».now ≤ 4096
+fits : (c : goal.Else-number-ne0) → c.args.low + length c.args.«data».now ≤ 4096
 fits c =
-    call_fits _ _ _ _ _ (part k.before.before.before.before.before.before.before) c.if1.false _ (found k) (not-false _ c.if2.false) _ c.part_number-number.ensures c.if-number-ne0.false (ends k)
+    call_fits _ _ _ _ _ (part k.before.before.before.before.before.before.before) c.if-area-ne-STATE_BYTES.false _ (found k) (not-false _ c.if-not-c.false) _ c.part_number-number.ensures c.if-number-ne0.false (ends k)
 
 pub returns-then-area-ne-STATE_BYTES : goal.returns-then-area-ne-STATE_BYTES
 returns-then-area-ne-STATE_BYTES c = leaves _ _ _ (call-area _ _ _ _ _ (part (goal.at.returns-then-area-ne-STATE_BYTES c).Start) c.if-area-ne-STATE_BYTES.true)
@@ -71,21 +66,16 @@ pub returns-then-not-c : goal.returns-then-not-c
 returns-then-not-c c =
     leaves _ _ _ (call-running _ _ _ _ _ (part (goal.at.returns-then-not-c c).Start) c.if-area-ne-STATE_BYTES.false _ (found (goal.at.returns-then-not-c c).In-At) (not-true _ c.if-not-c.true))
 
--- TODO no step if1 at After-shared_slice_known
 pub part_number-number-requires : goal.part_number-number-requires
-part_number-number-requires c = (c.if1.false, ends (goal.at.part_number-number-requires c).In-At-2)
+part_number-number-requires c = (c.if-area-ne-STATE_BYTES.false, ends (goal.at.part_number-number-requires c).In-At-2)
 
--- TODO no place before Start
--- TODO no step if1 at After-shared_slice_known
--- TODO no step if2 at After-struct_known
 pub returns-then-number-ne0 : goal.returns-then-number-ne0
 returns-then-number-ne0 c =
     leaves _ _ _
-    (call-number _ _ _ _ _ (part k.before.before.before.before.before.before.before) c.if1.false _ (found (goal.at.returns-then-number-ne0 c).In-At-2) (not-false _ c.if2.false) _ c.part_number-number.ensures c.if-number-ne0.true)
+    (call-number _ _ _ _ _ (part (goal.at.returns-then-number-ne0 c).Start) c.if-area-ne-STATE_BYTES.false _ (found (goal.at.returns-then-number-ne0 c).In-At-2) (not-false _ c.if-not-c.false) _ c.part_number-number.ensures c.if-number-ne0.true)
 
--- TODO no step if1 at After-shared_slice_known
 pub store-requires : goal.store-requires
-store-requires c = omega (arith, fits (goal.at.store-requires c).Else-number-ne0, c.if1.false)
+store-requires c = omega (arith, fits (goal.at.store-requires c).Else-number-ne0, c.if-area-ne-STATE_BYTES.false)
 
 pub overflow_add-offset : goal.overflow_add-offset
 overflow_add-offset c = omega (arith, fits (goal.at.overflow_add-offset c).Else-number-ne0)
@@ -93,10 +83,7 @@ overflow_add-offset c = omega (arith, fits (goal.at.overflow_add-offset c).Else-
 pub accepted-requires : goal.accepted-requires
 accepted-requires c = omega (arith, fits (goal.at.accepted-requires c).Else-number-ne0)
 
--- TODO no place before Start
--- TODO no step if1 at After-shared_slice_known
--- TODO no step if2 at After-struct_known
 pub returns : goal.returns
 returns c =
-    let d = call-done _ _ _ _ _ (part k.before.before.before.before.before.before.before) c.if1.false _ (found (goal.at.returns c).In-At-2) (not-false _ c.if2.false) _ c.part_number-number.ensures c.if-number-ne0.false (ends (goal.at.returns c).In-At-2) in
+    let d = call-done _ _ _ _ _ (part (goal.at.returns c).Start) c.if-area-ne-STATE_BYTES.false _ (found (goal.at.returns c).In-At-2) (not-false _ c.if-not-c.false) _ c.part_number-number.ensures c.if-number-ne0.false (ends (goal.at.returns c).In-At-2) in
     (c.accepted.ensures ∙ sym (ap (λ (y : Arrival). y.answer) d), c.store.ensures ∙ sym (ap (λ (y : Arrival). y.area) d))

@@ -5,10 +5,8 @@ use lib.Seq.{length-take-le}
 use Rattle.fields.proofs.FieldLaws.{first_field-within, same-front}
 use Rattle.fields.proofs.begins.Goals as goal
 
--- TODO no step field-end at After-shared_slice_known2
 pub slice_bounds-same-end : goal.slice_bounds-same-end
-slice_bounds-same-end c = sym (length-take-le _ _ (first_field-within _ _ _ c.field-end.ensures (omega arith)).1)
+slice_bounds-same-end c = sym (length-take-le _ _ (first_field-within _ _ _ c.field_end-end.ensures (omega arith)).1)
 
--- TODO no step field-end at After-shared_slice_known2
 pub returns : goal.returns
-returns c = same-front _ _ _ _ c.field-end.ensures c.same.ensures
+returns c = same-front _ _ _ _ c.field_end-end.ensures c.same.ensures

@@ -10,28 +10,20 @@ use Rattle.listing.proofs.read_line.Goals as goal
 pub returns-then-line-gt1023 : goal.returns-then-line-gt1023
 returns-then-line-gt1023 c = c.plain.ensures ∙ line-long _ c.if-line-gt1023.true
 
--- TODO no step field-end at Else1
 pub slice_bounds-word_of-end : goal.slice_bounds-word_of-end
-slice_bounds-word_of-end c = sym (length-take-le _ _ (field-most _ _ _ c.field-end.ensures (omega arith)))
+slice_bounds-word_of-end c = sym (length-take-le _ _ (field-most _ _ _ c.field_end-end.ensures (omega arith)))
 
--- TODO no step field-end at Else1
--- TODO no step field-end at Else1
 pub read_numbers-read-requires : goal.read_numbers-read-requires
-read_numbers-read-requires c = (field-most _ _ _ c.field-end.ensures (omega arith), field_next _ _ _ c.field-end.ensures)
+read_numbers-read-requires c = (field-most _ _ _ c.field_end-end.ensures (omega arith), field_next _ _ _ c.field_end-end.ensures)
 
--- TODO no step field-end at Else1
 pub returns-then-not-read : goal.returns-then-not-read
-returns-then-not-read c = c.plain-then-not-read.ensures ∙ line-unread _ _ _ _ _ c.field-end.ensures c.word_of-word.ensures c.read_numbers-read.ensures (not-true _ c.if-not-read.true)
+returns-then-not-read c = c.plain-then-not-read.ensures ∙ line-unread _ _ _ _ _ c.field_end-end.ensures c.word_of-word.ensures c.read_numbers-read.ensures (not-true _ c.if-not-read.true)
 
--- TODO no step field-end at Else1
 pub returns-then-not-takes : goal.returns-then-not-takes
-returns-then-not-takes c = c.plain-then-not-takes.ensures ∙ line-untaken _ _ _ _ _ c.field-end.ensures c.word_of-word.ensures c.read_numbers-read.ensures (not-false _ c.if-not-read.false) (sym c.takes.ensures ∙ not-true _ c.if-not-takes.true-raw)
+returns-then-not-takes c = c.plain-then-not-takes.ensures ∙ line-untaken _ _ _ _ _ c.field_end-end.ensures c.word_of-word.ensures c.read_numbers-read.ensures (not-false _ c.if-not-read.false) (sym c.takes.ensures ∙ not-true _ c.if-not-takes.true-raw)
 
--- TODO no step field-end at Else1
 pub line_of-requires : goal.line_of-requires
-line_of-requires c = line_taken _ _ _ _ _ c.field-end.ensures c.word_of-word.ensures c.read_numbers-read.ensures (not-false _ c.if-not-read.false) (sym c.takes.ensures ∙ not-false _ c.if-not-takes.false-raw)
+line_of-requires c = line_taken _ _ _ _ _ c.field_end-end.ensures c.word_of-word.ensures c.read_numbers-read.ensures (not-false _ c.if-not-read.false) (sym c.takes.ensures ∙ not-false _ c.if-not-takes.false-raw)
 
--- TODO no step Line-of at After-line_of
--- TODO no step field-end at Else1
 pub returns : goal.returns
-returns c = c.Line-of.ensures ∙ line_read _ _ _ _ _ c.field-end.ensures c.word_of-word.ensures c.read_numbers-read.ensures (not-false _ c.if-not-read.false) (sym c.takes.ensures ∙ not-false _ c.if-not-takes.false-raw) (omega arith)
+returns c = c.line_of.ensures ∙ line_read _ _ _ _ _ c.field_end-end.ensures c.word_of-word.ensures c.read_numbers-read.ensures (not-false _ c.if-not-read.false) (sym c.takes.ensures ∙ not-false _ c.if-not-takes.false-raw) (omega arith)

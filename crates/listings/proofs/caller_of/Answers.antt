@@ -9,6 +9,5 @@ within n m l e f = omega (arith, f, length-take-le n l e)
 pub slice_bounds-caller_of-end : goal.slice_bounds-caller_of-end
 slice_bounds-caller_of-end c = sym (length-take-le _ _ (search rules))
 
--- TODO no place before Start
 pub returns-then-shelf : goal.returns-then-shelf
-returns-then-shelf c = within _ _ _ c.before.before.before.before.requires c.caller_of.ensures
+returns-then-shelf c = within _ _ _ c.requires c.caller_of.ensures

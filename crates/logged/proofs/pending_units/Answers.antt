@@ -19,7 +19,7 @@ use Rattle.logged.proofs.pending_units.Goals as goal
 -- the place that was found
 found : (c : goal.In-At)
     → let a = c.args in
-    where_is a.t1 (length a.marks.now) a.id ≡ At c.in-At.i
+    where_is a.d (length a.marks.now) a.id ≡ At c.in-At.i
 found c = sym c.locate-place.ensures ∙ c.in-At.is
 
 -- it is below 8
@@ -37,12 +37,12 @@ abbrev place : tie.After-known-told2 → tie.After-known-told
 place c = c.before.before.before.before
 
 abbrev controller-in : tie.After-known-told2 → Controller
-controller-in c = get_or (place c).before.before.before.before.before.args.t1.controllers (place c).before.place.given.0.0 no_controller
+controller-in c = get_or (place c).before.before.before.before.before.args.d.controllers (place c).before.place.given.0.0 no_controller
 
 -- what it holds
 held : (c : goal.In-On)
     → let n = c.in-On.n in
-    HeldFacts (place c).before.before.before.before.before.args.t1.settings c.in-On.g n (take n (controller-in c).ranges)
+    HeldFacts (place c).before.before.before.before.before.args.d.settings c.in-On.g n (take n (controller-in c).ranges)
 held c = held_at _ _ _ _ (found (place c)) (there (place c)) _ _ c.in-On.is
 
 pub returns-in_default : goal.returns-in_default
@@ -60,11 +60,10 @@ returns-in_default-t c = held-off in_words _ _ _ _ (found (goal.at.returns-in_de
 pub units_in-units-requires : goal.units_in-units-requires
 units_in-units-requires c = let h = held (goal.at.units_in-units-requires c).In-On in (h.small, h.few, rw c.ranges_of-ranges.ensures.0 h.rows)
 
--- TODO no step Units-in at After-units_in
 pub returns : goal.returns
 returns c =
     let a = (place (goal.at.returns c).In-On).before.before.before.before.before.args in
-    let u = c.Units-in.ensures.0 in
+    let u = c.units_in-units.ensures.0 in
     let r = c.ranges_of-ranges.ensures.0 in
     let us = units c.in-On.g (take c.in-On.n (controller-in (goal.at.returns c).In-On).ranges) in
     c.count_span.ensures ∙ share-counted a.marks.now (controller-in (goal.at.returns c).In-On).base _ _ us (omega arith) (rw r at u)

@@ -14,12 +14,10 @@ typed : (c : tie.After-units-listed-arg)
     (a.id < 2 ^ 16) × (length a.d.controllers ≡ 8)
 typed c = (search rules, search (length-mapped, rules))
 
--- TODO no place before Start
--- TODO no step receive at After-receive-arg2
 pub units_listed-reported-requires : goal.units_listed-reported-requires
 units_listed-reported-requires c =
-    let a = c.before.before.before.before.before.before.before.before.before.before.args in
-    let r = c.receive in
+    let a = c.args in
+    let r = c.receive-answer in
     receive-sums in_words a.d a.marks.now a.manager a.id a.buffer.now (typed c).0 (typed c).1 _ _ r.ensures.0 r.ensures.2 (search rules)
 
 pub returns : goal.returns

@@ -17,12 +17,12 @@ use Rattle.marking.proofs.mark_ranges.Goals as goal
 -- a row that begins at or past the end is one piece
 whole : (c : goal.Else-first-end)
     → let a = c.args in
-    let r = row_of a.t5 c.loop-row.row in
-    (units_left (unit_size a.g) (take a.n a.t5) c.loop-row.row 0 ≡ units_of_row c.loop-row.row (unit_size a.g) r.start r.length ++ units_left (unit_size a.g) (take a.n a.t5) (c.loop-row.row + 1) 0)
-    × EndBy (unit_size a.g) (c.whole_units-first.result.0 + r.length) (take (c.loop-row.row + 1) (take a.n a.t5))
+    let r = row_of a.ranges c.loop-row.row in
+    (units_left (unit_size a.g) (take a.n a.ranges) c.loop-row.row 0 ≡ units_of_row c.loop-row.row (unit_size a.g) r.start r.length ++ units_left (unit_size a.g) (take a.n a.ranges) (c.loop-row.row + 1) 0)
+    × EndBy (unit_size a.g) (c.whole_units-first.result.0 + r.length) (take (c.loop-row.row + 1) (take a.n a.ranges))
 whole c =
     let a = c.args in
-    row-whole a.g a.n a.t5 c.loop-row.row c.loop-row.end.0 _ c.loop-row-test.true (omega (arith, c.requires.2, c.loop-row.invariant.1)) c.requires.3 c.loop-row.invariant.2
+    row-whole a.g a.n a.ranges c.loop-row.row c.loop-row.end.0 _ c.loop-row-test.true (omega (arith, c.requires.2, c.loop-row.invariant.1)) c.requires.3 c.loop-row.invariant.2
     c.whole_units-first.ensures c.if-first-end.false
 
 -- TODO a place stands alone, Else-first-end
@@ -30,9 +30,9 @@ whole c =
 marked : (c : goal.After-slice_known-in-loop-row-1)
     → let a = c.args in
     let m = c.mark_range-count in
-    Marking (write_to a.at a.last) (units_left (unit_size a.g) (take a.n a.t5) (c.loop-row.row + 1) 0) m.new.0 (c.loop-row.from + (row_of a.t5 c.loop-row.row).length) (c.loop-row.count + m.result)
-    (mark_in (write_to a.at a.last) (units a.g (take a.n a.t5)) (flat a.marks.now) a.base)
-    (newly_in (write_to a.at a.last) (units a.g (take a.n a.t5)) (flat a.marks.now) a.base)
+    Marking (write_to a.at a.last) (units_left (unit_size a.g) (take a.n a.ranges) (c.loop-row.row + 1) 0) m.new.0 (c.loop-row.from + (row_of a.ranges c.loop-row.row).length) (c.loop-row.count + m.result)
+    (mark_in (write_to a.at a.last) (units a.g (take a.n a.ranges)) (flat a.marks.now) a.base)
+    (newly_in (write_to a.at a.last) (units a.g (take a.n a.ranges)) (flat a.marks.now) a.base)
 marked c =
     let m = c.mark_range-count in
     marking-next _ _ _ _ _ _ _ c.loop-row.invariant.3 _ _ _ _ (whole k).0 _ _ m.auto.0 m.ensures.1 m.ensures.0
@@ -43,9 +43,9 @@ loop-row-init c =
       refl,
       search rules,
       tt,
-      subst (λ us. Marking (write_to a.at a.last) us a.marks.now a.base 0 (mark_in (write_to a.at a.last) (units a.g (take a.n a.t5)) (flat a.marks.now) a.base)
-          (newly_in (write_to a.at a.last) (units a.g (take a.n a.t5)) (flat a.marks.now) a.base))
-          (left-all (unit_size a.g) (take a.n a.t5)) (marking-start _ _ _ _ c.requires.4),
+      subst (λ us. Marking (write_to a.at a.last) us a.marks.now a.base 0 (mark_in (write_to a.at a.last) (units a.g (take a.n a.ranges)) (flat a.marks.now) a.base)
+          (newly_in (write_to a.at a.last) (units a.g (take a.n a.ranges)) (flat a.marks.now) a.base))
+          (left-all (unit_size a.g) (take a.n a.ranges)) (marking-start _ _ _ _ c.requires.4),
     )
 
 pub mark_pieces-requires : goal.mark_pieces-requires
@@ -76,14 +76,13 @@ pub end_of-end-requires : goal.end_of-end-requires
 end_of-end-requires c =
     let a = c.args in
     let t = c.loop-row-test.true in
-    rw c.whole_units-first.ensures (end-small a.g _ (rows_ok-front a.g a.t5 a.n c.loop-row.row c.requires.3 t (omega (arith, t, c.requires.2, c.loop-row.invariant.1))))
+    rw c.whole_units-first.ensures (end-small a.g _ (rows_ok-front a.g a.ranges a.n c.loop-row.row c.requires.3 t (omega (arith, t, c.requires.2, c.loop-row.invariant.1))))
 
--- TODO no step end_of_lem at After-end_of
 pub loop-row-preserved : goal.loop-row-preserved
 loop-row-preserved c =
-    (search rules, c.loop-row.invariant.1, rw c.end_of_lem.ensures (whole (goal.at.loop-row-preserved c).Else-first-end).1, marked (goal.at.loop-row-preserved c).After-slice_known-in-loop-row-1)
+    (search rules, c.loop-row.invariant.1, rw c.end_of-end.ensures (whole (goal.at.loop-row-preserved c).Else-first-end).1, marked (goal.at.loop-row-preserved c).After-slice_known-in-loop-row-1)
 
 pub returns : goal.returns
 returns c =
     let a = c.args in
-    marking-end _ _ _ _ _ _ _ c.loop-row.invariant.3 (left-none (unit_size a.g) (take a.n a.t5) c.loop-row.row 0 (omega (arith, length-take a.n a.t5, c.loop-row-test.false)))
+    marking-end _ _ _ _ _ _ _ c.loop-row.invariant.3 (left-none (unit_size a.g) (take a.n a.ranges) c.loop-row.row 0 (omega (arith, length-take a.n a.ranges, c.loop-row-test.false)))

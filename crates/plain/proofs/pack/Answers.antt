@@ -18,7 +18,7 @@ room c =
 -- and so is where its byte is
 there : (c : goal.Then-i-new)
     → let a = c.args in
-    get_or a.t2 c.loop-i.i 0 + c.loop-unit.unit < 16384
+    get_or a.bases c.loop-i.i 0 + c.loop-unit.unit < 16384
 there c =
     let p = c.requires in
     omega (arith, p.0, packing-there _ _ _ _ c.loop-unit.invariant.0 p.1 (omega arith) c.loop-unit-test.true c.if-i-new.true)

@@ -22,20 +22,18 @@ use Rattle.plain.proofs.receive.Goals as goal
 -- the place that was found, or the refusal
 found : (c : goal.In-At)
     → let a = c.args in
-    where_by a.t1 (words_for (length a.area.now)) a.manager a.id ≡ At c.in-At.i
+    where_by a.d (words_for (length a.area.now)) a.manager a.id ≡ At c.in-At.i
 found c = rw (sym c.words_for.ensures) (sym c.locate_by-place.ensures ∙ c.in-At.is)
 
--- TODO no step number_of_lem at After-number_of
--- TODO no step number_of_lem at After-number_of
 refused : (c : goal.After-number_of)
     → let a = c.args in
-    where_by a.t1 (words_for (length a.area.now)) a.manager a.id ≡ Refused c.number_of_lem.result
-refused c = rw (sym c.words_for.ensures) (sym c.locate_by-place.ensures ∙ refused-place _ _ _ c.in_default.is c.number_of_lem.ensures)
+    where_by a.d (words_for (length a.area.now)) a.manager a.id ≡ Refused c.number_of.result
+refused c = rw (sym c.words_for.ensures) (sym c.locate_by-place.ensures ∙ refused-place _ _ _ c.in_default.is c.number_of.ensures)
 
 -- whichever manager asks
 placed : (c : goal.In-At)
     → let a = c.args in
-    where_is a.t1 (words_for (length a.area.now)) a.id ≡ At c.in-At.i
+    where_is a.d (words_for (length a.area.now)) a.id ≡ At c.in-At.i
 placed c = (where_by-at _ _ _ _ _ (found c)).1
 
 below : (c : goal.In-At) → c.in-At.i < 8
@@ -52,7 +50,7 @@ abbrev place : tie.After-known-told2 → tie.After-known-told
 place c = c.before.before.before.before.before
 
 abbrev controller-in : tie.After-known-told2 → Controller
-controller-in c = get_or (place c).before.before.before.before.before.before.before.args.t1.controllers (place c).before.place.given.0.0 no_controller
+controller-in c = get_or (place c).before.before.before.before.before.before.before.args.d.controllers (place c).before.place.given.0.0 no_controller
 
 -- by the manager that asks
 by : (c : goal.In-On)

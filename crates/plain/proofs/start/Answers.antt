@@ -32,29 +32,27 @@ eight c = search (length-mapped, rules)
 -- the place that was found, or the refusal
 found : (c : goal.In-At)
     → let a = c.args in
-    where_by a.t1 (words_for (length a.area.now)) a.manager a.id ≡ At c.in-At.i
+    where_by a.d (words_for (length a.area.now)) a.manager a.id ≡ At c.in-At.i
 found c =
     let a = c.args in
-    ap (λ w. where_by a.t1 w a.manager a.id) (sym c.words_for.ensures) ∙ sym c.locate_by-place.ensures ∙ c.in-At.is
+    ap (λ w. where_by a.d w a.manager a.id) (sym c.words_for.ensures) ∙ sym c.locate_by-place.ensures ∙ c.in-At.is
 
--- TODO no step number_of_lem at After-number_of
--- TODO no step number_of_lem at After-number_of
 refused : (c : goal.After-number_of)
     → let a = c.args in
-    where_by a.t1 (words_for (length a.area.now)) a.manager a.id ≡ Refused c.number_of_lem.result
+    where_by a.d (words_for (length a.area.now)) a.manager a.id ≡ Refused c.number_of.result
 refused c =
     let a = c.args in
-    ap (λ w. where_by a.t1 w a.manager a.id) (sym c.words_for.ensures) ∙ sym c.locate_by-place.ensures ∙ refused-place _ _ _ c.in_default.is c.number_of_lem.ensures
+    ap (λ w. where_by a.d w a.manager a.id) (sym c.words_for.ensures) ∙ sym c.locate_by-place.ensures ∙ refused-place _ _ _ c.in_default.is c.number_of.ensures
 
 -- by a manager of the settings, in a sound record
 by : (c : goal.In-At)
     → let a = c.args in
-    is_manager a.t1.settings a.manager ≡ true
+    is_manager a.d.settings a.manager ≡ true
 by c = (where_by-at _ _ _ _ _ (found c)).0
 
 located : (c : goal.In-At)
     → let a = c.args in
-    Located a.t1 (words_for (length a.area.now)) a.id c.in-At.i
+    Located a.d (words_for (length a.area.now)) a.id c.in-At.i
 located c = where_is-at _ _ _ _ (where_by-at _ _ _ _ _ (found c)).1
 
 -- the header that was read
@@ -66,7 +64,7 @@ listed c = sym c.read_header-header.ensures.is ∙ c.in-Is.is
 -- what is known of its ranges, once they have passed
 known : (c : goal.Else-refusal-ne0)
     → let a = c.args in
-    Listed a.t1.settings a.manager (units_of a.t1) (managed_of a.t1 a.manager) (counts_of a.t1) a.«data».now c.in-Is.g c.in-Is.n (listed c.before.before.before)
+    Listed a.d.settings a.manager (units_of a.d) (managed_of a.d a.manager) (counts_of a.d) a.«data».now c.in-Is.g c.in-Is.n (listed c.before.before.before)
 known c = listed-known _ _ _ _ _ _ _ _ (listed c.before.before.before) _ c.listed_refusal-refusal.ensures c.if-refusal-ne0.false
 
 -- TODO a place stands alone, Else-refusal-ne0
@@ -84,14 +82,13 @@ starts c =
     let l = located c.before.before.before.before.before.before.before.before.before.before.before.before in
     rw (read c) (start-known _ _ _ _ _ _ l.sound l.used c.in-Off.is (listed c.before.before.before.before) (known c.before))
 
--- TODO no step Units-in at After-units_in
 -- TODO a place stands alone, After-slice_known-1
 -- TODO a place stands alone, After-read_ranges-ranges
 -- the sizes are those of the record in which the controller is tracked
 sizes : (c : goal.After-sizes_with-sizes)
     → c.sizes_with-sizes.result ≡ sizes_of (tracking c.args.d c.args.manager c.in-At.i c.in-Is.g c.in-Is.n c.read_ranges-ranges.result)
 sizes c =
-    c.sizes_with-sizes.ensures ∙ rw (c.shares-shares.ensures, c.Units-in.ensures.0) (starts-sizes c.args.d (eight r.before.before.before.before.before.before.before.before.before.before.before.before.before.before.before.before.before.before) _ _ _ _ (starts r) c.args.manager)
+    c.sizes_with-sizes.ensures ∙ rw (c.shares-shares.ensures, c.units_in-units.ensures.0) (starts-sizes c.args.d (eight r.before.before.before.before.before.before.before.before.before.before.before.before.before.before.before.before.before.before) _ _ _ _ (starts r) c.args.manager)
 
 pub returns-in_default : goal.returns-in_default
 returns-in_default c = leaves _ _ _ _ _ (start-refused _ _ _ _ _ _ _ (refused (goal.at.returns-in_default c).After-number_of)) c.refused.ensures refl
@@ -136,7 +133,7 @@ pub pack-requires : goal.pack-requires
 pack-requires c =
     let a = c.args in
     let whole = area-whole _ (located (goal.at.pack-requires c).In-At).whole in
-    (whole, rw (sizes (goal.at.pack-requires c).After-sizes_with-sizes, c.bases_of.ensures, c.shares-shares.ensures) (starts-packs a.t1 (eight (goal.at.pack-requires c).After-slice_known-1) _ _ _ _ (starts (goal.at.pack-requires c).After-read_ranges-ranges) a.manager a.area.now whole))
+    (whole, rw (sizes (goal.at.pack-requires c).After-sizes_with-sizes, c.bases_of.ensures, c.shares-shares.ensures) (starts-packs a.d (eight (goal.at.pack-requires c).After-slice_known-1) _ _ _ _ (starts (goal.at.pack-requires c).After-read_ranges-ranges) a.manager a.area.now whole))
 
 pub overflow_cast-n-3 : goal.overflow_cast-n-3
 overflow_cast-n-3 c = omega (arith, (starts (goal.at.overflow_cast-n-3 c).After-read_ranges-ranges).few)

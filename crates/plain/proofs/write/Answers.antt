@@ -20,15 +20,13 @@ use Rattle.plain.proofs.write.Goals as goal
 -- the place that was found, or the refusal
 found : (c : goal.In-At)
     → let a = c.args in
-    where_is a.t1 (words_for (length a.area.now)) a.id ≡ At c.in-At.i
+    where_is a.d (words_for (length a.area.now)) a.id ≡ At c.in-At.i
 found c = rw (sym c.words_for.ensures) (sym c.locate-place.ensures ∙ c.in-At.is)
 
--- TODO no step number_of_lem at After-number_of
--- TODO no step number_of_lem at After-number_of
 refused : (c : goal.After-number_of-number)
     → let a = c.args in
-    where_is a.t1 (words_for (length a.area.now)) a.id ≡ Refused c.number_of_lem.result
-refused c = rw (sym c.words_for.ensures) (sym c.locate-place.ensures ∙ refused-place _ _ _ c.in_default.is c.number_of_lem.ensures)
+    where_is a.d (words_for (length a.area.now)) a.id ≡ Refused c.number_of-number.result
+refused c = rw (sym c.words_for.ensures) (sym c.locate-place.ensures ∙ refused-place _ _ _ c.in_default.is c.number_of-number.ensures)
 
 below : (c : goal.In-At) → c.in-At.i < 8
 below c = (where_is-at _ _ _ _ (found c)).below
@@ -44,7 +42,7 @@ there c =
 -- what the way over the units of a tracked controller asks
 asks : (c : goal.After-bytes_of-size)
     → let a = c.args in
-    Way c.bytes_of-size.result.0 c.in-On.n c.ranges_of-ranges.result a.area.now (get_or a.t1.controllers c.in-At.i no_controller).base
+    Way c.bytes_of-size.result.0 c.in-On.n c.ranges_of-ranges.result a.area.now (get_or a.d.controllers c.in-At.i no_controller).base
 asks c =
     way _ _ _ _ (found k.before.before.before.before.before.before.before) (there k.before.before.before.before.before.before.before) _ _ c.in-On.is _ c.bytes_of-size.ensures _ c.ranges_of-ranges.ensures.0 c.ranges_of-ranges.ensures.1
 
@@ -78,7 +76,7 @@ bytes_of-size-requires c =
 pub overflow_add-at : goal.overflow_add-at
 overflow_add-at c =
     let a = c.args in
-    let w = (note-passes (get_or a.t1.controllers c.in-At.i no_controller).suspended (record { address = a.at; bytes = a.bytes.0 }) (sym c.note_number-number.ensures ∙ c.if-number-ne0.false)).1 in
+    let w = (note-passes (get_or a.d.controllers c.in-At.i no_controller).suspended (record { address = a.at; bytes = a.bytes.0 }) (sym c.note_number-number.ensures ∙ c.if-number-ne0.false)).1 in
     omega (arith, w, c.if-length-eq0.false)
 
 pub mark_units-count-requires : goal.mark_units-count-requires

@@ -22,7 +22,7 @@ use Rattle.plain_logged.proofs.pending_units.Goals as goal
 -- the place that was found
 found : (c : goal.In-At)
     → let a = c.args in
-    where_is a.t1 (words_for (length a.area.now)) a.id ≡ At c.in-At.i
+    where_is a.d (words_for (length a.area.now)) a.id ≡ At c.in-At.i
 found c = rw c.words_for.ensures at (sym c.locate-place.ensures ∙ c.in-At.is)
 
 -- it is below 8
@@ -40,18 +40,18 @@ abbrev place : tie.After-known-told2 → tie.After-known-told
 place c = c.before.before.before.before
 
 abbrev controller-in : tie.After-known-told2 → Controller
-controller-in c = get_or (place c).before.before.before.before.before.before.args.t1.controllers (place c).before.place.given.0.0 no_controller
+controller-in c = get_or (place c).before.before.before.before.before.before.args.d.controllers (place c).before.place.given.0.0 no_controller
 
 -- what it holds
 held : (c : goal.In-On)
     → let n = c.in-On.n in
-    HeldFacts (place c).before.before.before.before.before.before.args.t1.settings c.in-On.g n (take n (controller-in c).ranges)
+    HeldFacts (place c).before.before.before.before.before.before.args.d.settings c.in-On.g n (take n (controller-in c).ranges)
 held c = held_at _ _ _ _ (found (place c)) (there (place c)) _ _ c.in-On.is
 
 pub returns-in_default : goal.returns-in_default
 returns-in_default c =
     let a = c.args in
-    held-nowhere in_bytes a.t1 a.area.now a.id _ (rw c.words_for.ensures at (sym c.locate-place.ensures ∙ c.in_default.is))
+    held-nowhere in_bytes a.d a.area.now a.id _ (rw c.words_for.ensures at (sym c.locate-place.ensures ∙ c.in_default.is))
 
 pub offset_bounds-d-i : goal.offset_bounds-d-i
 offset_bounds-d-i c = omega (arith, below c)
@@ -65,20 +65,18 @@ returns-in_default-t c = held-off in_bytes _ _ _ _ (found (goal.at.returns-in_de
 pub units_in-units-requires : goal.units_in-units-requires
 units_in-units-requires c = let h = held (goal.at.units_in-units-requires c).In-On in (h.small, h.few, rw c.ranges_of-ranges.ensures.0 h.rows)
 
--- TODO no step Units-in at After-units_in
 -- its bytes lie within the area
 pub count_units-requires : goal.count_units-requires
 count_units-requires c =
     let r = c.ranges_of-ranges in
-    let u = c.Units-in.ensures.0 in
+    let u = c.units_in-units.ensures.0 in
     let a = (place (goal.at.count_units-requires c).In-On).before.before.before.before.before.before.args in
     omega (arith, rw r.ensures.0 at u, area-whole (length a.area.now) (where_is-at _ _ _ _ (found (place (goal.at.count_units-requires c).In-On))).whole, share-within _ _ _ _ (found (place (goal.at.count_units-requires c).In-On)) (there (place (goal.at.count_units-requires c).In-On)) _ _ c.in-On.is (omega (arith, ap length r.ensures.0, r.ensures.1)))
 
--- TODO no step Units-in at After-units_in
 pub returns : goal.returns
 returns c =
     let a = (place (goal.at.returns c).In-On).before.before.before.before.before.before.args in
-    let u = c.Units-in.ensures.0 in
+    let u = c.units_in-units.ensures.0 in
     let r = c.ranges_of-ranges.ensures.0 in
     let us = units c.in-On.g (take c.in-On.n (controller-in (goal.at.returns c).In-On).ranges) in
     let e = rw r at u in

@@ -13,16 +13,16 @@ loop-i-init c = (search rules, refl)
 pub returns-then-covers : goal.returns-then-covers
 returns-then-covers c =
     let a = c.args in
-    sym (c.loop-i.invariant.1 ∙ any-hit (λ q. covers a.size q a.address) a.t1 a.row c.loop-i.i no_range (omega arith) (omega arith) (sym c.covers.ensures ∙ c.if-covers.true))
+    sym (c.loop-i.invariant.1 ∙ any-hit (λ q. covers a.size q a.address) a.ranges a.row c.loop-i.i no_range (omega arith) (omega arith) (sym c.covers.ensures ∙ c.if-covers.true))
 
 pub loop-i-preserved : goal.loop-i-preserved
 loop-i-preserved c =
     let a = c.args in (
       c.loop-i.invariant.0,
-      c.loop-i.invariant.1 ∙ any_next (λ q. covers a.size q a.address) a.t1 a.row c.loop-i.i no_range (omega arith) (omega arith) (sym c.covers.ensures ∙ c.if-covers.false),
+      c.loop-i.invariant.1 ∙ any_next (λ q. covers a.size q a.address) a.ranges a.row c.loop-i.i no_range (omega arith) (omega arith) (sym c.covers.ensures ∙ c.if-covers.false),
     )
 
 pub returns : goal.returns
 returns c =
     let a = c.args in
-    sym (c.loop-i.invariant.1 ∙ any-end (λ q. covers a.size q a.address) a.t1 a.row c.loop-i.i (omega arith))
+    sym (c.loop-i.invariant.1 ∙ any-end (λ q. covers a.size q a.address) a.ranges a.row c.loop-i.i (omega arith))

@@ -13,10 +13,10 @@ use Rattle.plain_marks.proofs.list_units.Goals as goal
 -- a unit ends at most at 2^64
 ends : (c : goal.In-loop-unit)
     → let a = c.args in
-    (row_of a.t5 c.loop-row.row).start + c.loop-unit.unit * a.size + a.size ≤ 18446744073709551616
+    (row_of a.ranges c.loop-row.row).start + c.loop-unit.unit * a.size + a.size ≤ 18446744073709551616
 ends c =
     let a = c.args in
-    unit-within a.size (row_of a.t5 c.loop-row.row).start (row_of a.t5 c.loop-row.row).length c.loop-unit.unit c.loop-unit-test.true
+    unit-within a.size (row_of a.ranges c.loop-row.row).start (row_of a.ranges c.loop-row.row).length c.loop-unit.unit c.loop-unit-test.true
     (c.requires.3 c.loop-row.row (omega arith))
 
 -- there is room for the descriptor of a run that is growing
@@ -116,8 +116,7 @@ end_run-runs-requires-in-loop-row c = roomy (goal.at.end_run-runs-requires-in-lo
 
 pub loop-row-preserved : goal.loop-row-preserved
 loop-row-preserved c =
-    let r = c.end_run-runs-in-loop-row in
-    (
+    let r = c.end_run-runs-in-loop-row in (
       omega (arith, c.loop-unit.invariant.0, c.loop-row.invariant.0),
       stored-length c.loop-unit.units c.loop-unit.runs c.loop-unit.start c.loop-unit.buffer _ r.ensures.1 ∙ c.loop-unit.invariant.1 ∙ c.loop-row.invariant.1,
       c.loop-row.invariant.2,
@@ -134,4 +133,4 @@ pub returns : goal.returns
 returns c =
     let a = c.args in
     listing-promise _ _ _ _ _ _ _ _ _ _ (omega (arith, c.requires.2))
-    (listing-done _ _ _ _ _ _ _ _ _ _ _ _ _ _ _ _ c.loop-row.invariant.3 (omega (arith, length-take a.n a.t5, c.loop-row-test.false)))
+    (listing-done _ _ _ _ _ _ _ _ _ _ _ _ _ _ _ _ c.loop-row.invariant.3 (omega (arith, length-take a.n a.ranges, c.loop-row-test.false)))

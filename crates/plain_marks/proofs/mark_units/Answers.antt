@@ -17,23 +17,23 @@ use Rattle.plain_marks.proofs.mark_units.Goals as goal
 -- a unit ends at most at 2^64
 ends : (c : goal.In-loop-unit)
     → let a = c.args in
-    (row_of a.t5 c.loop-row.row).start + c.loop-unit.unit * a.size + a.size ≤ 18446744073709551616
+    (row_of a.ranges c.loop-row.row).start + c.loop-unit.unit * a.size + a.size ≤ 18446744073709551616
 ends c =
     let a = c.args in
-    unit-within a.size (row_of a.t5 c.loop-row.row).start (row_of a.t5 c.loop-row.row).length c.loop-unit.unit c.loop-unit-test.true
+    unit-within a.size (row_of a.ranges c.loop-row.row).start (row_of a.ranges c.loop-row.row).length c.loop-unit.unit c.loop-unit-test.true
     (c.requires.4 c.loop-row.row (omega arith))
 
 -- what is left to mark, where the unit is the controller's next
 own : (c : goal.Then-not-covered) (final : List ℕ) (total : ℕ)
     → let a = c.args in
-    Marking (write_to a.at a.last) (units_left a.size (take a.n a.t5) c.loop-row.row 0) c.loop-row.area c.loop-row.place c.loop-row.count final total
+    Marking (write_to a.at a.last) (units_left a.size (take a.n a.ranges) c.loop-row.row 0) c.loop-row.area c.loop-row.place c.loop-row.count final total
     → Marking (write_to a.at a.last)
-    (record { row = c.loop-row.row; address = (row_of a.t5 c.loop-row.row).start + c.loop-unit.unit * a.size; size = a.size } ∷ units_left a.size (take a.n a.t5) c.loop-row.row (c.loop-unit.unit + 1))
+    (record { row = c.loop-row.row; address = (row_of a.ranges c.loop-row.row).start + c.loop-unit.unit * a.size; size = a.size } ∷ units_left a.size (take a.n a.ranges) c.loop-row.row (c.loop-unit.unit + 1))
     c.loop-unit.area c.loop-unit.place c.loop-unit.count final total
 own c final total m =
     let a = c.args in
     marking-of _
-    (left-own a.size a.t5 a.n c.loop-row.row (omega arith) c.loop-unit.unit c.loop-unit-test.true (sym c.covered.ensures ∙ not-true _ c.if-not-covered.true-raw))
+    (left-own a.size a.ranges a.n c.loop-row.row (omega arith) c.loop-unit.unit c.loop-unit-test.true (sym c.covered.ensures ∙ not-true _ c.if-not-covered.true-raw))
     (c.loop-unit.invariant.1 final total m)
 
 -- its byte is there
@@ -45,7 +45,7 @@ loop-row-init c =
     let a = c.args in (
       refl,
       search rules,
-      marking-of _ (left-all a.size (take a.n a.t5)) (marking-start _ _ _ _ c.requires.3),
+      marking-of _ (left-all a.size (take a.n a.ranges)) (marking-start _ _ _ _ c.requires.3),
     )
 
 pub loop-unit-init : goal.loop-unit-init
@@ -70,7 +70,7 @@ pub overflow_add-count : goal.overflow_add-count
 overflow_add-count c =
     let a = c.args in
     let w = write_to a.at a.last in
-    let us = units_from a.size 0 [] (take a.n a.t5) in
+    let us = units_from a.size 0 [] (take a.n a.ranges) in
     let m = marking-hit w _ _ _ _ _ _ _ (own (goal.at.overflow_add-count c).Then-not-covered _ _ c.loop-row.invariant.2) _ _ (sym c.touches.ensures ∙ c.if-touches.true) (eqb-true _ _ c.if-area-place-eq0.true-raw) refl refl in
     omega (arith, m.counted, newly-le w us (marks_of a.area.now a.base (length us)))
 
@@ -95,7 +95,7 @@ loop-unit-preserved c =
           w.2.came))
           (λ w. rw (w.1, w.2, w.3)
           (marking-of _
-          (left-covered a.size a.t5 a.n c.loop-row.row (omega arith) c.loop-unit.unit c.loop-unit-test.true (sym c.covered.ensures ∙ not-false _ w.0.left))
+          (left-covered a.size a.ranges a.n c.loop-row.row (omega arith) c.loop-unit.unit c.loop-unit-test.true (sym c.covered.ensures ∙ not-false _ w.0.left))
           (c.loop-unit.invariant.1 final total m)))
           c.if-not-covered.branch,
     )
@@ -105,11 +105,11 @@ loop-row-preserved c =
     let a = c.args in (
       omega arith,
       c.loop-row.invariant.1,
-      marking-of _ (left_end a.size a.t5 a.n c.loop-row.row (omega arith) _ c.loop-unit-test.false) (c.loop-unit.invariant.1 _ _ c.loop-row.invariant.2),
+      marking-of _ (left_end a.size a.ranges a.n c.loop-row.row (omega arith) _ c.loop-unit-test.false) (c.loop-unit.invariant.1 _ _ c.loop-row.invariant.2),
     )
 
 pub returns : goal.returns
 returns c =
     let a = c.args in
     marking-done _ _ _ _ _ _ _ c.requires.3
-    (marking-of _ (left-none a.size (take a.n a.t5) c.loop-row.row 0 (omega (arith, length-take a.n a.t5, c.loop-row-test.false))) c.loop-row.invariant.2)
+    (marking-of _ (left-none a.size (take a.n a.ranges) c.loop-row.row 0 (omega (arith, length-take a.n a.ranges, c.loop-row-test.false))) c.loop-row.invariant.2)

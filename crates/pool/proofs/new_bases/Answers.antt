@@ -15,15 +15,15 @@ pub overflow_add-end : goal.overflow_add-end
 overflow_add-end c =
     let l = c.loop-i in
     let a = c.args in
-    omega (arith, new_base-next a.t1 l.i 8 (omega arith))
+    omega (arith, new_base-next a.sizes l.i 8 (omega arith))
 
 pub loop-i-preserved : goal.loop-i-preserved
 loop-i-preserved c =
     let l = c.loop-i in
     let a = c.args in (
-      bases-turn a.t1 l.bases l.to l.i (omega arith) l.invariant.0 l.invariant.2,
+      bases-turn a.sizes l.bases l.to l.i (omega arith) l.invariant.0 l.invariant.2,
       simp length-set l.invariant.1,
-      omega (arith, new_base-more a.t1 l.i),
+      omega (arith, new_base-more a.sizes l.i),
       omega arith,
     )
 

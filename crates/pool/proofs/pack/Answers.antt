@@ -12,22 +12,17 @@ use Rattle.pool.proofs.pack.Goals as goal
 pub loop-i-init : goal.loop-i-init
 loop-i-init c =
     let a = c.args in
-    (packing-none (flat a.marks.now) a.t2 a.t3 a.clear 256 (omega (arith, flat-length a.marks.now)), refl)
+    (packing-none (flat a.marks.now) a.bases a.sizes a.clear 256 (omega (arith, flat-length a.marks.now)), refl)
 
--- TODO no step loop at After-slice_known
--- TODO no place before Start
--- TODO no step if1 at In-loop
--- TODO no step if2 at Then1
 pub copy_span-requires : goal.copy_span-requires
 copy_span-requires c =
-    let l = c.loop in
-    let s = c.before.before.before.before.before.before.before in
-    let m = flat s.args.marks.now in
+    let l = c.loop-i in
+    let m = flat c.args.marks.now in
     omega (
       arith,
-      flat-length s.args.marks.now,
-      packing-fits m s.args.t2 s.args.t3 s.args.clear s.requires.1 l.invariant.0 (omega arith),
-      s.requires.1.inside l.i (omega arith) c.if1.true (ltb-true _ _ c.if2.true),
+      flat-length c.args.marks.now,
+      packing-fits m c.args.bases c.args.sizes c.args.clear c.requires.1 l.invariant.0 (omega arith),
+      c.requires.1.inside l.i (omega arith) c.if-i-clear.true (ltb-true _ _ c.if-n-gt0.true-raw),
     )
 
 pub overflow_add-to : goal.overflow_add-to

@@ -16,12 +16,10 @@ found : (c : goal.In-At)
     where_is a.d a.words a.id ≡ At c.in-At.i
 found c = sym c.locate-place.ensures ∙ c.in-At.is
 
--- TODO no step number_of_lem at After-number_of
--- TODO no step number_of_lem at After-number_of
 refused : (c : goal.After-number_of-number)
     → let a = c.args in
-    where_is a.d a.words a.id ≡ Refused c.number_of_lem.result
-refused c = sym c.locate-place.ensures ∙ refused-place _ _ _ c.in_default.is c.number_of_lem.ensures
+    where_is a.d a.words a.id ≡ Refused c.number_of-number.result
+refused c = sym c.locate-place.ensures ∙ refused-place _ _ _ c.in_default.is c.number_of-number.ensures
 
 pub returns-in_default : goal.returns-in_default
 returns-in_default c = sym (make-refused _ _ _ _ _ (refused c))

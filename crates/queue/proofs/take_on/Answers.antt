@@ -22,12 +22,10 @@ found : (c : goal.In-At)
     where_is a.d a.words a.id ≡ At c.in-At.i
 found c = sym c.locate-place.ensures ∙ c.in-At.is
 
--- TODO no step number_of_lem at After-number_of
--- TODO no step number_of_lem at After-number_of
 refused : (c : goal.After-number_of-number)
     → let a = c.args in
-    where_is a.d a.words a.id ≡ Refused c.number_of_lem.result
-refused c = sym c.locate-place.ensures ∙ refused-place _ _ _ c.in_default.is c.number_of_lem.ensures
+    where_is a.d a.words a.id ≡ Refused c.number_of-number.result
+refused c = sym c.locate-place.ensures ∙ refused-place _ _ _ c.in_default.is c.number_of-number.ensures
 
 -- it is below 8, and the record has its eight controllers
 below : (c : goal.In-At) → c.in-At.i < 8

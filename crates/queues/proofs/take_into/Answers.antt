@@ -2,6 +2,5 @@
 use Rattle.std.proofs.Common.{arith}
 use Rattle.queues.proofs.take_into.Goals as goal
 
--- TODO no step take at After-take-arg
 pub put_taken-waiting-requires : goal.put_taken-waiting-requires
-put_taken-waiting-requires c = let t = c.take in omega (arith, t.ensures, t.auto.1)
+put_taken-waiting-requires c = let t = c.take-taken in omega (arith, t.ensures, t.auto.1)

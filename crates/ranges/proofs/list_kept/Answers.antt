@@ -20,17 +20,17 @@ nothing r k e f = (e ∙ sym f, omega (arith, ap (λ (x : Kept). x.most.0) e))
 -- past the loop the lengths are added and each range passes by itself
 added : (c : goal.After-loop-i)
     → let a = c.args in
-    lengths_of (take a.n a.t4) ≡ c.loop-i.total
+    lengths_of (take a.n a.ranges) ≡ c.loop-i.total
 added c =
     let a = c.args in
-    omega (arith, sum-end (λ r. r.length) a.t4 a.n c.loop-i.i (omega arith), c.loop-i.invariant.4)
+    omega (arith, sum-end (λ r. r.length) a.ranges a.n c.loop-i.i (omega arith), c.loop-i.invariant.4)
 
 passed : (c : goal.After-loop-i)
     → let a = c.args in
-    all (each_ok a.s a.g) (take a.n a.t4) ≡ true
+    all (each_ok a.s a.g) (take a.n a.ranges) ≡ true
 passed c =
     let a = c.args in
-    c.loop-i.invariant.5 ∙ all_end (each_ok a.s a.g) a.t4 a.n c.loop-i.i (omega arith)
+    c.loop-i.invariant.5 ∙ all_end (each_ok a.s a.g) a.ranges a.n c.loop-i.i (omega arith)
 
 pub returns-then-m-lt1 : goal.returns-then-m-lt1
 returns-then-m-lt1 c = nothing _ _ c.broken.ensures (kept-empty _ _ _ _ c.if-m-lt1.true)
@@ -46,37 +46,36 @@ returns-then-not-row_ok c =
     let a = c.args in
     nothing _ _ c.broken-then-not-row_ok.ensures
     (kept-not _ _ _ _ (omega arith) (omega arith)
-    (c.loop-i.invariant.5 ∙ all-miss (each_ok a.s a.g) a.t4 a.n c.loop-i.i no_range (omega arith) (omega arith) (sym c.row_ok.ensures ∙ not-true _ c.if-not-row_ok.true-raw)))
+    (c.loop-i.invariant.5 ∙ all-miss (each_ok a.s a.g) a.ranges a.n c.loop-i.i no_range (omega arith) (omega arith) (sym c.row_ok.ensures ∙ not-true _ c.if-not-row_ok.true-raw)))
 
 pub loop-i-preserved : goal.loop-i-preserved
 loop-i-preserved c =
     let a = c.args in
-    let e = sum-next (λ r. r.length) a.t4 a.n c.loop-i.i no_range (omega arith) (omega arith) in (
+    let e = sum-next (λ r. r.length) a.ranges a.n c.loop-i.i no_range (omega arith) (omega arith) in (
       c.loop-i.invariant.0,
       c.loop-i.invariant.1,
       omega arith,
       omega arith,
       omega (arith, e, c.loop-i.invariant.4, c.length_of-u.ensures.0),
-      c.loop-i.invariant.5 ∙ all-next (each_ok a.s a.g) a.t4 a.n c.loop-i.i no_range (omega arith) (omega arith) (sym c.row_ok.ensures ∙ not-false _ c.if-not-row_ok.false-raw),
+      c.loop-i.invariant.5 ∙ all-next (each_ok a.s a.g) a.ranges a.n c.loop-i.i no_range (omega arith) (omega arith) (sym c.row_ok.ensures ∙ not-false _ c.if-not-row_ok.false-raw),
     )
 
 pub returns-then-total-le-MOST_UNITS : goal.returns-then-total-le-MOST_UNITS
 returns-then-total-le-MOST_UNITS c =
     let a = c.args in (
-      sym (kept-few a.s a.g a.n (take a.n a.t4) (omega arith) (omega arith) (passed (goal.at.returns-then-total-le-MOST_UNITS c).After-loop-i) (omega (arith, added (goal.at.returns-then-total-le-MOST_UNITS c).After-loop-i)) ∙ ap (kept_by true) (added (goal.at.returns-then-total-le-MOST_UNITS c).After-loop-i)),
+      sym (kept-few a.s a.g a.n (take a.n a.ranges) (omega arith) (omega arith) (passed (goal.at.returns-then-total-le-MOST_UNITS c).After-loop-i) (omega (arith, added (goal.at.returns-then-total-le-MOST_UNITS c).After-loop-i)) ∙ ap (kept_by true) (added (goal.at.returns-then-total-le-MOST_UNITS c).After-loop-i)),
       omega arith,
     )
 
 pub units_in-most-requires : goal.units_in-most-requires
 units_in-most-requires c =
     let a = c.args in
-    (c.requires, omega arith, each_rows a.s a.g (take a.n a.t4) (passed (goal.at.units_in-most-requires c).After-loop-i))
+    (c.requires, omega arith, each_rows a.s a.g (take a.n a.ranges) (passed (goal.at.units_in-most-requires c).After-loop-i))
 
--- TODO no step Units-in at After-units_in
 pub returns : goal.returns
 returns c =
     let a = c.args in
-    let is = c.Units-in.ensures.0 in (
-      sym (kept-counted a.s a.g a.n (take a.n a.t4) (omega arith) (omega arith) (passed (goal.at.returns c).After-loop-i) (omega (arith, added (goal.at.returns c).After-loop-i)) ∙ ap (kept_by true) (sym is)),
-      omega (arith, is, units-lengths a.g (take a.n a.t4), added (goal.at.returns c).After-loop-i),
+    let is = c.units_in-most.ensures.0 in (
+      sym (kept-counted a.s a.g a.n (take a.n a.ranges) (omega arith) (omega arith) (passed (goal.at.returns c).After-loop-i) (omega (arith, added (goal.at.returns c).After-loop-i)) ∙ ap (kept_by true) (sym is)),
+      omega (arith, is, units-lengths a.g (take a.n a.ranges), added (goal.at.returns c).After-loop-i),
     )

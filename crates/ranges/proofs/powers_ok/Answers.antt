@@ -19,18 +19,18 @@ pub returns-then-not-is_power : goal.returns-then-not-is_power
 returns-then-not-is_power c =
     let a = c.args in
     sym (powers_ok-on _ _ (not-false _ c.if-not-s.false)
-    ∙ (c.loop-i.invariant.2 ∙ all-miss (λ r. is_power r.length) a.t3 a.n c.loop-i.i no_range (omega arith) (omega arith) (sym c.is_power.ensures ∙ not-true _ c.if-not-is_power.true-raw)))
+    ∙ (c.loop-i.invariant.2 ∙ all-miss (λ r. is_power r.length) a.ranges a.n c.loop-i.i no_range (omega arith) (omega arith) (sym c.is_power.ensures ∙ not-true _ c.if-not-is_power.true-raw)))
 
 pub loop-i-preserved : goal.loop-i-preserved
 loop-i-preserved c =
     let a = c.args in (
       c.loop-i.invariant.0,
       c.loop-i.invariant.1,
-      c.loop-i.invariant.2 ∙ all-next (λ r. is_power r.length) a.t3 a.n c.loop-i.i no_range (omega arith) (omega arith) (sym c.is_power.ensures ∙ not-false _ c.if-not-is_power.false-raw),
+      c.loop-i.invariant.2 ∙ all-next (λ r. is_power r.length) a.ranges a.n c.loop-i.i no_range (omega arith) (omega arith) (sym c.is_power.ensures ∙ not-false _ c.if-not-is_power.false-raw),
     )
 
 pub returns : goal.returns
 returns c =
     let a = c.args in
     sym (powers_ok-on _ _ (not-false _ c.if-not-s.false)
-    ∙ (c.loop-i.invariant.2 ∙ all_end (λ r. is_power r.length) a.t3 a.n c.loop-i.i (omega arith)))
+    ∙ (c.loop-i.invariant.2 ∙ all_end (λ r. is_power r.length) a.ranges a.n c.loop-i.i (omega arith)))

@@ -12,6 +12,5 @@ pub units_in-u-requires : goal.units_in-u-requires
 units_in-u-requires c =
     subst (λ t. Countable (held_in t c.args.c.manager c.args.c.ranges)) c.in-On.is c.requires
 
--- TODO no step Units-in at After-units_in
 pub returns : goal.returns
-returns c = sym (share_in-on _ _ _ _ _ _ _ c.in-On.is c.Units-in.ensures.0)
+returns c = sym (share_in-on _ _ _ _ _ _ _ c.in-On.is c.units_in-u.ensures.0)

@@ -18,12 +18,11 @@ returns-then-not-apart_from c =
     sym (c.loop-i.invariant.1 ∙ shares_ok-overlap c.args.shares c.loop-i.i (omega arith) (sym c.apart_from.ensures ∙ not-true _ c.if-not-apart_from.true-raw))
 
 pub loop-i-preserved : goal.loop-i-preserved
-loop-i-preserved c =
-    (
-      c.loop-i.invariant.0,
-      c.loop-i.invariant.1
-          ∙ shares_ok-next c.args.shares c.loop-i.i (omega arith) (sym c.is_inside.ensures ∙ not-false _ c.if-not-is_inside.false-raw) (sym c.apart_from.ensures ∙ not-false _ c.if-not-apart_from.false-raw),
-    )
+loop-i-preserved c = (
+  c.loop-i.invariant.0,
+  c.loop-i.invariant.1
+      ∙ shares_ok-next c.args.shares c.loop-i.i (omega arith) (sym c.is_inside.ensures ∙ not-false _ c.if-not-is_inside.false-raw) (sym c.apart_from.ensures ∙ not-false _ c.if-not-apart_from.false-raw),
+)
 
 pub returns : goal.returns
 returns c =

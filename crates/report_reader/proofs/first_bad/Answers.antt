@@ -15,12 +15,11 @@ returns-then-not-range_ok c =
     ∙ c.loop-i.invariant.1
 
 pub loop-i-preserved : goal.loop-i-preserved
-loop-i-preserved c =
-    (
-      search rules,
-      bad-later _ _ _ _ c.loop-i-test.true (sym (rw c.read_range-r.ensures at c.range_ok.ensures) ∙ not-false _ c.if-not-range_ok.false-raw)
-          ∙ c.loop-i.invariant.1,
-    )
+loop-i-preserved c = (
+  search rules,
+  bad-later _ _ _ _ c.loop-i-test.true (sym (rw c.read_range-r.ensures at c.range_ok.ensures) ∙ not-false _ c.if-not-range_ok.false-raw)
+      ∙ c.loop-i.invariant.1,
+)
 
 pub returns : goal.returns
 returns c =

@@ -73,26 +73,20 @@ pub loop-found-init : goal.loop-found-init
 loop-found-init c =
     (refl, refl, listing_start _ _ _ _ _ _ (omega (arith, c.requires.1.0.within, flat-length c.args.marks.now)))
 
--- TODO no place before Start
--- TODO no step loop at After-slice_known2
 pub next_pending-next-requires : goal.next_pending-next-requires
 next_pending-next-requires c =
-    let f = c.before.before.before.before in
-    let l = c.loop in
-    let h = f.requires.1.0 in
-    (f.requires.0.0, f.requires.0.1, f.requires.0.2, record { within = omega (arith, h.within, l.invariant.0); small = h.small }, l.invariant.2.stands)
+    let l = c.loop-found in
+    let h = c.requires.1.0 in
+    (c.requires.0.0, c.requires.0.1, c.requires.0.2, record { within = omega (arith, h.within, l.invariant.0); small = h.small }, l.invariant.2.stands)
 
--- TODO no step loop at After-slice_known2
--- TODO no step Units-in at After-units_in
 pub returns-in_default : goal.returns-in_default
 returns-in_default c =
     let q = subst (NextIs _ _ _ _) c.in_default.is c.next_pending-next.ensures in
-    listing-done _ _ _ _ _ _ (fits (goal.at.returns-in_default c).After-slice_known-2-1) _ _ _ _ _ _ c.loop.invariant.2 _ (q.0, c.Units-in.ensures ∙ ap units_in c.in_default.is ∙ q.1)
+    listing-done _ _ _ _ _ _ (fits (goal.at.returns-in_default c).After-slice_known-2-1) _ _ _ _ _ _ c.loop-found.invariant.2 _ (q.0, c.units_in-total.ensures ∙ ap units_in c.in_default.is ∙ q.1)
 
--- TODO no step loop at After-slice_known2
 pub returns-then-runs-room : goal.returns-then-runs-room
 returns-then-runs-room c =
-    listing_full _ _ _ _ _ _ (fits (goal.at.returns-then-runs-room c).After-slice_known-2-1) _ _ _ _ _ _ c.loop.invariant.2 _ (run_at (goal.at.returns-then-runs-room c).In-Is _ refl) c.if-runs-room.true
+    listing_full _ _ _ _ _ _ (fits (goal.at.returns-then-runs-room c).After-slice_known-2-1) _ _ _ _ _ _ c.loop-found.invariant.2 _ (run_at (goal.at.returns-then-runs-room c).In-Is _ refl) c.if-runs-room.true
 
 pub run_from-run-requires : goal.run_from-run-requires
 run_from-run-requires c =

@@ -14,18 +14,18 @@ pub returns-then-s-i : goal.returns-then-s-i
 unfolding place_of
 returns-then-s-i c =
     let a = c.args in
-    ap found_at (sym (c.loop-i.invariant.2 ∙ place_from-hit a.id a.t1.identifiers a.t1.count c.loop-i.i (omega arith) (omega arith) c.if-s-i.true))
+    ap found_at (sym (c.loop-i.invariant.2 ∙ place_from-hit a.id a.s.identifiers a.s.count c.loop-i.i (omega arith) (omega arith) c.if-s-i.true))
 
 pub loop-i-preserved : goal.loop-i-preserved
 loop-i-preserved c =
     let a = c.args in (
       c.loop-i.invariant.0,
       c.loop-i.invariant.1,
-      c.loop-i.invariant.2 ∙ place_from-next a.id a.t1.identifiers a.t1.count c.loop-i.i (omega arith) (omega arith) c.if-s-i.false,
+      c.loop-i.invariant.2 ∙ place_from-next a.id a.s.identifiers a.s.count c.loop-i.i (omega arith) (omega arith) c.if-s-i.false,
     )
 
 pub returns : goal.returns
 unfolding place_of
 returns c =
     let a = c.args in
-    ap found_at (sym (c.loop-i.invariant.2 ∙ place_from-end a.id a.t1.identifiers a.t1.count c.loop-i.i (omega arith)))
+    ap found_at (sym (c.loop-i.invariant.2 ∙ place_from-end a.id a.s.identifiers a.s.count c.loop-i.i (omega arith)))

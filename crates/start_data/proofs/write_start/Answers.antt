@@ -3,14 +3,11 @@ use borrow.Author.Rules.{rules}
 use Rattle.start_data.proofs.Cases.{write-start-many, write-start-short, write-start-whole}
 use Rattle.start_data.proofs.write_start.Goals as goal
 
--- TODO clauses ['number', 'bytes']
 pub returns-then-count-gt16 : goal.returns-then-count-gt16
-returns-then-count-gt16 c = write-start-many _ _ _ _ (search rules)
+returns-then-count-gt16 c = let all = write-start-many _ _ _ _ (search rules) in record { number = all.0; bytes = all.1 }
 
--- TODO clauses ['number', 'bytes']
 pub returns-then-buffer-n : goal.returns-then-buffer-n
-returns-then-buffer-n c = write-start-short _ _ _ _ (search rules) (search rules)
+returns-then-buffer-n c = let all = write-start-short _ _ _ _ (search rules) (search rules) in record { number = all.0; bytes = all.1 }
 
--- TODO clauses ['number', 'bytes']
 pub returns : goal.returns
-returns c = write-start-whole _ _ _ _ _ _ (search rules) (search rules) (search rules) c.put_header.ensures c.put_ranges.ensures
+returns c = let all = write-start-whole _ _ _ _ _ _ (search rules) (search rules) (search rules) c.put_header.ensures c.put_ranges.ensures in record { number = all.0; bytes = all.1 }

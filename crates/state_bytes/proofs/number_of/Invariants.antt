@@ -8,7 +8,7 @@ use Rattle.state_bytes.proofs.number_of.Given as goal
 
 abbrev pub invariant-loop-i : goal.invariant-loop-i
 invariant-loop-i l =
-    (l.i ≤ l.width) × (l.v < 256 ^ (l.width - l.i)) × (l.v ≡ number_at (assembled l.area l.offset «data») (l.at + l.i) (l.width - l.i))
+    (l.i ≤ l.width) × (l.v < 256 ^ (l.width - l.i)) × (l.v ≡ number_at (assembled l.area l.offset l.data) (l.at + l.i) (l.width - l.i))
 
 abbrev pub decreases-loop-i : goal.decreases-loop-i
 decreases-loop-i l = l.i

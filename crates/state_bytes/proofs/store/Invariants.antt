@@ -8,7 +8,7 @@ use Rattle.state_bytes.proofs.store.Given as goal
 
 abbrev pub invariant-loop-i : goal.invariant-loop-i
 invariant-loop-i l =
-    (length l.area ≡ length l.initial.area) × (l.i ≤ length «data») × (put l.area (l.offset + l.i) (drop l.i «data») ≡ put l.initial.area l.offset «data»)
+    (length l.area ≡ length l.initial.area) × (l.i ≤ length l.data) × (put l.area (l.offset + l.i) (drop l.i l.data) ≡ put l.initial.area l.offset l.data)
 
 abbrev pub decreases-loop-i : goal.decreases-loop-i
-decreases-loop-i l = length «data» - l.i
+decreases-loop-i l = length l.data - l.i

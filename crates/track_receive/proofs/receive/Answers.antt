@@ -24,20 +24,18 @@ use Rattle.track_receive.proofs.receive.Goals as goal
 -- the place that was found, or the refusal
 found : (c : goal.In-At)
     → let a = c.args in
-    where_by a.t1 (length a.marks.now) a.manager a.id ≡ At c.in-At.i
+    where_by a.d (length a.marks.now) a.manager a.id ≡ At c.in-At.i
 found c = sym c.locate_by-place.ensures ∙ c.in-At.is
 
--- TODO no step number_of_lem at After-number_of
--- TODO no step number_of_lem at After-number_of
 refused : (c : goal.After-number_of)
     → let a = c.args in
-    where_by a.t1 (length a.marks.now) a.manager a.id ≡ Refused c.number_of_lem.result
-refused c = sym c.locate_by-place.ensures ∙ refused-place _ _ _ c.in_default.is c.number_of_lem.ensures
+    where_by a.d (length a.marks.now) a.manager a.id ≡ Refused c.number_of.result
+refused c = sym c.locate_by-place.ensures ∙ refused-place _ _ _ c.in_default.is c.number_of.ensures
 
 -- whichever manager asks
 placed : (c : goal.In-At)
     → let a = c.args in
-    where_is a.t1 (length a.marks.now) a.id ≡ At c.in-At.i
+    where_is a.d (length a.marks.now) a.id ≡ At c.in-At.i
 placed c = (where_by-at _ _ _ _ _ (found c)).1
 
 below : (c : goal.In-At) → c.in-At.i < 8
@@ -54,7 +52,7 @@ abbrev place : tie.After-known-told2 → tie.After-known-told
 place c = c.before.before.before.before.before
 
 abbrev record-in : tie.After-known-told2 → Device
-record-in c = (place c).before.before.before.before.before.before.args.t1
+record-in c = (place c).before.before.before.before.before.before.args.d
 
 abbrev controller-in : tie.After-known-told2 → Controller
 controller-in c = get_or (record-in c).controllers (place c).before.place.given.0.0 no_controller
@@ -105,7 +103,7 @@ returns-then-size-lt32 c =
 pub list_runs-listed-requires : goal.list_runs-listed-requires
 list_runs-listed-requires c =
     let w = (where_is-at _ _ _ _ (placed (place (goal.at.list_runs-listed-requires c).In-On))).whole in
-    let f = fits (goal.at.list_runs-listed-requires c).After-ranges_of-ranges in record { fact_1 = ((held (goal.at.list_runs-listed-requires c).In-On).small, (held (goal.at.list_runs-listed-requires c).In-On).few, rw c.ranges_of-ranges.ensures.0 (held (goal.at.list_runs-listed-requires c).In-On).rows); fact_2 = (record { within = rw c.ranges_of-ranges.ensures.0 (omega (arith, f, w)); small = rw c.ranges_of-ranges.ensures.0 (omega (arith, f)) }, omega arith); }
+    let f = fits (goal.at.list_runs-listed-requires c).After-ranges_of-ranges in record { fact_1 = ((held (goal.at.list_runs-listed-requires c).In-On).small, (held (goal.at.list_runs-listed-requires c).In-On).few, rw c.ranges_of-ranges.ensures.0 (held (goal.at.list_runs-listed-requires c).In-On).rows); fact_2 = (record { within = rw c.ranges_of-ranges.ensures.0 (omega (arith, f, w)); small = rw c.ranges_of-ranges.ensures.0 (omega (arith, f)) }, omega arith) }
 
 pub overflow_cast-listed : goal.overflow_cast-listed
 overflow_cast-listed c =

@@ -15,14 +15,13 @@ use Rattle.track_send.proofs.install.Goals as goal
 eight : (c : goal.After-slice_known-1) → length c.args.d.controllers ≡ 8
 eight c = search (length-mapped, rules)
 
--- TODO no step Units-in at After-units_in
 -- TODO a place stands alone, After-slice_known-1
 -- the sizes are those of the record in which the controller is tracked
 sizes : (c : goal.After-sizes_with-sizes)
     → let a = c.args in
     c.sizes_with-sizes.result ≡ sizes_of (tracking a.d a.manager a.i a.g a.n a.ranges)
 sizes c =
-    c.sizes_with-sizes.ensures ∙ rw (c.shares-shares.ensures, c.Units-in.ensures.0) (starts-sizes c.args.d (eight k) _ _ _ _ c.requires.starts c.args.manager)
+    c.sizes_with-sizes.ensures ∙ rw (c.shares-shares.ensures, c.units_in-units.ensures.0) (starts-sizes c.args.d (eight k) _ _ _ _ c.requires.starts c.args.manager)
 
 pub shares-shares-requires : goal.shares-shares-requires
 shares-shares-requires c = let p = c.requires.starts in ((sound_device-facts c.args.d p.sound).settings, sound_device-all c.args.d p.sound)

@@ -32,20 +32,18 @@ read : (c : goal.After-read_ranges-ranges)
     c.read_ranges-ranges.result ≡ placed (records_at range_at 12 a.«data».now 8 a.n)
 read c = c.read_ranges-ranges.ensures ∙ ranges_read-there _ _ (omega arith) c.if-data-count.false
 
--- TODO no step Units-in at After-units_in
 -- TODO a place stands alone, Else-not-granularity_ok
 -- TODO a place stands alone, After-read_ranges-ranges
--- TODO no step Units-in at After-units_in
 -- TODO a place stands alone, After-read_ranges-ranges
 -- past the ranges' own the tests are left of what controllers share
 shared : (c : goal.After-units_in-units)
     → let a = c.args in
     let d = a.d in
     let m = a.manager in
-    let u = c.Units-in.result.0 in
+    let u = c.units_in-units.result.0 in
     refusal_at (listed_tests d.settings m (units_of d) (managed_of d m) (counts_of d) a.«data».now) ≡ refusal_at (shared_tests d.settings m (u + units_of d) (a.n + managed_of d m) (a.n + counts_of d))
 shared c =
-    listed-shared _ _ _ _ _ _ _ _ c.requires.2 (allowed k.before.before.before.before.before.before) c.if-data-count.false c.if-count-gt16.false _ (c.list_refusal-refusal.ensures ∙ rw (read r)) c.if-refusal-ne0.false _ (c.Units-in.ensures.0 ∙ rw (read r))
+    listed-shared _ _ _ _ _ _ _ _ c.requires.2 (allowed k.before.before.before.before.before.before) c.if-data-count.false c.if-count-gt16.false _ (c.list_refusal-refusal.ensures ∙ rw (read r)) c.if-refusal-ne0.false _ (c.units_in-units.ensures.0 ∙ rw (read r))
 
 -- the shares of a sound record have its units, which fit the pool
 held : (c : goal.After-together-held) → c.together-held.result ≡ units_of c.args.d
@@ -62,17 +60,15 @@ few c = sound-managed c.args.d.settings (map held_of (controllers_of c.args.d)) 
 counted : (c : goal.After-weights) → c.weights.result ≡ counts_of c.args.d
 counted c = c.weights.ensures ∙ sound_device-counts c.args.d c.requires.0
 
--- TODO no step Units-in at After-units_in
 -- TODO a place stands alone, After-together-held
 -- TODO a place stands alone, After-together-held
 -- at 11 the pool is passed; past it there is room, and past 12 the manager's limit is kept
-full : (c : goal.Then-units-held) → most_units < c.Units-in.result.0 + units_of c.args.d
+full : (c : goal.Then-units-held) → most_units < c.units_in-units.result.0 + units_of c.args.d
 full c = omega (arith, c.if-units-held.true, held c.before.before, most c.before.before)
 
--- TODO no step Units-in at After-units_in
 -- TODO a place stands alone, After-together-held
 -- TODO a place stands alone, After-together-held
-room : (c : goal.Else-units-held) → c.Units-in.result.0 + units_of c.args.d ≤ most_units
+room : (c : goal.Else-units-held) → c.units_in-units.result.0 + units_of c.args.d ≤ most_units
 room c = omega (arith, c.if-units-held.false, held c.before.before, most c.before.before)
 
 own : (c : goal.Else-count-managed) → let a = c.args in a.n + managed_of a.d a.manager ≤ limit_of a.d.settings a.manager

@@ -20,25 +20,23 @@ use Rattle.track_send.proofs.start.Goals as goal
 -- the place that was found, or the refusal
 found : (c : goal.In-At)
     → let a = c.args in
-    where_by a.t1 (length a.marks.now) a.manager a.id ≡ At c.in-At.i
+    where_by a.d (length a.marks.now) a.manager a.id ≡ At c.in-At.i
 found c = sym c.locate_by-place.ensures ∙ c.in-At.is
 
--- TODO no step number_of_lem at After-number_of
--- TODO no step number_of_lem at After-number_of
 refused : (c : goal.After-number_of)
     → let a = c.args in
-    where_by a.t1 (length a.marks.now) a.manager a.id ≡ Refused c.number_of_lem.result
-refused c = sym c.locate_by-place.ensures ∙ refused-place _ _ _ c.in_default.is c.number_of_lem.ensures
+    where_by a.d (length a.marks.now) a.manager a.id ≡ Refused c.number_of.result
+refused c = sym c.locate_by-place.ensures ∙ refused-place _ _ _ c.in_default.is c.number_of.ensures
 
 -- by a manager of the settings, in a sound record
 by : (c : goal.In-At)
     → let a = c.args in
-    is_manager a.t1.settings a.manager ≡ true
+    is_manager a.d.settings a.manager ≡ true
 by c = (where_by-at _ _ _ _ _ (found c)).0
 
 located : (c : goal.In-At)
     → let a = c.args in
-    Located a.t1 (length a.marks.now) a.id c.in-At.i
+    Located a.d (length a.marks.now) a.id c.in-At.i
 located c = where_is-at _ _ _ _ (where_by-at _ _ _ _ _ (found c)).1
 
 -- the header that was read
@@ -50,7 +48,7 @@ listed c = sym c.read_header-header.ensures.is ∙ c.in-Is.is
 -- what is known of its ranges, once they have passed
 known : (c : goal.Else-refusal-ne0)
     → let a = c.args in
-    Listed a.t1.settings a.manager (units_of a.t1) (managed_of a.t1 a.manager) (counts_of a.t1) a.«data».now c.in-Is.g c.in-Is.n (listed c.before.before.before)
+    Listed a.d.settings a.manager (units_of a.d) (managed_of a.d a.manager) (counts_of a.d) a.«data».now c.in-Is.g c.in-Is.n (listed c.before.before.before)
 known c = listed-known _ _ _ _ _ _ _ _ (listed c.before.before.before) _ c.listed_refusal-refusal.ensures c.if-refusal-ne0.false
 
 pub returns-in_default : goal.returns-in_default

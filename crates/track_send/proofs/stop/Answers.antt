@@ -20,20 +20,18 @@ use Rattle.track_send.proofs.stop.Goals as goal
 -- the place that was found, or the refusal
 found : (c : goal.In-At)
     → let a = c.args in
-    where_by a.t1 (length a.marks.now) a.manager a.id ≡ At c.in-At.i
+    where_by a.d (length a.marks.now) a.manager a.id ≡ At c.in-At.i
 found c = sym c.locate_by-place.ensures ∙ c.in-At.is
 
--- TODO no step number_of_lem at After-number_of
--- TODO no step number_of_lem at After-number_of
 refused : (c : goal.After-number_of-number)
     → let a = c.args in
-    where_by a.t1 (length a.marks.now) a.manager a.id ≡ Refused c.number_of_lem.result
-refused c = sym c.locate_by-place.ensures ∙ refused-place _ _ _ c.in_default.is c.number_of_lem.ensures
+    where_by a.d (length a.marks.now) a.manager a.id ≡ Refused c.number_of-number.result
+refused c = sym c.locate_by-place.ensures ∙ refused-place _ _ _ c.in_default.is c.number_of-number.ensures
 
 -- whichever manager asks
 placed : (c : goal.In-At)
     → let a = c.args in
-    where_is a.t1 (length a.marks.now) a.id ≡ At c.in-At.i
+    where_is a.d (length a.marks.now) a.id ≡ At c.in-At.i
 placed c = (where_by-at _ _ _ _ _ (found c)).1
 
 -- it is below 8
@@ -51,7 +49,7 @@ abbrev place : tie.After-known-told2 → tie.After-known-told
 place c = c.before.before.before.before.before.before
 
 abbrev controller-in : tie.After-known-told2 → Controller
-controller-in c = get_or (place c).before.before.before.before.before.args.t1.controllers (place c).before.place.given.0.0 no_controller
+controller-in c = get_or (place c).before.before.before.before.before.args.d.controllers (place c).before.place.given.0.0 no_controller
 
 -- by the manager that asks
 by : (c : goal.In-On)
@@ -64,7 +62,7 @@ tracked c = (tracking_by-on _ (controller-in c).tracking (controller-in c).manag
 -- what a tracked controller of a sound record holds
 held : (c : goal.In-On)
     → let n = c.in-On.n in
-    HeldFacts (place c).before.before.before.before.before.args.t1.settings c.in-On.g n (take n (controller-in c).ranges)
+    HeldFacts (place c).before.before.before.before.before.args.d.settings c.in-On.g n (take n (controller-in c).ranges)
 held c = held_at _ _ _ _ (placed (place c)) (there (place c)) _ _ (tracked c)
 
 pub returns-in_default : goal.returns-in_default
@@ -85,11 +83,10 @@ returns-in_default-t c = leaves-unchanged _ _ _ (stop-off _ _ _ _ _ _ (found (go
 pub units_in-units-requires : goal.units_in-units-requires
 units_in-units-requires c = let h = held (goal.at.units_in-units-requires c).In-On in (h.small, h.few, rw c.ranges_of-ranges.ensures.0 h.rows)
 
--- TODO no step Units-in at After-units_in
 pub clear_share-requires : goal.clear_share-requires
 clear_share-requires c =
     let r = c.ranges_of-ranges in
-    let u = c.Units-in.ensures.0 in (
+    let u = c.units_in-units.ensures.0 in (
       omega (arith, rw r.ensures.0 at u, share-within _ _ _ _ (placed (place (goal.at.clear_share-requires c).In-On)) (there (place (goal.at.clear_share-requires c).In-On)) _ _ (tracked (goal.at.clear_share-requires c).In-On) (omega (arith, ap length r.ensures.0, r.ensures.1))),
       (where_is-at _ _ _ _ (placed (place (goal.at.clear_share-requires c).In-On))).whole,
     )
@@ -97,11 +94,10 @@ clear_share-requires c =
 pub forgotten-device-requires : goal.forgotten-device-requires
 forgotten-device-requires c = below (place (goal.at.forgotten-device-requires c).In-On)
 
--- TODO no step Units-in at After-units_in
 pub returns : goal.returns
 returns c =
     let a = (place (goal.at.returns c).In-On).before.before.before.before.before.args in
     let r = c.ranges_of-ranges in
-    let u = c.Units-in.ensures.0 in
-    leaves _ _ _ _ _ (stop-done _ a.t1 a.manager a.id a.marks.now _ (found (place (goal.at.returns c).In-On)) _ _ c.if-c.left (by (goal.at.returns c).In-On))
+    let u = c.units_in-units.ensures.0 in
+    leaves _ _ _ _ _ (stop-done _ a.d a.manager a.id a.marks.now _ (found (place (goal.at.returns c).In-On)) _ _ c.if-c.left (by (goal.at.returns c).In-On))
     (rw c.forgotten-device.ensures) (c.clear_share.ensures ∙ rw (u, r.ensures.0))

@@ -16,7 +16,7 @@ use Rattle.writes.proofs.note.Goals as goal
 -- the place that was found
 found : (c : goal.In-At)
     → let a = c.args in
-    where_is a.t1 (length a.marks.now) a.id ≡ At c.in-At.i
+    where_is a.d (length a.marks.now) a.id ≡ At c.in-At.i
 found c = sound-found _ _ _ c.requires _ (sym c.find.ensures ∙ c.in-At.is)
 
 below : (c : goal.In-At) → c.in-At.i < 8

@@ -35,9 +35,8 @@ bounds-d-6 c = search (length-mapped, rules)
 pub bounds-d-7 : goal.bounds-d-7
 bounds-d-7 c = search (length-mapped, rules)
 
--- TODO no step Single-of at After-single_of
 pub returns-in-0 : goal.returns-in-0
-returns-in-0 c = single-known c.args.d.controllers _ 0 c.in-0.is _ c.Single-of.ensures
+returns-in-0 c = single-known c.args.d.controllers _ 0 c.in-0.is _ c.single_of.ensures
 
 pub returns-in-1 : goal.returns-in-1
 returns-in-1 c = single-known c.args.d.controllers _ 1 c.in-1.is _ c.single_of-in-1.ensures
