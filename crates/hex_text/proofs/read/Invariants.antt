@@ -3,7 +3,7 @@ use Rattle.std.proofs.Common.{◌+◌, ◌-◌, ◌≤◌, ◌≡◌, length}
 use Rattle.hex_text.proofs.read.Given as goal
 
 abbrev pub invariant-loop-i : goal.invariant-loop-i
-invariant-loop-i l = (length «data» ≡ length l.initial.data) × (l.size ≤ length l.initial.data) × (l.size + l.size ≤ length l.field) × (l.i ≤ l.size)
+invariant-loop-i l = (length l.data ≡ length l.initial.data) × (l.size ≤ length l.initial.data) × (l.size + l.size ≤ length l.field) × (l.i ≤ l.size)
 
 abbrev pub decreases-loop-i : goal.decreases-loop-i
 decreases-loop-i l = l.size - l.i
