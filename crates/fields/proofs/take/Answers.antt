@@ -6,9 +6,8 @@ use Rattle.fields.proofs.FieldLaws.{first_field-within}
 use Rattle.fields.proofs.NumberLaws.{number_fits}
 use Rattle.fields.proofs.take.Goals as goal
 
--- TODO no goal for slice-bounds-read-number-end
-part-read-number-end : tie.Need-slice-bounds-read-number-end
-part-read-number-end c = (first_field-within _ _ _ c.field-end.ensures (omega arith)).1
+pub slice_bounds-read_number-end : goal.slice_bounds-value-end
+slice_bounds-read_number-end c = (first_field-within _ _ _ c.field_end-to.ensures (omega arith)).1
 
 pub returns-then-at-line : goal.returns-then-at-line
 returns-then-at-line c = (omega arith, omega arith, omega arith, λ e. absurd (true≢false (sym e)))

@@ -8,13 +8,9 @@ use Rattle.measures.proofs.MeasureLaws.{whole_units-small}
 use Rattle.pieces.proofs.PieceLaws.{whole, overlap-is}
 use Rattle.pieces.proofs.overlap.Goals as goal
 
--- the other range begins at an address
-below : (c : goal.Start) → c.args.q.start < 2 ^ 64
-below c = omega arith
-
 pub overflow_add-b : goal.overflow_add-b
 overflow_add-b c =
-    omega (arith, c.length_of-length.ensures.1, c.whole_units-b.ensures, whole_units-small c.args.g c.args.q.start (below (goal.at.overflow_add-b c).Start))
+    omega (arith, c.length_of-length.ensures.1, c.whole_units-b.ensures, whole_units-small c.args.g c.args.q.start (omega arith))
 
 pub returns : goal.returns
 returns c =

@@ -6,16 +6,15 @@ use Rattle.rules.proofs.UnitLaws.{unit_size-pos}
 use Rattle.pieces.proofs.PieceLaws.{unit-below}
 use Rattle.pieces.proofs.part.Goals as goal
 
-begins : (c : goal.Start) → let a = c.args in a.r.start + bytes_of a.g a.s.from.0 < 2 ^ 64
-begins c =
-    let a = c.args in
-    unit-below (unit_size a.g) a.r.start a.r.length a.s.from.0 (unit_size-pos a.g) (omega arith) c.requires.1
-
 pub bytes_of-before-requires : goal.bytes_of-before-requires
-bytes_of-before-requires c = (c.requires.0, omega (arith, begins c))
+bytes_of-before-requires c =
+    let a = c.args in
+    (c.requires.0, omega (arith, unit-below (unit_size a.g) a.r.start a.r.length a.s.from.0 (unit_size-pos a.g) (omega arith) c.requires.1))
 
 pub overflow_add-start : goal.overflow_add-start
-overflow_add-start c = omega (arith, c.bytes_of-before.ensures, begins (goal.at.overflow_add-start c).After-bytes_of-arg-1)
+overflow_add-start c =
+    let a = c.args in
+    omega (arith, c.bytes_of-before.ensures, unit-below (unit_size a.g) a.r.start a.r.length a.s.from.0 (unit_size-pos a.g) (omega arith) c.requires.1)
 
 pub returns : goal.returns
 returns c = rw c.bytes_of-before.ensures

@@ -8,6 +8,7 @@ use Rattle.bits.specs.Flat.{flat}
 use Rattle.bits.proofs.Flat.{flat-length}
 use Rattle.pool.proofs.Pool.{packing-none, packing-fits, packing-kept, packing-clear, packing-empty, packing-all}
 use Rattle.pool.proofs.pack.Goals as goal
+use Rattle.pool.proofs.pack.Goals.{then-i-clear+then-n-gt0, else-i-clear, else-i-clear-via-then-i-clear+else-n-gt0, else-i-clear-via-else-i-clear}
 
 pub loop-i-init : goal.loop-i-init
 loop-i-init c =
@@ -35,19 +36,20 @@ pub loop-i-preserved : goal.loop-i-preserved
 loop-i-preserved c =
     let l = c.loop-i in
     let m = flat c.args.marks.now in
-    ⊎_elim
-    (λ w. (
-      packing-kept m c.args.bases c.args.sizes c.args.clear c.requires.1 l.invariant.0 (omega arith) _ w.0.taken (ap flat w.6 ∙ w.4.ensures),
-      ap length w.6 ∙ w.4.kept.0 ∙ l.invariant.1,
-    ))
-    (λ w. (
-      ⊎_elim
-          (λ v. packing-empty m c.args.bases c.args.sizes c.args.clear c.requires.1 l.invariant.0 (omega arith) _ (omega (arith, ltb-false 0 (get_or c.args.sizes l.i 0) v.1.left)) (ap flat w.1))
-          (λ v. packing-clear m c.args.bases c.args.sizes c.args.clear c.requires.1 l.invariant.0 (omega arith) _ v.left (ap flat w.1))
-          w.0.came,
-      ap length w.1 ∙ l.invariant.1,
-    ))
-    c.if-i-clear.branch
+    elim c.if-i-clear.branch [
+      | then-i-clear+then-n-gt0 w ↦ (
+        packing-kept m c.args.bases c.args.sizes c.args.clear c.requires.1 l.invariant.0 (omega arith) _ w.if-i-clear.true (ap flat w.new-is ∙ w.copy_span.ensures),
+        omega (arith, ap length w.new-is),
+      )
+      | else-i-clear w ↦ (
+        elim w.else-i-clear.branch [
+          | else-i-clear-via-then-i-clear+else-n-gt0 v ↦
+              packing-empty m c.args.bases c.args.sizes c.args.clear c.requires.1 l.invariant.0 (omega arith) _ (omega (arith, ltb-false 0 (get_or c.args.sizes l.i 0) v.if-n-gt0.false-raw)) (ap flat w.new-is)
+          | else-i-clear-via-else-i-clear v ↦ packing-clear m c.args.bases c.args.sizes c.args.clear c.requires.1 l.invariant.0 (omega arith) _ v.if-i-clear.false (ap flat w.new-is)
+        ],
+        ap length w.new-is ∙ l.invariant.1,
+      )
+    ]
 
 pub returns : goal.returns
 returns c =

@@ -13,4 +13,4 @@ returns c =
     let e = ap (λ (r : Read). r.number) r in
     let q = ap (λ (r : Read). r.settings) r in
     let left = c.if-read-ne0.false in
-    let w = c.write_file.ensures in record { number = save-accepted _ _ e left _ _ _ _ q w.0; bytes = saved-accepted _ _ e left _ _ _ _ q w.1 }
+    let w = c.write_file.ensures in record { number = save-accepted _ _ e left _ _ _ _ q w.number; bytes = saved-accepted _ _ e left _ _ _ _ q w.bytes }
