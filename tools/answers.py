@@ -59,6 +59,8 @@ START = {"args", "requires", "ranges", "well_formed", "type_inv", "lifetimes"}
 class Body:
     def __init__(self, f, place, arg, notes, need=None):
         self.f, self.notes, self.need, self.place = f, notes, need, place
+        self.root = "c" if need else arg
+        self.named = set()
         self.alias = {arg: place}
         self.arg = arg
 
@@ -69,6 +71,9 @@ class Body:
             return None
         f = self.f
         toks = [t for t in rest.split(".") if t]
+        if isinstance(place, tuple):
+            place, front = place
+            toks = front + toks
         i = 0
         while i < len(toks) and toks[i] == "before":
             # the older names had a place or two more on some ways
@@ -88,25 +93,29 @@ class Body:
                 if p["old"] and same(p["old"], tok):
                     return ("text", self.step(p, more))
                 at = p["parent"]
+        if tok == "pre":
+            tok = "requires"
         if tok in START:
             if tok in ("args", "ranges", "type_inv") and more:
                 more = [f.args.get(more[0], more[0])] + more[1:]
-            return ("text", ".".join(["c", tok] + more))
+            return ("text", ".".join([self.root, tok] + more))
         self.notes.append(f"TODO no step {tok} at {place}")
-        return ("text", ".".join(["c", tok] + more))
+        return ("text", ".".join([self.root, tok] + more))
 
     def step(self, p, more):
         if p["arm"] and more:
             for new, old, path in p["arm"][2]:
                 if old.replace("_", "-") == p["old"].replace("_", "-") and path and more[: len(path)] == path:
-                    return ".".join(["c", p["arm"][0], new] + more[len(path):])
+                    return ".".join([self.root, p["arm"][0], new] + more[len(path):])
+        if more and p["old"].startswith("if"):
+            more = [{"taken": "true", "left": "false"}.get(more[0], more[0])] + more[1:]
         if more and more[0] in p["renames"]:
             more = [p["renames"][more[0]]] + more[1:]
         if p["clauses"] and len(more) > 1 and more[0] == "ensures" and more[1].isdigit():
             n = int(more[1])
             if n < len(p["clauses"]):
                 more = ["ensures", p["clauses"][n]] + more[2:]
-        return ".".join(["c", p["new"]] + more)
+        return ".".join([self.root, p["new"]] + more)
 
     def lets(self, text):
         """Takes the lets that name a place, or turns those that name a path."""
@@ -120,6 +129,10 @@ class Body:
             if got and got[0] == "place":
                 self.alias[m.group(1)] = got[1]
                 continue
+            if got and got[1].endswith(".given"):
+                # a part of a pattern's facts, which are named one by one now
+                self.alias[m.group(1)] = (self.place, [t for t in m.group(3).split(".") if t and t != "before"])
+                continue
             self.alias.pop(m.group(1), None)
             out += "let %s = %s in%s" % (m.group(1), got[1] if got else m.group(2) + m.group(3), re.search(r"\s*$", m.group(0)).group(0) or " ")
         out += self.paths(text[pos:])
@@ -129,14 +142,18 @@ class Body:
         def sub(m):
             name, rest = m.group(1), m.group(2)
             if name in self.alias:
-                got = self.chain(name, rest) if rest else ("place", self.alias[name])
+                got = self.chain(name, rest) if rest or isinstance(self.alias[name], tuple) else ("place", self.alias[name])
                 if got[0] == "place":
                     at = self.f.places.get(got[1], {}).get("name", got[1])
                     if got[1] == self.place:
-                        return "c"
+                        return self.root
                     if not self.need:
-                        self.notes.append(f"TODO a place stands alone, {at}")
-                        return m.group(0)
+                        hops, q = 0, self.place
+                        while q is not None and q != got[1]:
+                            q = self.f.places[q]["parent"] if q in self.f.places else None
+                            hops += 1
+                        return self.root + ".before" * hops
+                    self.named.add(at)
                     return f"(goal.at.{self.need} c).{at}"
                 return got[1]
             return m.group(0)
@@ -145,7 +162,16 @@ class Body:
 
 
 def blocks_of(text):
-    return [b for b in re.split(r"\n\s*\n", text) if b.strip()]
+    """The declarations; what is indented belongs to the module above it."""
+    out = []
+    for b in re.split(r"\n[ \t]*\n", text):
+        if not b.strip():
+            continue
+        if b.startswith(" ") and out:
+            out[-1] += "\n\n" + b
+        else:
+            out.append(b.rstrip())
+    return out
 
 
 def uses_of(body, uses):
@@ -194,7 +220,7 @@ def turn(names, crate, path):
         return
     tie = [u for u in uses if u.endswith(" as tie")]
     uses = [u for u in uses if u not in tie and ".Statement." not in u]
-    helpers = []
+    helpers, helper_at, at_places, asked_place = [], {}, set(), {}
     for b in decls:
         if "tie.close" in b:
             continue
@@ -298,19 +324,31 @@ def turn(names, crate, path):
                     else:
                         expr = front + f" let all = {last.strip()} in record {{ " + " ".join(f"{a} = all.{i};" for i, a in enumerate(fields)) + " }"
             notes += [f"{new}: {s}" for s in said]
-            answers.append("\n".join([f"-- {s}" for s in said] + comments + [f"pub {new} : goal.{new}"] + ([unf.rstrip()] if unf else []) + [f"{new} c ={expr}"]))
+            asked_place[new] = f.places[place]["name"] if place in f.places else place
+            more = ''.join(' ' + q for q in params[1:] if q != 'κs')
+            answers.append("\n".join([f"-- {s}" for s in said] + comments + [f"pub {new} : goal.{new}"] + ([unf.rstrip()] if unf else []) + [f"{new} c{more} ={expr}"]))
             continue
         # a helper about the facts at a place
-        k = re.search(r"\((" + IDENT + r") : tie\.([A-Z][\w'-]*)((?: [\w-]+)*)\)", b)
+        found = re.findall(r"\((" + IDENT + r") : tie\.([A-Z][\w'-]*)((?: [\w-]+)*)\)", b)
         places = {q.replace("_", "-"): q for q in f.places}
-        if k and k.group(2).replace("_", "-") in places and b.count("tie.") == 1:
-            place = places[k.group(2).replace("_", "-")]
+        if found and all(q.replace("_", "-") in places for _, q, _ in found) and len(found) == b.count("tie."):
             said = []
-            body = Body(f, place, k.group(1), said)
-            b = b.replace(k.group(0), "(c : goal.%s)" % f.places[place]["name"])
-            b = "\n".join(said_line for said_line in [body.lets(b)])
+            text = b
+            names_of = re.findall(r"(?m)^ *(?:abbrev |pub |unfoldable )*(" + IDENT + r")(?: [^:\n]*)? : ", text) if text.startswith("module") else [text.split("\n")[len([l for l in text.split("\n") if l.startswith("--")])].split(" ")[0]]
+            for var, q, rest in found:
+                place = places[q.replace("_", "-")]
+                body = Body(f, place, var, said)
+                text = text.replace(f"({var} : tie.{q}{rest})", "({} : {})".format(var, f.places[place]["name"]), 1)
+                text = body.lets(text)
+                at_places.add(f.places[place]["name"])
+            last = f.places[places[found[-1][1].replace("_", "-")]]["name"]
+            for k in re.split(r"(?m)^ *(?=module)", text):
+                g = re.search(r"\(" + IDENT + r" : ([A-Z][\w'-]*)\)", k)
+                for h in re.findall(r"(?m)^ *(?:abbrev |pub |unfoldable )*(" + IDENT + r")(?: [^:\n]*)? :(?: |$)", k):
+                    if g and h != "module":
+                        helper_at[h] = g.group(1)
             notes += [f"helper: {s}" for s in said]
-            helpers.append("\n".join([f"-- {s}" for s in said] + [b]))
+            helpers.append("\n".join([f"-- {s}" for s in said] + [text]))
             continue
         helpers.append(b)
     def named(text):
@@ -318,7 +356,17 @@ def turn(names, crate, path):
             text = re.sub(r"\." + old + r"(?![\w'-])", "." + new, text)
         return text
 
-    answers = [named(a) for a in answers]
+    def called(a):
+        """A helper is given the facts at the place that it is about."""
+        need = re.search(r"(?m)^pub (\S+) : goal", a).group(1)
+        for h, at in helper_at.items():
+            own = asked_place.get(need)
+            as_c = "c" if own == at else f"(goal.at.{need} c).{at}"
+            a = re.sub(r"(?<![\w.'-])" + re.escape(h) + r" (?:\(goal\.at\.\S+ c\)\.[\w'-]+|c(?![\w.'-]))", h + " " + as_c, a)
+        at_places.update(re.findall(r"\(goal\.at\.\S+ c\)\.([\w'-]+)", a))
+        return a
+
+    answers = [called(named(a)) for a in answers]
     helpers = [named(a) for a in helpers]
     folder = f"crates/{crate}/proofs/{path}"
     own = f"Rattle.{crate}.proofs.{path.replace('/', '.')}"
@@ -336,7 +384,7 @@ def turn(names, crate, path):
     if answers or helpers:
         body = "\n\n".join(helpers + answers)
         u = uses_of(body, uses)
-        open(f"{folder}/Answers.antt", "w", encoding="utf-8").write("\n".join(([] if invs else head) + u + [f"use {own}.Goals as goal"]) + "\n\n" + body + "\n")
+        open(f"{folder}/Answers.antt", "w", encoding="utf-8").write("\n".join(([] if invs else head) + u + [f"use {own}.Goals as goal"] + ([f"use {own}.Goals.{{" + ", ".join(sorted(at_places)) + "}"] if at_places else [])) + "\n\n" + body + "\n")
         wrote.append("Answers")
     os.remove(file)
     print(f"{crate}/{path}: {' '.join(wrote) or 'nothing is needed'}" + "".join(f"\n    {n}" for n in notes))

@@ -3,17 +3,17 @@ use mathlib.Core.Path.{◌≡◌, refl, sym, ap, ◌∙◌}
 use mathlib.Core.Logic.{◌≢◌}
 use mathlib.Core.Bool.{Bool, true, false, ◌&&◌, ◌||◌, not, cond, and-true, and-false, true≢false}
 use mathlib.Core.List.{List, [], ◌∷◌, ◌++◌}
-use mathlib.Core.Option.{Option, none, some}
+use mathlib.Core.Option.{none, some}
 use Prim.Native.Nat.{ℕ, ◌+◌, ◌-◌, ◌*◌, ◌%◌, ◌^◌, ◌≤◌, ◌<◌}
 use native.Mathlib.Omega.{arith}
-use lib.Dec.{leb, ltb, eqb}
+use lib.Dec.{leb, eqb}
 use lib.ListN.{length, take, drop, get_or}
 use borrow.Author.Tests.{le-leb, lt-leb, leb-true, lt-ltb, eq-eqb, ne_eqb, eqb-true}
 use Rattle.little.specs.Little.{put}
 use Rattle.rules.specs.Refusals.{verdict, refusal}
 use Rattle.rules.specs.Settings.{is_manager, place_of}
 use Rattle.rules.specs.ControllerState.{state_most, state_ok}
-use Rattle.rules.specs.Order.{Part, Arriving, offset_of, first_by, last_by, is_first, is_last, is_offset, are_counted, data_ok, follows_on, follows, so_far, joined_with, part_tests, part_order}
+use Rattle.rules.specs.Order.{Part, offset_of, first_by, last_by, is_first, is_last, is_offset, are_counted, data_ok, follows_on, follows, so_far, joined_with, part_tests, part_order}
 use Rattle.rules.specs.declared.Sequence.{Sequence}
 use Rattle.rules.specs.declared.Sequence.TheVariants.{Nothing, Open}
 use Rattle.rules.specs.declared.Device.{Device}

@@ -1,6 +1,6 @@
 -- What the inner functions of `receive` promise: where a scan over a controller's units stands, the next pending unit from there, and the run that begins there. These serve this crate
 -- alone; what a run is, is defined in `rules`.
-use Rattle.std.specs.Prelude.{ℕ, ◌+◌, ◌-◌, ◌*◌, ◌^◌, ◌≤◌, ◌<◌, ◌≡◌, Bool, true, false, List, [], ◌∷◌, map, length, drop, get_or}
+use Rattle.std.specs.Prelude.{ℕ, ◌+◌, ◌-◌, ◌*◌, ◌^◌, ◌≤◌, ◌<◌, ◌≡◌, Bool, true, false, List, [], map, length, drop, get_or}
 use Rattle.bits.specs.Next.{next}
 use Rattle.bits.specs.Share.{get_share, put_share}
 use Rattle.little.specs.Little.{put, records}

@@ -121,8 +121,8 @@ pub fn list_runs(
     buffer: &mut [u8],
     room: usize,
 ) -> Listed
-    requires fact_1 { (g ≤ 20) × (n ≤ 16) × (rows_ok g (take n ranges) ≡ true) }
-    requires fact_2 { Holds marks.old base (length (units g (take n ranges))) × (16 + 16 * room ≤ length buffer.old) }
+    requires rows { (g ≤ 20) × (n ≤ 16) × (rows_ok g (take n ranges) ≡ true) }
+    requires space { Holds marks.old base (length (units g (take n ranges))) × (16 + 16 * room ≤ length buffer.old) }
     ensures { Lists g (take n ranges) (flat marks.old) base buffer.old room result.runs result.more result.groups (flat marks.new) buffer.new }
 {
     let mut runs: usize = 0;

@@ -8,14 +8,15 @@ use Rattle.record.proofs.RecordLaws.{where_is-at}
 use Rattle.calls.proofs.PlaceLaws.{refused-place}
 use Rattle.booking.specs.Booking.{reading_at}
 use Rattle.booking.proofs.totals_of.Goals as goal
+use Rattle.booking.proofs.totals_of.Goals.{In-At}
 
 -- the place that was found, which is below 8
-found : (c : goal.In-At)
+found : (c : In-At)
     → let a = c.args in
     where_is a.d a.words a.id ≡ At c.in-At.i
 found c = sym c.locate-place.ensures ∙ c.in-At.is
 
-below : (c : goal.In-At) → c.in-At.i < 8
+below : (c : In-At) → c.in-At.i < 8
 below c = (where_is-at _ _ _ _ (found c)).below
 
 pub returns-in_default : goal.returns-in_default

@@ -1,74 +1,68 @@
 -- `controller_state::part_number` is right: its tests are those of its table, in that order, and where a part follows, what `judge` sees is the whole that it
 -- makes. Assumes nothing.
--- ---- what is known past each test
--- ---- the tests
 use mathlib.Core.Path.{◌≡◌, sym, ap, ◌∙◌}
 use mathlib.Core.Bool.{true, false, cond}
-use Prim.Native.Nat.{◌≤◌}
+use Prim.Native.Nat.{◌+◌, ◌*◌, ◌^◌, ◌≤◌}
 use native.Mathlib.Omega.{arith}
+use lib.ListN.{length}
 use borrow.Author.Tests.{not-true, not-false}
 use Rattle.rules.specs.Refusals.{refusal}
-use Rattle.rules.specs.ControllerState.{state_ok}
-use Rattle.rules.specs.Order.{Part, is_offset, data_ok, offset_of, part_tests}
+use Rattle.rules.specs.Order.{Part, is_offset, are_counted, part_tests}
 use Rattle.record.specs.Record.{others_in, arriving_in}
-use Rattle.state_bytes.specs.Parts.{assembled}
 use Rattle.controller_state.specs.Inner.{is_next}
 use Rattle.controller_state.proofs.ArrivalLaws.{offset-is, offset-within, part-others, part-offset, part-data, part-next, part-long, part-more, part-state}
 use Rattle.controller_state.proofs.part_number.Goals as goal
+use Rattle.controller_state.proofs.part_number.Goals.{After-judge, Else-is_others, Else-not-data_ok, Else-not-is_next, Else-not-offset_ok, Start}
+
+-- ---- what is known past each test
 
 -- the part
-abbrev part : tie.Else1 → Part
-part c =
-    let a = c.before.before.before.before.args in
-    record { indicator = a.indicator; low = a.low; high = a.high; count = a.count; bytes = a.«data».now }
+abbrev part : Start → Part
+part c = let a = c.args in record { indicator = a.indicator; low = a.low; high = a.high; count = a.count; bytes = a.«data».now }
 
-alone : (c : goal.Else-is_others) → others_in c.args.id c.args.q ≡ false
+alone : (c : Else-is_others) → others_in c.args.id c.args.q ≡ false
 alone c = sym c.is_others.ensures ∙ c.if-is_others.false
 
--- TODO a place stands alone, Else-is_others
-placed : (c : goal.Else-not-offset_ok) → is_offset (offset_of (part c.before.before)) ≡ true
+placed : (c : Else-not-offset_ok) → is_offset (c.args.low + 2 ^ 32 * c.args.high) ≡ true
 placed c = sym c.offset_ok.ensures ∙ not-false _ c.if-not-offset_ok.false-raw
 
--- TODO a place stands alone, Else-is_others
-counted : (c : goal.Else-not-data_ok) → data_ok (part c.before.before.before.before) ≡ true
+counted : (c : Else-not-data_ok)
+    → let a = c.args in
+    are_counted a.indicator a.count (length a.«data».now) ≡ true
 counted c = sym c.data_ok.ensures ∙ not-false _ c.if-not-data_ok.false-raw
 
--- TODO a place stands alone, Else-is_others
 -- its offset is the lower word
-low : (c : goal.Else-not-offset_ok) → offset_of (part c.before.before) ≡ c.args.low
+low : (c : Else-not-offset_ok) → c.args.low + 2 ^ 32 * c.args.high ≡ c.args.low
 low c = offset-is _ _ (placed c)
 
--- TODO a place stands alone, Else-is_others
--- TODO a place stands alone, Else-not-offset_ok
-next : (c : goal.Else-not-is_next) → let a = c.args in is_next a.q a.id a.indicator (offset_of (part c.before.before.before.before.before.before)) ≡ true
-next c = rw (low c.before.before.before.before) (sym c.is_next.ensures ∙ not-false _ c.if-not-is_next.false-raw)
-
-within : (c : goal.Else-not-offset_ok) → c.args.low ≤ 4096
+within : (c : Else-not-offset_ok) → c.args.low ≤ 4096
 within c = offset-within _ _ (placed c)
 
--- TODO a place stands alone, Else-is_others
--- TODO a place stands alone, Else-is_others
--- TODO a place stands alone, Else-not-offset_ok
--- what was judged is the whole
-judged : (c : goal.After-judge)
-    → c.judge.result ≡ state_ok (assembled c.args.area.now (offset_of (part e)) (part e).bytes)
-judged c = rw (low c.before.before.before.before.before.before.before.before) c.judge.ensures
-
--- TODO a place stands alone, Else-is_others
--- TODO a place stands alone, Else-is_others
--- TODO a place stands alone, Else-is_others
--- TODO a place stands alone, Else-not-offset_ok
--- TODO a place stands alone, Else-not-data_ok
--- TODO a place stands alone, Else-not-is_next
--- TODO a place stands alone, Else-not-offset_ok
--- TODO a place stands alone, Else-not-offset_ok
--- TODO a place stands alone, Else-not-offset_ok
-last : (c : goal.After-judge)
+next : (c : Else-not-is_next)
     → let a = c.args in
-    cond c.judge.result 0 27 ≡ refusal (part_tests (arriving_in a.q a.area.now a.id) (part e))
+    is_next a.q a.id a.indicator (a.low + 2 ^ 32 * a.high) ≡ true
+next c =
+    let e : c.args.low + 2 ^ 32 * c.args.high ≡ c.args.low = offset-is _ _ (sym c.offset_ok.ensures ∙ not-false _ c.if-not-offset_ok.false-raw) in
+    rw e (sym c.is_next.ensures ∙ not-false _ c.if-not-is_next.false-raw)
+
+-- what was judged is the whole
+last : (c : After-judge)
+    → let a = c.args in
+    cond c.judge.result 0 27
+    ≡ refusal (part_tests (arriving_in a.q a.area.now a.id) (record { indicator = a.indicator; low = a.low; high = a.high; count = a.count; bytes = a.«data».now }))
 last c =
-    part-state c.args.q c.args.area.now c.args.id (part e) (alone e) (placed f) (counted n.before.before) c.requires.0 c.requires.1 (next n) (rw (low f) c.if-data-offset.false) (rw (low f) (within f))
-    (sym c.is_last.ensures ∙ not-false _ c.if-not-is_last.false-raw) _ (judged c)
+    let a = c.args in
+    let f = sym c.offset_ok.ensures ∙ not-false _ c.if-not-offset_ok.false-raw in
+    let e : a.low + 2 ^ 32 * a.high ≡ a.low = offset-is _ _ f in
+    part-state a.q a.area.now a.id (record { indicator = a.indicator; low = a.low; high = a.high; count = a.count; bytes = a.«data».now }) (sym c.is_others.ensures ∙ c.if-is_others.false) f (sym c.data_ok.ensures ∙ not-false _ c.if-not-data_ok.false-raw) c.requires.0 c.requires.1
+    (rw e (sym c.is_next.ensures ∙ not-false _ c.if-not-is_next.false-raw))
+    (rw e c.if-data-offset.false)
+    (rw e (offset-within _ _ f))
+    (sym c.is_last.ensures ∙ not-false _ c.if-not-is_last.false-raw)
+    _
+    (rw e c.judge.ensures)
+
+-- ---- the tests
 
 pub returns-then-is_others : goal.returns-then-is_others
 returns-then-is_others c =
@@ -77,26 +71,26 @@ returns-then-is_others c =
 
 pub returns-then-not-offset_ok : goal.returns-then-not-offset_ok
 returns-then-not-offset_ok c =
-    part-offset c.args.q c.args.area.now c.args.id (part (goal.at.returns-then-not-offset_ok c).Else-is_others) (alone (goal.at.returns-then-not-offset_ok c).Else-is_others) (sym c.offset_ok.ensures ∙ not-true _ c.if-not-offset_ok.true-raw)
+    part-offset c.args.q c.args.area.now c.args.id (part (goal.at.returns-then-not-offset_ok c).Start) (alone (goal.at.returns-then-not-offset_ok c).Else-is_others) (sym c.offset_ok.ensures ∙ not-true _ c.if-not-offset_ok.true-raw)
 
 pub returns-then-not-data_ok : goal.returns-then-not-data_ok
 returns-then-not-data_ok c =
-    part-data c.args.q c.args.area.now c.args.id (part (goal.at.returns-then-not-data_ok c).Else-is_others) (alone (goal.at.returns-then-not-data_ok c).Else-is_others) (placed (goal.at.returns-then-not-data_ok c).Else-not-offset_ok) (sym c.data_ok.ensures ∙ not-true _ c.if-not-data_ok.true-raw)
+    part-data c.args.q c.args.area.now c.args.id (part (goal.at.returns-then-not-data_ok c).Start) (alone (goal.at.returns-then-not-data_ok c).Else-is_others) (placed (goal.at.returns-then-not-data_ok c).Else-not-offset_ok) (sym c.data_ok.ensures ∙ not-true _ c.if-not-data_ok.true-raw)
 
 pub returns-then-not-is_next : goal.returns-then-not-is_next
 returns-then-not-is_next c =
-    part-next c.args.q c.args.area.now c.args.id (part (goal.at.returns-then-not-is_next c).Else-is_others) (alone (goal.at.returns-then-not-is_next c).Else-is_others) (placed (goal.at.returns-then-not-is_next c).Else-not-offset_ok) (counted (goal.at.returns-then-not-is_next c).Else-not-data_ok) (rw (low (goal.at.returns-then-not-is_next c).Else-not-offset_ok) (sym c.is_next.ensures ∙ not-true _ c.if-not-is_next.true-raw))
+    part-next c.args.q c.args.area.now c.args.id (part (goal.at.returns-then-not-is_next c).Start) (alone (goal.at.returns-then-not-is_next c).Else-is_others) (placed (goal.at.returns-then-not-is_next c).Else-not-offset_ok) (counted (goal.at.returns-then-not-is_next c).Else-not-data_ok) (rw (low (goal.at.returns-then-not-is_next c).Else-not-offset_ok) (sym c.is_next.ensures ∙ not-true _ c.if-not-is_next.true-raw))
 
 pub overflow_sub-offset : goal.overflow_sub-offset
 overflow_sub-offset c = omega (arith, within (goal.at.overflow_sub-offset c).Else-not-offset_ok)
 
 pub returns-then-data-offset : goal.returns-then-data-offset
 returns-then-data-offset c =
-    part-long c.args.q c.args.area.now c.args.id (part (goal.at.returns-then-data-offset c).Else-is_others) (alone (goal.at.returns-then-data-offset c).Else-is_others) (placed (goal.at.returns-then-data-offset c).Else-not-offset_ok) (counted (goal.at.returns-then-data-offset c).Else-not-data_ok) c.requires.0 c.requires.1 (next (goal.at.returns-then-data-offset c).Else-not-is_next) (rw (low (goal.at.returns-then-data-offset c).Else-not-offset_ok) c.if-data-offset.true)
+    part-long c.args.q c.args.area.now c.args.id (part (goal.at.returns-then-data-offset c).Start) (alone (goal.at.returns-then-data-offset c).Else-is_others) (placed (goal.at.returns-then-data-offset c).Else-not-offset_ok) (counted (goal.at.returns-then-data-offset c).Else-not-data_ok) c.requires.0 c.requires.1 (next (goal.at.returns-then-data-offset c).Else-not-is_next) (rw (low (goal.at.returns-then-data-offset c).Else-not-offset_ok) c.if-data-offset.true)
 
 pub returns-then-not-is_last : goal.returns-then-not-is_last
 returns-then-not-is_last c =
-    part-more c.args.q c.args.area.now c.args.id (part (goal.at.returns-then-not-is_last c).Else-is_others) (alone (goal.at.returns-then-not-is_last c).Else-is_others) (placed (goal.at.returns-then-not-is_last c).Else-not-offset_ok) (counted (goal.at.returns-then-not-is_last c).Else-not-data_ok) c.requires.0 c.requires.1 (next (goal.at.returns-then-not-is_last c).Else-not-is_next) (rw (low (goal.at.returns-then-not-is_last c).Else-not-offset_ok) c.if-data-offset.false) (rw (low (goal.at.returns-then-not-is_last c).Else-not-offset_ok) (within (goal.at.returns-then-not-is_last c).Else-not-offset_ok))
+    part-more c.args.q c.args.area.now c.args.id (part (goal.at.returns-then-not-is_last c).Start) (alone (goal.at.returns-then-not-is_last c).Else-is_others) (placed (goal.at.returns-then-not-is_last c).Else-not-offset_ok) (counted (goal.at.returns-then-not-is_last c).Else-not-data_ok) c.requires.0 c.requires.1 (next (goal.at.returns-then-not-is_last c).Else-not-is_next) (rw (low (goal.at.returns-then-not-is_last c).Else-not-offset_ok) c.if-data-offset.false) (rw (low (goal.at.returns-then-not-is_last c).Else-not-offset_ok) (within (goal.at.returns-then-not-is_last c).Else-not-offset_ok))
     (sym c.is_last.ensures ∙ not-true _ c.if-not-is_last.true-raw)
 
 pub judge-requires : goal.judge-requires

@@ -1,5 +1,4 @@
 -- `controller_state::set_state_on` is right: it refuses in the order of its table, and stores an accepted part where its offset says. Assumes nothing.
--- ---- a part whose other tests are passed, or not
 use mathlib.Core.Path.{◌≡◌, sym, ap, ◌∙◌}
 use Prim.Native.Nat.{◌+◌, ◌≤◌, ◌<◌}
 use native.Mathlib.Omega.{arith}
@@ -13,42 +12,43 @@ use Rattle.calls.specs.Calls.{Arrival}
 use Rattle.calls.proofs.PlaceLaws.{refused-place}
 use Rattle.controller_state.proofs.ArrivalLaws.{Within, leaves, call-area, call-refused, call-running, call-number, call_fits, call-done}
 use Rattle.controller_state.proofs.set_state_on.Goals as goal
+use Rattle.controller_state.proofs.set_state_on.Goals.{After-number_of-number, Else-number-ne0, In-At, Start}
 
 -- the part
-abbrev part : tie.Start → Part
-part s = let a = s.args in record { indicator = a.indicator; low = a.low; high = a.high; count = a.count; bytes = a.«data».now }
+abbrev part : Start → Part
+part c = let a = c.args in record { indicator = a.indicator; low = a.low; high = a.high; count = a.count; bytes = a.«data».now }
 
 -- the place that was found, or the refusal
-found : (c : goal.In-At)
+found : (c : In-At)
     → let a = c.args in
     where_by a.d a.words a.manager a.id ≡ At c.in-At.i
 found c = sym c.locate_by-place.ensures ∙ c.in-At.is
 
-refused : (c : goal.After-number_of-number)
+refused : (c : After-number_of-number)
     → let a = c.args in
     where_by a.d a.words a.manager a.id ≡ Refused c.number_of-number.result
 refused c = sym c.locate_by-place.ensures ∙ refused-place _ _ _ c.in_default.is c.number_of-number.ensures
 
 -- what is known of it, whichever manager asks
-located : (c : goal.In-At)
+located : (c : In-At)
     → let a = c.args in
     Located a.d a.words a.id c.in-At.i
 located c = where_is-at _ _ _ _ (where_by-at _ _ _ _ _ (found c)).1
 
-below : (c : goal.In-At) → c.in-At.i < 8
+below : (c : In-At) → c.in-At.i < 8
 below c = (located c).below
 
 -- an open sequence of a sound record ends within the area
-ends : (c : goal.In-At) → Within c.args.d.sequence
+ends : (c : In-At) → Within c.args.d.sequence
 ends c = sequence-within c.args.d (located c).sound
 
--- TODO a place stands alone, Start
--- TODO a place stands alone, In-At-2
--- TODO a place stands alone, In-At-2
 -- an accepted one fits the area
-fits : (c : goal.Else-number-ne0) → c.args.low + length c.args.«data».now ≤ 4096
+fits : (c : Else-number-ne0) → c.args.low + length c.args.«data».now ≤ 4096
 fits c =
-    call_fits _ _ _ _ _ (part k.before.before.before.before.before.before.before) c.if-area-ne-STATE_BYTES.false _ (found k) (not-false _ c.if-not-c.false) _ c.part_number-number.ensures c.if-number-ne0.false (ends k)
+    let a = c.args in
+    let f = sym c.locate_by-place.ensures ∙ c.in-At.is in
+    let w = sequence-within a.d (where_is-at _ _ _ _ (where_by-at _ _ _ _ _ f).1).sound in
+    call_fits _ _ _ _ _ (record { indicator = a.indicator; low = a.low; high = a.high; count = a.count; bytes = a.«data».now }) c.if-area-ne-STATE_BYTES.false _ f (not-false _ c.if-not-c.false) _ c.part_number-number.ensures c.if-number-ne0.false w
 
 pub returns-then-area-ne-STATE_BYTES : goal.returns-then-area-ne-STATE_BYTES
 returns-then-area-ne-STATE_BYTES c = leaves _ _ _ (call-area _ _ _ _ _ (part (goal.at.returns-then-area-ne-STATE_BYTES c).Start) c.if-area-ne-STATE_BYTES.true)
@@ -67,12 +67,12 @@ returns-then-not-c c =
     leaves _ _ _ (call-running _ _ _ _ _ (part (goal.at.returns-then-not-c c).Start) c.if-area-ne-STATE_BYTES.false _ (found (goal.at.returns-then-not-c c).In-At) (not-true _ c.if-not-c.true))
 
 pub part_number-number-requires : goal.part_number-number-requires
-part_number-number-requires c = (c.if-area-ne-STATE_BYTES.false, ends (goal.at.part_number-number-requires c).In-At-2)
+part_number-number-requires c = (c.if-area-ne-STATE_BYTES.false, ends (goal.at.part_number-number-requires c).In-At)
 
 pub returns-then-number-ne0 : goal.returns-then-number-ne0
 returns-then-number-ne0 c =
     leaves _ _ _
-    (call-number _ _ _ _ _ (part (goal.at.returns-then-number-ne0 c).Start) c.if-area-ne-STATE_BYTES.false _ (found (goal.at.returns-then-number-ne0 c).In-At-2) (not-false _ c.if-not-c.false) _ c.part_number-number.ensures c.if-number-ne0.true)
+    (call-number _ _ _ _ _ (part (goal.at.returns-then-number-ne0 c).Start) c.if-area-ne-STATE_BYTES.false _ (found (goal.at.returns-then-number-ne0 c).In-At) (not-false _ c.if-not-c.false) _ c.part_number-number.ensures c.if-number-ne0.true)
 
 pub store-requires : goal.store-requires
 store-requires c = omega (arith, fits (goal.at.store-requires c).Else-number-ne0, c.if-area-ne-STATE_BYTES.false)
@@ -85,5 +85,5 @@ accepted-requires c = omega (arith, fits (goal.at.accepted-requires c).Else-numb
 
 pub returns : goal.returns
 returns c =
-    let d = call-done _ _ _ _ _ (part (goal.at.returns c).Start) c.if-area-ne-STATE_BYTES.false _ (found (goal.at.returns c).In-At-2) (not-false _ c.if-not-c.false) _ c.part_number-number.ensures c.if-number-ne0.false (ends (goal.at.returns c).In-At-2) in
+    let d = call-done _ _ _ _ _ (part (goal.at.returns c).Start) c.if-area-ne-STATE_BYTES.false _ (found (goal.at.returns c).In-At) (not-false _ c.if-not-c.false) _ c.part_number-number.ensures c.if-number-ne0.false (ends (goal.at.returns c).In-At) in
     (c.accepted.ensures ∙ sym (ap (λ (y : Arrival). y.answer) d), c.store.ensures ∙ sym (ap (λ (y : Arrival). y.area) d))

@@ -6,7 +6,7 @@ use Rattle.fields.proofs.FieldLaws.{first_field-within}
 use Rattle.fields.proofs.NumberLaws.{number_fits}
 use Rattle.fields.proofs.take.Goals as goal
 
-pub slice_bounds-read_number-end : goal.slice_bounds-value-end
+pub slice_bounds-read_number-end : goal.slice_bounds-read_number-end
 slice_bounds-read_number-end c = (first_field-within _ _ _ c.field_end-to.ensures (omega arith)).1
 
 pub returns-then-at-line : goal.returns-then-at-line

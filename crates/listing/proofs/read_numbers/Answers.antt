@@ -6,9 +6,8 @@ use lib.ListN.{length}
 use Rattle.listing.proofs.GatherLaws.{field-most, field_next, gathered-over, gathered-many, gathered_none, gathered-again}
 use Rattle.listing.proofs.read_numbers.Goals as goal
 
--- TODO no goal for slice-bounds-read-number-end
-part-read-number-end : tie.Need-slice-bounds-read-number-end invariant-loop decreases-loop
-part-read-number-end c = field-most _ _ _ c.field-end.ensures (omega arith)
+pub slice_bounds-read_number-end : goal.slice_bounds-read_number-end
+slice_bounds-read_number-end c = field-most _ _ _ c.field_end-to.ensures (omega arith)
 
 pub loop-at-init : goal.loop-at-init
 loop-at-init c = (search rules, c.requires.0, c.requires.1, refl)

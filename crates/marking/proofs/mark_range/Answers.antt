@@ -14,11 +14,8 @@ overflow_add-a c = omega (arith, c.touched-t.ensures.order, c.touched-t.ensures.
 pub overflow_add-e : goal.overflow_add-e
 overflow_add-e c = omega (arith, c.touched-t.ensures.within, c.requires.2.small)
 
-pub mark_span-requires : goal.mark_span-requires
-mark_span-requires c = tt
-
 pub returns : goal.returns
 returns c =
     let fits : c.args.from + c.args.r.length ≤ length (flat c.args.marks.now) = omega (arith, c.requires.2.within, flat-length c.args.marks.now) in
     let e = c.mark_span.ensures in
-    (e.1 ∙ range-count _ _ _ _ _ fits _ _ c.touched-t.ensures, e.0 ∙ range-bits _ _ _ _ _ fits _ _ c.touched-t.ensures)
+    (e.count ∙ range-count _ _ _ _ _ fits _ _ c.touched-t.ensures, e.bits ∙ range-bits _ _ _ _ _ fits _ _ c.touched-t.ensures)

@@ -1,6 +1,6 @@
 use mathlib.Core.Path.{◌≡◌, refl, subst}
 use mathlib.Core.List.{◌++◌}
-use Prim.Native.Nat.{◌+◌, ◌-◌}
+use Prim.Native.Nat.{◌+◌}
 use native.Mathlib.Omega.{arith}
 use lib.ListN.{take, length-take}
 use borrow.Author.Rules.{rules}
@@ -13,9 +13,10 @@ use Rattle.pieces.proofs.PieceLaws.{EndBy, end-small, left-all, left-none, row-w
 use Rattle.marking.specs.Note.{write_to, mark_in, newly_in}
 use Rattle.marking.proofs.NoteLaws.{Marking, marking-start, range-held, marking-next, marking-rest, marking-end}
 use Rattle.marking.proofs.mark_ranges.Goals as goal
+use Rattle.marking.proofs.mark_ranges.Goals.{After-mark_range-count, Else-first-end}
 
 -- a row that begins at or past the end is one piece
-whole : (c : goal.Else-first-end)
+whole : (c : Else-first-end)
     → let a = c.args in
     let r = row_of a.ranges c.loop-row.row in
     (units_left (unit_size a.g) (take a.n a.ranges) c.loop-row.row 0 ≡ units_of_row c.loop-row.row (unit_size a.g) r.start r.length ++ units_left (unit_size a.g) (take a.n a.ranges) (c.loop-row.row + 1) 0)
@@ -25,17 +26,16 @@ whole c =
     row-whole a.g a.n a.ranges c.loop-row.row c.loop-row.end.0 _ c.loop-row-test.true (omega (arith, c.requires.2, c.loop-row.invariant.1)) c.requires.3 c.loop-row.invariant.2
     c.whole_units-first.ensures c.if-first-end.false
 
--- TODO a place stands alone, Else-first-end
 -- what is to be marked after it
-marked : (c : goal.After-slice_known-in-loop-row-1)
+marked : (c : After-mark_range-count)
     → let a = c.args in
     let m = c.mark_range-count in
-    Marking (write_to a.at a.last) (units_left (unit_size a.g) (take a.n a.ranges) (c.loop-row.row + 1) 0) m.new.0 (c.loop-row.from + (row_of a.ranges c.loop-row.row).length) (c.loop-row.count + m.result)
+    Marking (write_to a.at a.last) (units_left (unit_size a.g) (take a.n a.ranges) (c.loop-row.row + 1) 0) m.new.marks (c.loop-row.from + (row_of a.ranges c.loop-row.row).length) (c.loop-row.count + m.result)
     (mark_in (write_to a.at a.last) (units a.g (take a.n a.ranges)) (flat a.marks.now) a.base)
     (newly_in (write_to a.at a.last) (units a.g (take a.n a.ranges)) (flat a.marks.now) a.base)
 marked c =
     let m = c.mark_range-count in
-    marking-next _ _ _ _ _ _ _ c.loop-row.invariant.3 _ _ _ _ (whole k).0 _ _ m.auto.0 m.ensures.1 m.ensures.0
+    marking-next _ _ _ _ _ _ _ c.loop-row.invariant.3 _ _ _ _ (whole c.before.before).0 _ _ m.auto.marks m.ensures.1 m.ensures.0
 
 pub loop-row-init : goal.loop-row-init
 loop-row-init c =
@@ -67,10 +67,12 @@ mark_range-count-requires c =
     (c.requires.0, c.requires.1, range-held _ _ _ _ _ _ _ c.loop-row.invariant.3 _ _ _ _ (whole (goal.at.mark_range-count-requires c).Else-first-end).0)
 
 pub overflow_add-count : goal.overflow_add-count
-overflow_add-count c = omega (arith, (marked c).counted, (marked c).few)
+overflow_add-count c =
+    let m = marked (goal.at.overflow_add-count c).After-mark_range-count in
+    omega (arith, m.counted, m.few)
 
 pub overflow_add-from : goal.overflow_add-from
-overflow_add-from c = omega (arith, (marked (goal.at.overflow_add-from c).After-slice_known-in-loop-row-1).held.small)
+overflow_add-from c = omega (arith, (marked (goal.at.overflow_add-from c).After-mark_range-count).held.small)
 
 pub end_of-end-requires : goal.end_of-end-requires
 end_of-end-requires c =
@@ -80,7 +82,7 @@ end_of-end-requires c =
 
 pub loop-row-preserved : goal.loop-row-preserved
 loop-row-preserved c =
-    (search rules, c.loop-row.invariant.1, rw c.end_of-end.ensures (whole (goal.at.loop-row-preserved c).Else-first-end).1, marked (goal.at.loop-row-preserved c).After-slice_known-in-loop-row-1)
+    (search rules, c.loop-row.invariant.1, rw c.end_of-end.ensures (whole (goal.at.loop-row-preserved c).Else-first-end).1, marked (goal.at.loop-row-preserved c).After-mark_range-count)
 
 pub returns : goal.returns
 returns c =

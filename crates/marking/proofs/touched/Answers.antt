@@ -6,9 +6,10 @@ use Rattle.rules.specs.Settings.{unit_size, whole_units}
 use Rattle.rules.proofs.UnitLaws.{unit_size-pos}
 use Rattle.marking.proofs.NoteLaws.{touched-before, touched-to, touched-after, touched-span}
 use Rattle.marking.proofs.touched.Goals as goal
+use Rattle.marking.proofs.touched.Goals.{After-one_more-to}
 
 -- where the touched units end
-end_is : (c : goal.After-one_more-to)
+end_is : (c : After-one_more-to)
     → let a = c.args in
     c.one_more-to.result.0 ≡ min (whole_units a.g (a.last - a.r.start) + 1) a.r.length
 end_is c = c.one_more-to.ensures ∙ ap₂ (λ x y. min (x + 1) y) c.whole_units.ensures c.length_of-most.ensures.0

@@ -9,20 +9,21 @@ use Rattle.record.proofs.RecordLaws.{where_is-at, where_by-at}
 use Rattle.calls.proofs.PlaceLaws.{refused-place}
 use Rattle.migration_send.proofs.FlagLaws.{resume-refused, resume-running, resume-done}
 use Rattle.migration_send.proofs.resume_on.Goals as goal
+use Rattle.migration_send.proofs.resume_on.Goals.{After-number_of-number, In-At}
 
 -- the place that was found, or the refusal
-found : (c : goal.In-At)
+found : (c : In-At)
     → let a = c.args in
     where_by a.d a.words a.manager a.id ≡ At c.in-At.i
 found c = sym c.locate_by-place.ensures ∙ c.in-At.is
 
-refused : (c : goal.After-number_of-number)
+refused : (c : After-number_of-number)
     → let a = c.args in
     where_by a.d a.words a.manager a.id ≡ Refused c.number_of-number.result
 refused c = sym c.locate_by-place.ensures ∙ refused-place _ _ _ c.in_default.is c.number_of-number.ensures
 
 -- it is below 8
-below : (c : goal.In-At) → c.in-At.i < 8
+below : (c : In-At) → c.in-At.i < 8
 below c = (where_is-at _ _ _ _ (where_by-at _ _ _ _ _ (found c)).1).below
 
 pub returns-in_default : goal.returns-in_default

@@ -1,5 +1,4 @@
 use mathlib.Core.Path.{◌≡◌, refl, sym, ap, ◌∙◌}
-use mathlib.Core.Logic.{⊎_elim}
 use Prim.Native.Nat.{◌+◌, ◌-◌, ◌<◌}
 use native.Mathlib.Omega.{arith}
 use lib.ListN.{get_or, length-set}
@@ -8,15 +7,16 @@ use Rattle.pool.specs.Pool.{new_base}
 use Rattle.pool.proofs.Pool.{words-turn}
 use Rattle.plain.proofs.PackLaws.{packing-none, packing-length, packing-kept, packing-clear, packing-room, packing-there, packing-share, packing-all}
 use Rattle.plain.proofs.pack.Goals as goal
+use Rattle.plain.proofs.pack.Goals.{In-loop-unit, Then-i-new, then-i-new, else-i-new}
 
 -- the next unit's place is within the bytes
-room : (c : goal.In-loop-unit) → c.loop-unit.place < 16384
+room : (c : In-loop-unit) → c.loop-unit.place < 16384
 room c =
     let p = c.requires in
     omega (arith, p.0, packing-room _ _ _ _ c.loop-unit.invariant.0 p.1 (omega arith) c.loop-unit-test.true)
 
 -- and so is where its byte is
-there : (c : goal.Then-i-new)
+there : (c : Then-i-new)
     → let a = c.args in
     get_or a.bases c.loop-i.i 0 + c.loop-unit.unit < 16384
 there c =
@@ -49,10 +49,12 @@ loop-unit-preserved c =
     let p = c.loop-unit.invariant.0 in
     let s = c.requires in
     let h = room (goal.at.loop-unit-preserved c).In-loop-unit in (
-      ⊎_elim
-          (λ w. rw w.2 (packing-kept _ _ _ _ p (omega (arith, h, s.0)) w.0.taken (omega (arith, there (record { before = (goal.at.loop-unit-preserved c).In-loop-unit; if1 = w.0 }), s.0))))
-          (λ w. rw w.1 (packing-clear _ _ _ _ p (omega (arith, h, s.0)) w.0.left))
-          c.if-i-new.branch,
+      elim c.if-i-new.branch [
+        | then-i-new w ↦
+            rw w.packed-is
+            (packing-kept _ _ _ _ p (omega (arith, h, s.0)) w.if-i-new.true (omega (arith, s.0, packing-there _ _ _ _ p s.1 (omega arith) c.loop-unit-test.true w.if-i-new.true)))
+        | else-i-new w ↦ rw w.packed-is (packing-clear _ _ _ _ p (omega (arith, h, s.0)) w.if-i-new.false)
+      ],
       omega arith,
     )
 

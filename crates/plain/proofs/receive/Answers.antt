@@ -18,58 +18,66 @@ use Rattle.track_receive.proofs.ReceiveLaws.{receives-nothing, receive-refused, 
 use Rattle.plain.specs.Bytes.{words_for, in_bytes}
 use Rattle.plain.proofs.WayLaws.{one_unit, Way, way, lists-few}
 use Rattle.plain.proofs.receive.Goals as goal
+use Rattle.plain.proofs.receive.Goals.{After-bytes_of-unit, After-number_of, In-At, In-On}
 
 -- the place that was found, or the refusal
-found : (c : goal.In-At)
+found : (c : In-At)
     → let a = c.args in
     where_by a.d (words_for (length a.area.now)) a.manager a.id ≡ At c.in-At.i
 found c = rw (sym c.words_for.ensures) (sym c.locate_by-place.ensures ∙ c.in-At.is)
 
-refused : (c : goal.After-number_of)
+refused : (c : After-number_of)
     → let a = c.args in
     where_by a.d (words_for (length a.area.now)) a.manager a.id ≡ Refused c.number_of.result
 refused c = rw (sym c.words_for.ensures) (sym c.locate_by-place.ensures ∙ refused-place _ _ _ c.in_default.is c.number_of.ensures)
 
 -- whichever manager asks
-placed : (c : goal.In-At)
+placed : (c : In-At)
     → let a = c.args in
     where_is a.d (words_for (length a.area.now)) a.id ≡ At c.in-At.i
 placed c = (where_by-at _ _ _ _ _ (found c)).1
 
-below : (c : goal.In-At) → c.in-At.i < 8
+below : (c : In-At) → c.in-At.i < 8
 below c = (where_is-at _ _ _ _ (placed c)).below
 
 -- the record has its eight controllers
-there : (c : goal.In-At) → c.in-At.i < length c.args.d.controllers
+there : (c : In-At) → c.in-At.i < length c.args.d.controllers
 there c =
     let e : length c.args.d.controllers ≡ 8 = search (length-mapped, rules) in
     omega (arith, below c)
 
--- where a controller was found tracked, its place was found
-abbrev place : tie.After-known-told2 → tie.After-known-told
-place c = c.before.before.before.before.before
+-- the same, of where a controller was found tracked
+found' : (c : In-On) → where_by c.args.d (words_for (length c.args.area.now)) c.args.manager c.args.id ≡ At c.in-At.i
+found' c = rw (sym c.words_for.ensures) (sym c.locate_by-place.ensures ∙ c.in-At.is)
 
-abbrev controller-in : tie.After-known-told2 → Controller
-controller-in c = get_or (place c).before.before.before.before.before.before.before.args.d.controllers (place c).before.place.given.0.0 no_controller
+placed' : (c : In-On) → where_is c.args.d (words_for (length c.args.area.now)) c.args.id ≡ At c.in-At.i
+placed' c = (where_by-at _ _ _ _ _ (found' c)).1
+
+there' : (c : In-On) → c.in-At.i < length c.args.d.controllers
+there' c =
+    let e : length c.args.d.controllers ≡ 8 = search (length-mapped, rules) in
+    omega (arith, (where_is-at _ _ _ _ (placed' c)).below)
 
 -- by the manager that asks
-by : (c : goal.In-On)
-    → tracking_by (place c).before.before.before.before.before.before.before.args.manager (controller-in c).tracking (controller-in c).manager ≡ On c.in-On.g c.in-On.n
+by : (c : In-On)
+    → tracking_by c.args.manager (get_or c.args.d.controllers c.in-At.i no_controller).tracking (get_or c.args.d.controllers c.in-At.i no_controller).manager ≡ On c.in-On.g c.in-On.n
 by c = sym c.tracking_by-t.ensures ∙ c.in-On.is
 
-tracked : (c : goal.In-On) → (controller-in c).tracking ≡ On c.in-On.g c.in-On.n
-tracked c = (tracking_by-on _ (controller-in c).tracking (controller-in c).manager _ _ (by c)).0
+tracked : (c : In-On) → (get_or c.args.d.controllers c.in-At.i no_controller).tracking ≡ On c.in-On.g c.in-On.n
+tracked c = (tracking_by-on _ (get_or c.args.d.controllers c.in-At.i no_controller).tracking (get_or c.args.d.controllers c.in-At.i no_controller).manager _ _ (by c)).0
 
--- TODO a place stands alone, In-On
--- TODO a place stands alone, In-On
--- TODO a place stands alone, In-On
--- TODO a place stands alone, In-On
--- TODO a place stands alone, In-On
 -- what the way over the units of a tracked controller asks
-asks : (c : goal.After-bytes_of-unit)
-    → Way c.bytes_of-unit.result.0 c.in-On.n c.ranges_of-ranges.result (place k).before.before.before.before.before.before.before.args.area.now (controller-in k).base
+asks : (c : After-bytes_of-unit)
+    → Way c.bytes_of-unit.result.0 c.in-On.n c.ranges_of-ranges.result c.args.area.now (get_or c.args.d.controllers c.in-At.i no_controller).base
 asks c =
-    way _ _ _ _ (placed (place k)) (there (place k)) _ _ (tracked k) _ c.bytes_of-unit.ensures _ c.ranges_of-ranges.ensures.0 c.ranges_of-ranges.ensures.1
+    let t = get_or c.args.d.controllers c.in-At.i no_controller in
+    let found : where_by c.args.d (words_for (length c.args.area.now)) c.args.manager c.args.id ≡ At c.in-At.i =
+    rw (sym c.words_for.ensures) (sym c.locate_by-place.ensures ∙ c.in-At.is) in
+    let placed : where_is c.args.d (words_for (length c.args.area.now)) c.args.id ≡ At c.in-At.i = (where_by-at _ _ _ _ _ found).1 in
+    let e : length c.args.d.controllers ≡ 8 = search (length-mapped, rules) in
+    way _ _ _ _ placed (omega (arith, (where_is-at _ _ _ _ placed).below)) _ _
+    (tracking_by-on _ t.tracking t.manager _ _ (sym c.tracking_by-t.ensures ∙ c.in-On.is)).0
+    _ c.bytes_of-unit.ensures _ c.ranges_of-ranges.ensures.0 c.ranges_of-ranges.ensures.1
 
 pub returns-in_default : goal.returns-in_default
 returns-in_default c = receives-nothing _ _ _ _ _ (receive-refused in_bytes _ _ _ _ _ _ (refused (goal.at.returns-in_default c).After-number_of)) c.nothing.ensures
@@ -87,11 +95,11 @@ returns-in_default-t c =
 
 pub returns-then-size-lt32 : goal.returns-then-size-lt32
 returns-then-size-lt32 c =
-    receives-nothing _ 8 _ _ _ (receive-short in_bytes _ _ _ _ _ _ (found (place (goal.at.returns-then-size-lt32 c).In-On)) _ _ (by (goal.at.returns-then-size-lt32 c).In-On) c.if-size-lt32.true) c.nothing-then-size-lt32.ensures
+    receives-nothing _ 8 _ _ _ (receive-short in_bytes _ _ _ _ _ _ (found' (goal.at.returns-then-size-lt32 c).In-On) _ _ (by (goal.at.returns-then-size-lt32 c).In-On) c.if-size-lt32.true) c.nothing-then-size-lt32.ensures
 
 pub bytes_of-unit-requires : goal.bytes_of-unit-requires
 bytes_of-unit-requires c =
-    let f = held_at _ _ _ _ (placed (place (goal.at.bytes_of-unit-requires c).In-On)) (there (place (goal.at.bytes_of-unit-requires c).In-On)) _ _ (tracked (goal.at.bytes_of-unit-requires c).In-On) in
+    let f = held_at _ _ _ _ (placed' (goal.at.bytes_of-unit-requires c).In-On) (there' (goal.at.bytes_of-unit-requires c).In-On) _ _ (tracked (goal.at.bytes_of-unit-requires c).In-On) in
     (f.small, bytes_of-fits _ 1 f.small (omega arith))
 
 pub list_units-listed-requires : goal.list_units-listed-requires
@@ -103,5 +111,5 @@ overflow_cast-listed c = let s = asks (goal.at.overflow_cast-listed c).After-byt
 pub returns : goal.returns
 returns c =
     let s = rw (one_unit _ _ c.bytes_of-unit.ensures, c.ranges_of-ranges.ensures.0) at c.list_units-listed.ensures in
-    receive-done in_bytes _ _ _ _ _ _ (found (place (goal.at.returns c).In-On)) _ _ (by (goal.at.returns c).In-On) c.if-size-lt32.false _ _ _ _ _ _ s.count-is s.more-is s.groups-is s.area-is s.buffer-is
+    receive-done in_bytes _ _ _ _ _ _ (found' (goal.at.returns c).In-On) _ _ (by (goal.at.returns c).In-On) c.if-size-lt32.false _ _ _ _ _ _ s.count-is s.more-is s.groups-is s.area-is s.buffer-is
     c.put_header.ensures

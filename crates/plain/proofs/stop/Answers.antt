@@ -18,54 +18,60 @@ use Rattle.track_send.proofs.StopLaws.{stop-refused, stop-suspended, stop-off, s
 use Rattle.plain.specs.Bytes.{words_for, in_bytes}
 use Rattle.plain.proofs.AreaLaws.{area-whole}
 use Rattle.plain.proofs.stop.Goals as goal
+use Rattle.plain.proofs.stop.Goals.{After-number_of-number, In-At, In-On}
 
 -- the place that was found, or the refusal
-found : (c : goal.In-At)
+found : (c : In-At)
     → let a = c.args in
     where_by a.d (words_for (length a.area.now)) a.manager a.id ≡ At c.in-At.i
 found c = rw c.words_for.ensures at (sym c.locate_by-place.ensures ∙ c.in-At.is)
 
-refused : (c : goal.After-number_of-number)
+refused : (c : After-number_of-number)
     → let a = c.args in
     where_by a.d (words_for (length a.area.now)) a.manager a.id ≡ Refused c.number_of-number.result
 refused c = rw c.words_for.ensures at (sym c.locate_by-place.ensures ∙ refused-place _ _ _ c.in_default.is c.number_of-number.ensures)
 
 -- whichever manager asks
-placed : (c : goal.In-At)
+placed : (c : In-At)
     → let a = c.args in
     where_is a.d (words_for (length a.area.now)) a.id ≡ At c.in-At.i
 placed c = (where_by-at _ _ _ _ _ (found c)).1
 
 -- it is below 8
-below : (c : goal.In-At) → c.in-At.i < 8
+below : (c : In-At) → c.in-At.i < 8
 below c = (where_is-at _ _ _ _ (placed c)).below
 
 -- the record has its eight controllers
-there : (c : goal.In-At) → c.in-At.i < length c.args.d.controllers
+there : (c : In-At) → c.in-At.i < length c.args.d.controllers
 there c =
     let e : length c.args.d.controllers ≡ 8 = search (length-mapped, rules) in
     omega (arith, below c)
 
--- where a controller was found tracked, its place was found
-abbrev place : tie.After-known-told2 → tie.After-known-told
-place c = c.before.before.before.before.before.before
+-- the same, of where a controller was found tracked
+found' : (c : In-On) → where_by c.args.d (words_for (length c.args.area.now)) c.args.manager c.args.id ≡ At c.in-At.i
+found' c = rw c.words_for.ensures at (sym c.locate_by-place.ensures ∙ c.in-At.is)
 
-abbrev controller-in : tie.After-known-told2 → Controller
-controller-in c = get_or (place c).before.before.before.before.before.before.args.d.controllers (place c).before.place.given.0.0 no_controller
+placed' : (c : In-On) → where_is c.args.d (words_for (length c.args.area.now)) c.args.id ≡ At c.in-At.i
+placed' c = (where_by-at _ _ _ _ _ (found' c)).1
+
+there' : (c : In-On) → c.in-At.i < length c.args.d.controllers
+there' c =
+    let e : length c.args.d.controllers ≡ 8 = search (length-mapped, rules) in
+    omega (arith, (where_is-at _ _ _ _ (placed' c)).below)
 
 -- by the manager that asks
-by : (c : goal.In-On)
-    → tracking_by (place c).before.before.before.before.before.before.args.manager (controller-in c).tracking (controller-in c).manager ≡ On c.in-On.g c.in-On.n
+by : (c : In-On)
+    → tracking_by c.args.manager (get_or c.args.d.controllers c.in-At.i no_controller).tracking (get_or c.args.d.controllers c.in-At.i no_controller).manager ≡ On c.in-On.g c.in-On.n
 by c = sym c.tracking_by-t.ensures ∙ c.in-On.is
 
-tracked : (c : goal.In-On) → (controller-in c).tracking ≡ On c.in-On.g c.in-On.n
-tracked c = (tracking_by-on _ (controller-in c).tracking (controller-in c).manager _ _ (by c)).0
+tracked : (c : In-On) → (get_or c.args.d.controllers c.in-At.i no_controller).tracking ≡ On c.in-On.g c.in-On.n
+tracked c = (tracking_by-on _ (get_or c.args.d.controllers c.in-At.i no_controller).tracking (get_or c.args.d.controllers c.in-At.i no_controller).manager _ _ (by c)).0
 
 -- what a tracked controller of a sound record holds
-held : (c : goal.In-On)
+held : (c : In-On)
     → let n = c.in-On.n in
-    HeldFacts (place c).before.before.before.before.before.before.args.d.settings c.in-On.g n (take n (controller-in c).ranges)
-held c = held_at _ _ _ _ (placed (place c)) (there (place c)) _ _ (tracked c)
+    HeldFacts c.args.d.settings c.in-On.g n (take n (get_or c.args.d.controllers c.in-At.i no_controller).ranges)
+held c = held_at _ _ _ _ (placed' c) (there' c) _ _ (tracked c)
 
 pub returns-in_default : goal.returns-in_default
 returns-in_default c = leaves-unchanged _ _ _ (stop-refused in_bytes _ _ _ _ _ (refused c))
@@ -77,10 +83,10 @@ pub bounds-d-i : goal.bounds-d-i
 bounds-d-i c = below c
 
 pub returns-then-c : goal.returns-then-c
-returns-then-c c = leaves-unchanged _ _ _ (stop-suspended in_bytes _ _ _ _ _ (found (goal.at.returns-then-c c).In-At) c.if-c.taken)
+returns-then-c c = leaves-unchanged _ _ _ (stop-suspended in_bytes _ _ _ _ _ (found (goal.at.returns-then-c c).In-At) c.if-c.true)
 
 pub returns-in_default-t : goal.returns-in_default-t
-returns-in_default-t c = leaves-unchanged _ _ _ (stop-off in_bytes _ _ _ _ _ (found (goal.at.returns-in_default-t c).In-At) c.if-c.left (sym c.tracking_by-t.ensures ∙ c.in_default-t.is))
+returns-in_default-t c = leaves-unchanged _ _ _ (stop-off in_bytes _ _ _ _ _ (found (goal.at.returns-in_default-t c).In-At) c.if-c.false (sym c.tracking_by-t.ensures ∙ c.in_default-t.is))
 
 pub units_in-units-requires : goal.units_in-units-requires
 units_in-units-requires c = let h = held (goal.at.units_in-units-requires c).In-On in (h.small, h.few, rw c.ranges_of-ranges.ensures.0 h.rows)
@@ -90,16 +96,16 @@ pub clear-requires : goal.clear-requires
 clear-requires c =
     let r = c.ranges_of-ranges in
     let u = c.units_in-units.ensures.0 in
-    let a = (place (goal.at.clear-requires c).In-On).before.before.before.before.before.before.args in
-    omega (arith, rw r.ensures.0 at u, area-whole (length a.area.now) (where_is-at _ _ _ _ (placed (place (goal.at.clear-requires c).In-On))).whole, share-within _ _ _ _ (placed (place (goal.at.clear-requires c).In-On)) (there (place (goal.at.clear-requires c).In-On)) _ _ (tracked (goal.at.clear-requires c).In-On) (omega (arith, ap length r.ensures.0, r.ensures.1)))
+    let a = c.args in
+    omega (arith, rw r.ensures.0 at u, area-whole (length a.area.now) (where_is-at _ _ _ _ (placed' (goal.at.clear-requires c).In-On)).whole, share-within _ _ _ _ (placed' (goal.at.clear-requires c).In-On) (there' (goal.at.clear-requires c).In-On) _ _ (tracked (goal.at.clear-requires c).In-On) (omega (arith, ap length r.ensures.0, r.ensures.1)))
 
 pub forgotten-device-requires : goal.forgotten-device-requires
-forgotten-device-requires c = below (place (goal.at.forgotten-device-requires c).In-On)
+forgotten-device-requires c = below (goal.at.forgotten-device-requires c).In-At
 
 pub returns : goal.returns
 returns c =
-    let a = (place (goal.at.returns c).In-On).before.before.before.before.before.before.args in
+    let a = c.args in
     let r = c.ranges_of-ranges in
     let u = c.units_in-units.ensures.0 in
-    leaves _ _ _ _ _ (stop-done in_bytes a.d a.manager a.id a.area.now _ (found (place (goal.at.returns c).In-On)) _ _ c.if-c.left (by (goal.at.returns c).In-On))
+    leaves _ _ _ _ _ (stop-done in_bytes a.d a.manager a.id a.area.now _ (found' (goal.at.returns c).In-On) _ _ c.if-c.false (by (goal.at.returns c).In-On))
     (rw c.forgotten-device.ensures) (c.clear.ensures ∙ rw (u, r.ensures.0))

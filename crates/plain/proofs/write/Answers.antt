@@ -16,35 +16,36 @@ use Rattle.plain.specs.Bytes.{words_for, in_bytes}
 use Rattle.plain.proofs.WayLaws.{one_unit, Way, way}
 use Rattle.plain.proofs.NoteLaws.{write-to, bytes-done, bytes-empty}
 use Rattle.plain.proofs.write.Goals as goal
+use Rattle.plain.proofs.write.Goals.{After-bytes_of-size, After-number_of-number, In-At}
 
 -- the place that was found, or the refusal
-found : (c : goal.In-At)
+found : (c : In-At)
     → let a = c.args in
     where_is a.d (words_for (length a.area.now)) a.id ≡ At c.in-At.i
 found c = rw (sym c.words_for.ensures) (sym c.locate-place.ensures ∙ c.in-At.is)
 
-refused : (c : goal.After-number_of-number)
+refused : (c : After-number_of-number)
     → let a = c.args in
     where_is a.d (words_for (length a.area.now)) a.id ≡ Refused c.number_of-number.result
 refused c = rw (sym c.words_for.ensures) (sym c.locate-place.ensures ∙ refused-place _ _ _ c.in_default.is c.number_of-number.ensures)
 
-below : (c : goal.In-At) → c.in-At.i < 8
+below : (c : In-At) → c.in-At.i < 8
 below c = (where_is-at _ _ _ _ (found c)).below
 
 -- the record has its eight controllers
-there : (c : goal.In-At) → c.in-At.i < length c.args.d.controllers
+there : (c : In-At) → c.in-At.i < length c.args.d.controllers
 there c =
     let e : length c.args.d.controllers ≡ 8 = search (length-mapped, rules) in
     omega (arith, below c)
 
--- TODO a place stands alone, In-At
--- TODO a place stands alone, In-At
 -- what the way over the units of a tracked controller asks
-asks : (c : goal.After-bytes_of-size)
+asks : (c : After-bytes_of-size)
     → let a = c.args in
     Way c.bytes_of-size.result.0 c.in-On.n c.ranges_of-ranges.result a.area.now (get_or a.d.controllers c.in-At.i no_controller).base
 asks c =
-    way _ _ _ _ (found k.before.before.before.before.before.before.before) (there k.before.before.before.before.before.before.before) _ _ c.in-On.is _ c.bytes_of-size.ensures _ c.ranges_of-ranges.ensures.0 c.ranges_of-ranges.ensures.1
+    let found : where_is c.args.d (words_for (length c.args.area.now)) c.args.id ≡ At c.in-At.i = rw (sym c.words_for.ensures) (sym c.locate-place.ensures ∙ c.in-At.is) in
+    let e : length c.args.d.controllers ≡ 8 = search (length-mapped, rules) in
+    way _ _ _ _ found (omega (arith, (where_is-at _ _ _ _ found).below)) _ _ c.in-On.is _ c.bytes_of-size.ensures _ c.ranges_of-ranges.ensures.0 c.ranges_of-ranges.ensures.1
 
 pub returns-in_default : goal.returns-in_default
 returns-in_default c = leaves-unchanged _ _ _ (write-refused in_bytes _ _ _ _ _ (refused c))

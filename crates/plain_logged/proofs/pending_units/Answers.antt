@@ -18,35 +18,38 @@ use Rattle.plain.specs.Bytes.{words_for, in_bytes}
 use Rattle.calls.proofs.PlaceLaws.{held_at, share-within}
 use Rattle.logged.proofs.HeldLaws.{held-nowhere, held-off, held_on}
 use Rattle.plain_logged.proofs.pending_units.Goals as goal
+use Rattle.plain_logged.proofs.pending_units.Goals.{In-At, In-On}
 
 -- the place that was found
-found : (c : goal.In-At)
+found : (c : In-At)
     → let a = c.args in
     where_is a.d (words_for (length a.area.now)) a.id ≡ At c.in-At.i
 found c = rw c.words_for.ensures at (sym c.locate-place.ensures ∙ c.in-At.is)
 
 -- it is below 8
-below : (c : goal.In-At) → c.in-At.i < 8
+below : (c : In-At) → c.in-At.i < 8
 below c = (where_is-at _ _ _ _ (found c)).below
 
 -- the record has its eight controllers
-there : (c : goal.In-At) → c.in-At.i < length c.args.d.controllers
+there : (c : In-At) → c.in-At.i < length c.args.d.controllers
 there c =
     let e : length c.args.d.controllers ≡ 8 = search (length-mapped, rules) in
     omega (arith, below c)
 
--- where a controller was found tracked, its place was found
-abbrev place : tie.After-known-told2 → tie.After-known-told
-place c = c.before.before.before.before
+-- the same, of where a controller was found tracked
+found' : (c : In-On) → where_is c.args.d (words_for (length c.args.area.now)) c.args.id ≡ At c.in-At.i
+found' c = rw c.words_for.ensures at (sym c.locate-place.ensures ∙ c.in-At.is)
 
-abbrev controller-in : tie.After-known-told2 → Controller
-controller-in c = get_or (place c).before.before.before.before.before.before.args.d.controllers (place c).before.place.given.0.0 no_controller
+there' : (c : In-On) → c.in-At.i < length c.args.d.controllers
+there' c =
+    let e : length c.args.d.controllers ≡ 8 = search (length-mapped, rules) in
+    omega (arith, (where_is-at _ _ _ _ (found' c)).below)
 
 -- what it holds
-held : (c : goal.In-On)
+held : (c : In-On)
     → let n = c.in-On.n in
-    HeldFacts (place c).before.before.before.before.before.before.args.d.settings c.in-On.g n (take n (controller-in c).ranges)
-held c = held_at _ _ _ _ (found (place c)) (there (place c)) _ _ c.in-On.is
+    HeldFacts c.args.d.settings c.in-On.g n (take n (get_or c.args.d.controllers c.in-At.i no_controller).ranges)
+held c = held_at _ _ _ _ (found' c) (there' c) _ _ c.in-On.is
 
 pub returns-in_default : goal.returns-in_default
 returns-in_default c =
@@ -60,7 +63,7 @@ pub bounds-d-i : goal.bounds-d-i
 bounds-d-i c = below c
 
 pub returns-in_default-t : goal.returns-in_default-t
-returns-in_default-t c = held-off in_bytes _ _ _ _ (found (goal.at.returns-in_default-t c).In-At) c.in_default-t.is
+returns-in_default-t c s = held-off in_bytes _ _ _ _ (found (goal.at.returns-in_default-t c).In-At) c.in_default-t.is
 
 pub units_in-units-requires : goal.units_in-units-requires
 units_in-units-requires c = let h = held (goal.at.units_in-units-requires c).In-On in (h.small, h.few, rw c.ranges_of-ranges.ensures.0 h.rows)
@@ -74,12 +77,12 @@ count_units-requires c =
     omega (arith, rw r.ensures.0 at u, area-whole (length a.area.now) (where_is-at _ _ _ _ (found (place (goal.at.count_units-requires c).In-On))).whole, share-within _ _ _ _ (found (place (goal.at.count_units-requires c).In-On)) (there (place (goal.at.count_units-requires c).In-On)) _ _ c.in-On.is (omega (arith, ap length r.ensures.0, r.ensures.1)))
 
 pub returns : goal.returns
-returns c =
-    let a = (place (goal.at.returns c).In-On).before.before.before.before.before.before.args in
+returns c s =
+    let a = c.args in
     let u = c.units_in-units.ensures.0 in
     let r = c.ranges_of-ranges.ensures.0 in
-    let us = units c.in-On.g (take c.in-On.n (controller-in (goal.at.returns c).In-On).ranges) in
+    let us = units c.in-On.g (take c.in-On.n (get_or c.args.d.controllers c.in-At.i no_controller).ranges) in
     let e = rw r at u in
-    c.count_units.ensures ∙ ap (λ j. marks_set (marks_of a.area.now (controller-in (goal.at.returns c).In-On).base j)) e
-    ∙ marks_set-pending us (marks_of a.area.now (controller-in (goal.at.returns c).In-On).base (length us)) (marks-few a.area.now (controller-in (goal.at.returns c).In-On).base (length us))
-    ∙ held_on in_bytes _ _ _ _ (found (place (goal.at.returns c).In-On)) _ _ c.in-On.is
+    c.count_units.ensures ∙ ap (λ j. marks_set (marks_of a.area.now (get_or c.args.d.controllers c.in-At.i no_controller).base j)) e
+    ∙ marks_set-pending us (marks_of a.area.now (get_or c.args.d.controllers c.in-At.i no_controller).base (length us)) (marks-few a.area.now (get_or c.args.d.controllers c.in-At.i no_controller).base (length us))
+    ∙ held_on in_bytes _ _ _ _ (found' (goal.at.returns c).In-On) _ _ c.in-On.is

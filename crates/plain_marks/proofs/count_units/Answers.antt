@@ -1,5 +1,3 @@
-use mathlib.Core.Logic.{⊎_elim}
-use Prim.Native.Nat.{◌-◌}
 use native.Mathlib.Omega.{arith}
 use Rattle.plain_marks.proofs.CountLaws.{count-within, count-start, count-hit, count-miss, count-end}
 use Rattle.plain_marks.proofs.count_units.Goals as goal
@@ -11,16 +9,13 @@ pub overflow_add-count : goal.overflow_add-count
 overflow_add-count c =
     let l = c.loop-i in
     let a = c.args in
-    omega (arith, count-hit a.area.now a.base a.n l.i (omega arith) (omega arith) (omega (arith, c.if-area-base-ne0.true)), count-within a.area.now a.base a.n)
+    omega (arith, count-hit a.area.now a.base a.n l.i (omega arith) (omega arith), count-within a.area.now a.base a.n)
 
 pub loop-i-preserved : goal.loop-i-preserved
 loop-i-preserved c =
     let l = c.loop-i in
     let a = c.args in
-    ⊎_elim
-    (λ w. omega (arith, w.1, count-hit a.area.now a.base a.n l.i (omega arith) (omega arith) (omega (arith, w.0.taken))))
-    (λ w. omega (arith, w.1, count-miss a.area.now a.base a.n l.i (omega arith) (omega arith) (omega (arith, w.0.left))))
-    c.if-area-base-ne0.branch
+    grind (arith, count-hit a.area.now a.base a.n l.i (omega arith) (omega arith), count-miss a.area.now a.base a.n l.i (omega arith) (omega arith))
 
 pub returns : goal.returns
 returns c =

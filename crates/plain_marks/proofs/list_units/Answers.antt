@@ -1,17 +1,17 @@
-use mathlib.Core.Path.{refl, sym, ap, ◌∙◌}
-use mathlib.Core.Logic.{inl, inr, ⊎_elim}
-use Prim.Native.Nat.{◌+◌, ◌-◌, ◌*◌, ◌≤◌, ◌<◌}
+use mathlib.Core.Path.{refl, sym, ◌∙◌}
+use mathlib.Core.Logic.{inl, inr}
+use Prim.Native.Nat.{◌+◌, ◌*◌, ◌≤◌, ◌<◌}
 use native.Mathlib.Omega.{arith}
-use lib.ListN.{length, length-take, length-set}
+use lib.ListN.{length, length-take}
 use borrow.Author.Rules.{rules}
-use Rattle.rules.specs.Report.{descriptor}
 use Rattle.pieces.specs.Pieces.{row_of}
 use Rattle.plain_marks.proofs.MarkLaws.{unit-within}
 use Rattle.plain_marks.proofs.ListLaws.{stored-length, listing_start, listing-row, listing-covered, listing-there, listing-clear, listing_full, listing-grow, listing-done, listing-promise}
 use Rattle.plain_marks.proofs.list_units.Goals as goal
+use Rattle.plain_marks.proofs.list_units.Goals.{At-loop-unit, Else-covered, In-loop-unit, then-covered, else-covered, then-area-place-eq0, else-area-place-eq0, then-units-eq0+else-runs-room, else-units-eq0}
 
 -- a unit ends at most at 2^64
-ends : (c : goal.In-loop-unit)
+ends : (c : In-loop-unit)
     → let a = c.args in
     (row_of a.ranges c.loop-row.row).start + c.loop-unit.unit * a.size + a.size ≤ 18446744073709551616
 ends c =
@@ -20,12 +20,12 @@ ends c =
     (c.requires.3 c.loop-row.row (omega arith))
 
 -- there is room for the descriptor of a run that is growing
-roomy : (c : goal.At-loop-unit) → 0 < c.loop-unit.units → 16 + 16 * c.loop-unit.runs + 16 ≤ length c.loop-unit.buffer
+roomy : (c : At-loop-unit) → 0 < c.loop-unit.units → 16 + 16 * c.loop-unit.runs + 16 ≤ length c.loop-unit.buffer
 roomy c h =
     omega (arith, (c.loop-unit.invariant.2 _ _ _ _ _ c.loop-row.invariant.3).ahead.growing h, c.loop-unit.invariant.1, c.loop-row.invariant.1, c.requires.4)
 
 -- the byte of the controller's next unit is there
-there : (c : goal.Else-covered) → c.loop-unit.place < length c.loop-unit.area
+there : (c : Else-covered) → c.loop-unit.place < length c.loop-unit.area
 there c =
     listing-there _ _ _ c.requires.0 _ _ _ (omega arith) _ _ _ _ _ _ _ _ _ _ _ _ (c.loop-unit.invariant.2 _ _ _ _ _ c.loop-row.invariant.3) c.loop-unit-test.true (sym c.covered.ensures ∙ c.if-covered.false)
 
@@ -82,33 +82,31 @@ overflow_add-place c = omega (arith, there (goal.at.overflow_add-place c).Else-c
 pub loop-unit-preserved : goal.loop-unit-preserved
 loop-unit-preserved c =
     let t = c.loop-unit-test.true in (
-      ⊎_elim
-          (λ w. ap length w.5 ∙ c.loop-unit.invariant.0)
-          (λ w. ap length w.3 ∙ ⊎_elim (λ v. ap length v.5 ∙ c.loop-unit.invariant.0) (λ v. ap length v.2 ∙ length-set c.loop-unit.area c.loop-unit.place 0 ∙ c.loop-unit.invariant.0) w.2.came)
-          c.if-covered.branch,
-      ⊎_elim
-          (λ w. ap length w.6 ∙ stored-length c.loop-unit.units c.loop-unit.runs c.loop-unit.start c.loop-unit.buffer _ w.2.ensures.1 ∙ c.loop-unit.invariant.1)
-          (λ w. ap length w.4
-          ∙ ⊎_elim
-          (λ v. ap length v.6 ∙ stored-length c.loop-unit.units c.loop-unit.runs c.loop-unit.start c.loop-unit.buffer _ v.2.ensures.1 ∙ c.loop-unit.invariant.1)
-          (λ v. ap length v.3 ∙ c.loop-unit.invariant.1)
-          w.2.came)
-          c.if-covered.branch,
+      omega arith,
+      omega arith,
       λ count more groups a x m.
           let k = c.loop-unit.invariant.2 count more groups a x m in
-          ⊎_elim
-          (λ w. rw (w.5, w.6, w.7, w.8, w.9, w.10)
-          (listing-covered _ _ _ c.requires.0 _ _ _ (omega arith) _ _ _ _ _ _ _ _ _ _ _ _ k _ _ w.2.ensures.0 w.2.ensures.1 t (sym c.covered.ensures ∙ w.0.taken)))
-          (λ w. let q = sym c.covered.ensures ∙ w.0.left in
-          rw (w.3, w.4, w.5, w.6, w.7, w.8)
-          (⊎_elim
-          (λ v. rw (v.5, v.6, v.7, v.8, v.9)
-          (listing-clear _ _ _ c.requires.0 _ _ _ (omega arith) _ _ _ _ _ _ _ _ _ _ _ _ k t q v.0.taken _ _ v.2.ensures.0 v.2.ensures.1))
-          (λ v. rw (v.2, v.3, v.4, v.5, v.6)
-          (listing-grow _ _ _ c.requires.0 _ _ _ (omega arith) _ _ _ _ _ _ _ _ _ _ _ _ k t q v.0.left _
-          (⊎_elim (λ y. inl (y.0.taken, y.1.left, y.2)) (λ y. inr (y.0.left, y.1)) v.1.came)))
-          w.2.came))
-          c.if-covered.branch,
+          elim c.if-covered.branch [
+            | then-covered w ↦
+                rw (w.area-is, w.buffer-is, w.runs-is, w.place-is, w.start-is, w.units-is)
+                (listing-covered _ _ _ c.requires.0 _ _ _ (omega arith) _ _ _ _ _ _ _ _ _ _ _ _ k _ _ w.end_run-runs.ensures.0 w.end_run-runs.ensures.1 t (sym c.covered.ensures ∙ w.if-covered.true))
+            | else-covered w ↦
+                let q = sym c.covered.ensures ∙ w.if-covered.false in
+                rw (w.area-is, w.buffer-is, w.runs-is, w.place-is, w.start-is, w.units-is)
+                (elim w.if-area-place-eq0.branch [
+                  | then-area-place-eq0 v ↦
+                      let e = v.end_run-runs-then-area-place-eq0.ensures in
+                      rw (v.area-is, v.buffer-is, v.runs-is, v.start-is, v.units-is)
+                      (listing-clear _ _ _ c.requires.0 _ _ _ (omega arith) _ _ _ _ _ _ _ _ _ _ _ _ k t q v.if-area-place-eq0.true _ _ e.0 e.1)
+                  | else-area-place-eq0 v ↦
+                      rw (v.area-is, v.buffer-is, v.runs-is, v.start-is, v.units-is)
+                      (listing-grow _ _ _ c.requires.0 _ _ _ (omega arith) _ _ _ _ _ _ _ _ _ _ _ _ k t q v.if-area-place-eq0.false _
+                      (elim v.if-units-eq0.branch [
+                        | then-units-eq0+else-runs-room y ↦ inl (y.if-units-eq0.true, y.if-runs-room.false, y.start-is)
+                        | else-units-eq0 y ↦ inr (y.if-units-eq0.false, y.start-is)
+                      ]))
+                ])
+          ],
     )
 
 pub end_run-runs-requires-in-loop-row : goal.end_run-runs-requires-in-loop-row

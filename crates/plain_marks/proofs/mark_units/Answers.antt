@@ -1,11 +1,12 @@
-use mathlib.Core.Path.{refl, sym, ap, ◌∙◌}
-use mathlib.Core.Logic.{inl, inr, ⊎_elim}
+use mathlib.Core.Path.{◌≡◌, refl, sym, ◌∙◌}
+use mathlib.Core.Logic.{inl, inr}
+use mathlib.Core.Bool.{false}
 use mathlib.Core.List.{List, [], ◌∷◌}
-use Prim.Native.Nat.{ℕ, ◌+◌, ◌-◌, ◌*◌, ◌≤◌, ◌<◌}
+use Prim.Native.Nat.{ℕ, ◌+◌, ◌*◌, ◌≤◌, ◌<◌}
 use native.Mathlib.Omega.{arith}
-use lib.ListN.{length, take, length-take, length-set}
+use lib.ListN.{length, take, length-take}
 use borrow.Author.Rules.{rules}
-use borrow.Author.Tests.{eqb-true, not-true, not-false}
+use borrow.Author.Tests.{ne_eqb}
 use Rattle.rules.specs.Units.{units_from}
 use Rattle.rules.proofs.UnitLaws.{newly-le}
 use Rattle.pieces.specs.Pieces.{row_of, units_left}
@@ -13,9 +14,10 @@ use Rattle.pieces.proofs.PieceLaws.{left-all, left-none}
 use Rattle.plain_marks.specs.Plain.{marks_of, write_to}
 use Rattle.plain_marks.proofs.MarkLaws.{unit-within, left_end, left-covered, left-own, Marking, marking-of, marking-start, marking-hit, marking-miss, marking-done}
 use Rattle.plain_marks.proofs.mark_units.Goals as goal
+use Rattle.plain_marks.proofs.mark_units.Goals.{After-covered, In-loop-unit, then-not-covered, else-not-covered, then-touches+then-area-place-eq0, else-touches, else-touches-via-then-touches+else-area-place-eq0, else-touches-via-else-touches}
 
 -- a unit ends at most at 2^64
-ends : (c : goal.In-loop-unit)
+ends : (c : In-loop-unit)
     → let a = c.args in
     (row_of a.ranges c.loop-row.row).start + c.loop-unit.unit * a.size + a.size ≤ 18446744073709551616
 ends c =
@@ -24,21 +26,21 @@ ends c =
     (c.requires.4 c.loop-row.row (omega arith))
 
 -- what is left to mark, where the unit is the controller's next
-own : (c : goal.Then-not-covered) (final : List ℕ) (total : ℕ)
+own : (c : After-covered) → c.covered.result ≡ false → (final : List ℕ) (total : ℕ)
     → let a = c.args in
     Marking (write_to a.at a.last) (units_left a.size (take a.n a.ranges) c.loop-row.row 0) c.loop-row.area c.loop-row.place c.loop-row.count final total
     → Marking (write_to a.at a.last)
     (record { row = c.loop-row.row; address = (row_of a.ranges c.loop-row.row).start + c.loop-unit.unit * a.size; size = a.size } ∷ units_left a.size (take a.n a.ranges) c.loop-row.row (c.loop-unit.unit + 1))
     c.loop-unit.area c.loop-unit.place c.loop-unit.count final total
-own c final total m =
+own c h final total m =
     let a = c.args in
     marking-of _
-    (left-own a.size a.ranges a.n c.loop-row.row (omega arith) c.loop-unit.unit c.loop-unit-test.true (sym c.covered.ensures ∙ not-true _ c.if-not-covered.true-raw))
+    (left-own a.size a.ranges a.n c.loop-row.row (omega arith) c.loop-unit.unit c.loop-unit-test.true (sym c.covered.ensures ∙ h))
     (c.loop-unit.invariant.1 final total m)
 
 -- its byte is there
-there : (c : goal.Then-not-covered) → c.loop-unit.place < length c.loop-unit.area
-there c = omega (arith, (own c _ _ c.loop-row.invariant.2).fits)
+there : (c : After-covered) → c.covered.result ≡ false → c.loop-unit.place < length c.loop-unit.area
+there c h = omega (arith, (own c h _ _ c.loop-row.invariant.2).fits)
 
 pub loop-row-init : goal.loop-row-init
 loop-row-init c =
@@ -61,43 +63,48 @@ pub touches-requires : goal.touches-requires
 touches-requires c = (c.requires.0, omega arith, ends (goal.at.touches-requires c).In-loop-unit)
 
 pub bounds-area-place : goal.bounds-area-place
-bounds-area-place c = omega (arith, there (goal.at.bounds-area-place c).Then-not-covered)
+bounds-area-place c = omega (arith, there (goal.at.bounds-area-place c).After-covered c.if-not-covered.true)
 
 pub bounds-area-place-then-area-place-eq0 : goal.bounds-area-place-then-area-place-eq0
-bounds-area-place-then-area-place-eq0 c = omega (arith, there (goal.at.bounds-area-place-then-area-place-eq0 c).Then-not-covered)
+bounds-area-place-then-area-place-eq0 c = omega (arith, there (goal.at.bounds-area-place-then-area-place-eq0 c).After-covered c.if-not-covered.true)
 
 pub overflow_add-count : goal.overflow_add-count
 overflow_add-count c =
     let a = c.args in
     let w = write_to a.at a.last in
     let us = units_from a.size 0 [] (take a.n a.ranges) in
-    let m = marking-hit w _ _ _ _ _ _ _ (own (goal.at.overflow_add-count c).Then-not-covered _ _ c.loop-row.invariant.2) _ _ (sym c.touches.ensures ∙ c.if-touches.true) (eqb-true _ _ c.if-area-place-eq0.true-raw) refl refl in
+    let m = marking-hit w _ _ _ _ _ _ _ (own (goal.at.overflow_add-count c).After-covered c.if-not-covered.true _ _ c.loop-row.invariant.2) _ _ (sym c.touches.ensures ∙ c.if-touches.true) c.if-area-place-eq0.true refl refl in
     omega (arith, m.counted, newly-le w us (marks_of a.area.now a.base (length us)))
 
 pub overflow_add-place : goal.overflow_add-place
-overflow_add-place c = omega (arith, there (goal.at.overflow_add-place c).Then-not-covered)
+overflow_add-place c = omega (arith, there (goal.at.overflow_add-place c).After-covered c.if-not-covered.true)
 
 pub loop-unit-preserved : goal.loop-unit-preserved
 loop-unit-preserved c =
     let a = c.args in (
-      ⊎_elim
-          (λ w. ⊎_elim (λ v. ap length (w.3 ∙ v.3) ∙ length-set c.loop-unit.area c.loop-unit.place 1 ∙ c.loop-unit.invariant.0) (λ v. ap length (w.3 ∙ v.1) ∙ c.loop-unit.invariant.0) w.2.came)
-          (λ w. ap length w.1 ∙ c.loop-unit.invariant.0)
-          c.if-not-covered.branch,
+      omega arith,
       λ final total m.
-          ⊎_elim
-          (λ w. let k = own (record { before = (goal.at.loop-unit-preserved c).After-covered; if1 = w.0 }) final total m in
-          rw (w.3, w.4, w.5)
-          (⊎_elim
-          (λ v. marking-hit _ _ _ _ _ _ _ _ k _ _ (sym w.1.ensures ∙ v.0.taken) (eqb-true _ _ v.2.taken) v.3 v.4)
-          (λ v. marking-miss _ _ _ _ _ _ _ _ k _ _
-          (⊎_elim (λ x. inr x.2.left) (λ x. inl (sym w.1.ensures ∙ x.left)) v.0.came) v.1 v.2)
-          w.2.came))
-          (λ w. rw (w.1, w.2, w.3)
-          (marking-of _
-          (left-covered a.size a.ranges a.n c.loop-row.row (omega arith) c.loop-unit.unit c.loop-unit-test.true (sym c.covered.ensures ∙ not-false _ w.0.left))
-          (c.loop-unit.invariant.1 final total m)))
-          c.if-not-covered.branch,
+          elim c.if-not-covered.branch [
+            | then-not-covered w ↦
+                let k = own (goal.at.loop-unit-preserved c).After-covered w.if-not-covered.true final total m in
+                rw (w.area-is, w.place-is, w.count-is)
+                (elim w.if-touches.branch [
+                  | then-touches+then-area-place-eq0 v ↦
+                      marking-hit _ _ _ _ _ _ _ _ k _ _ (sym w.touches.ensures ∙ v.if-touches.true) v.if-area-place-eq0.true v.area-is v.count-is
+                  | else-touches v ↦
+                      marking-miss _ _ _ _ _ _ _ _ k _ _
+                      (elim v.else-touches.branch [
+                        | else-touches-via-then-touches+else-area-place-eq0 x ↦ inr (ne_eqb _ _ x.if-area-place-eq0.false)
+                        | else-touches-via-else-touches x ↦ inl (sym w.touches.ensures ∙ x.if-touches.false)
+                      ])
+                      v.area-is v.count-is
+                ])
+            | else-not-covered w ↦
+                rw (w.area-is, w.place-is, w.count-is)
+                (marking-of _
+                (left-covered a.size a.ranges a.n c.loop-row.row (omega arith) c.loop-unit.unit c.loop-unit-test.true (sym c.covered.ensures ∙ w.if-not-covered.false))
+                (c.loop-unit.invariant.1 final total m))
+          ],
     )
 
 pub loop-row-preserved : goal.loop-row-preserved

@@ -3,7 +3,7 @@
 -- units left. Assumes nothing.
 use mathlib.Core.Path.{◌≡◌}
 use mathlib.Core.List.{List, [], ◌++◌}
-use Prim.Native.Nat.{ℕ, ◌+◌, ◌-◌}
+use Prim.Native.Nat.{ℕ, ◌-◌}
 use lib.ListN.{length, take, drop}
 use Rattle.rules.specs.Units.{units_from, newly}
 use Rattle.pieces.specs.Pieces.{units_left}

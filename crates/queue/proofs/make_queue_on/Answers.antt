@@ -9,14 +9,15 @@ use Rattle.record.proofs.RecordLaws.{where_is-at}
 use Rattle.calls.proofs.PlaceLaws.{refused-place}
 use Rattle.queue.proofs.QueueLaws.{places-most, make-refused, make-area, make-done}
 use Rattle.queue.proofs.make_queue_on.Goals as goal
+use Rattle.queue.proofs.make_queue_on.Goals.{After-number_of-number, In-At}
 
 -- the place that was found, or the refusal
-found : (c : goal.In-At)
+found : (c : In-At)
     → let a = c.args in
     where_is a.d a.words a.id ≡ At c.in-At.i
 found c = sym c.locate-place.ensures ∙ c.in-At.is
 
-refused : (c : goal.After-number_of-number)
+refused : (c : After-number_of-number)
     → let a = c.args in
     where_is a.d a.words a.id ≡ Refused c.number_of-number.result
 refused c = sym c.locate-place.ensures ∙ refused-place _ _ _ c.in_default.is c.number_of-number.ensures

@@ -15,40 +15,35 @@ use Rattle.record.proofs.RecordLaws.{where_is-at}
 use Rattle.calls.proofs.PlaceLaws.{refused-place}
 use Rattle.queue.proofs.QueueLaws.{Usable, queue-usable, leaves-buffer, take-refused, take-area, take_none, take_told}
 use Rattle.queue.proofs.take_on.Goals as goal
+use Rattle.queue.proofs.take_on.Goals.{After-number_of-number, Else-not-area_ok, In-At, In-Is}
 
 -- the place that was found, or the refusal
-found : (c : goal.In-At)
+found : (c : In-At)
     → let a = c.args in
     where_is a.d a.words a.id ≡ At c.in-At.i
 found c = sym c.locate-place.ensures ∙ c.in-At.is
 
-refused : (c : goal.After-number_of-number)
+refused : (c : After-number_of-number)
     → let a = c.args in
     where_is a.d a.words a.id ≡ Refused c.number_of-number.result
 refused c = sym c.locate-place.ensures ∙ refused-place _ _ _ c.in_default.is c.number_of-number.ensures
 
--- it is below 8, and the record has its eight controllers
-below : (c : goal.In-At) → c.in-At.i < 8
+-- it is below 8
+below : (c : In-At) → c.in-At.i < 8
 below c = (where_is-at _ _ _ _ (found c)).below
 
-there : (c : goal.In-At) → c.in-At.i < length c.args.d.controllers
-there c =
-    let e : length c.args.d.controllers ≡ 8 = search (length-mapped, rules) in
-    omega (arith, below c)
-
 -- the area passed 28
-whole : (c : goal.Else-not-area_ok)
+whole : (c : Else-not-area_ok)
     → let bytes = length c.args.area.now in
     (places_ok bytes && size_made (places_of c.queue_at-q.result) bytes) ≡ true
 whole c = sym c.area_ok.ensures ∙ not-false _ c.if-not-area_ok.false-raw
 
--- TODO a place stands alone, In-At
--- TODO a place stands alone, In-At
--- TODO a place stands alone, Else-not-area_ok
--- so the queue of a sound record may be used
-usable : (c : goal.In-Is) → Usable (length c.args.area.now) c.in-Is.r
+-- so the queue of a sound record, which has its eight controllers, may be used
+usable : (c : In-Is) → Usable (length c.args.area.now) c.in-Is.r
 usable c =
-    queue-usable _ _ _ _ (found q.before) (there q.before) _ (sym c.queue_at-q.ensures) _ c.in-Is.is _ (whole w)
+    let f = sym c.locate-place.ensures ∙ c.in-At.is in
+    let n : length c.args.d.controllers ≡ 8 = search (length-mapped, rules) in
+    queue-usable _ _ _ _ f (omega (arith, (where_is-at _ _ _ _ f).below, n)) _ (sym c.queue_at-q.ensures) _ c.in-Is.is _ (sym c.area_ok.ensures ∙ not-false _ c.if-not-area_ok.false-raw)
 
 pub returns-in_default : goal.returns-in_default
 returns-in_default c = leaves-buffer _ _ _ _ (take-refused _ _ _ _ _ _ _ (refused (goal.at.returns-in_default c).After-number_of-number)) c.refused_take.ensures

@@ -9,12 +9,13 @@ use lib.Pow.{shl_exact}
 use Rattle.rules.specs.Ranges.{is_power}
 use Rattle.ranges.proofs.PowerLaws.{trailing_below, is_power-trailing}
 use Rattle.ranges.proofs.is_power.Goals as goal
+use Rattle.ranges.proofs.is_power.Goals.{Else-n-eq0}
 
-below : (c : goal.Else-n-eq0) → count_trailing_zeros 32 c.args.r.length < 32
-below c = trailing_below 32 c.args.r.length (omega (arith, c.if-n-eq0.left)) (omega arith)
+below : (c : Else-n-eq0) → count_trailing_zeros 32 c.args.r.length < 32
+below c = trailing_below 32 c.args.r.length (omega (arith, c.if-n-eq0.false)) (omega arith)
 
 pub returns-then-n-eq0 : goal.returns-then-n-eq0
-returns-then-n-eq0 c = sym (ap is_power c.if-n-eq0.taken)
+returns-then-n-eq0 c = sym (ap is_power c.if-n-eq0.true)
 
 pub overflow_shl-result : goal.overflow_shl-result
 overflow_shl-result c = below c

@@ -12,20 +12,21 @@ use Rattle.ranges.specs.Kept.{lengths_of, kept_by}
 use Rattle.ranges.specs.declared.Kept.{Kept}
 use Rattle.ranges.proofs.RangeLaws.{each_ok, kept-empty, kept-many, kept-not, kept-few, kept-counted, each_rows, units-lengths}
 use Rattle.ranges.proofs.list_kept.Goals as goal
+use Rattle.ranges.proofs.list_kept.Goals.{After-loop-i}
 
 -- where a rule is broken there are no units
 nothing : (r k : Kept) → r ≡ kept_by false 0 → k ≡ kept_by false 0 → (r ≡ k) × (r.most.0 ≤ 16 * 4294967295)
 nothing r k e f = (e ∙ sym f, omega (arith, ap (λ (x : Kept). x.most.0) e))
 
 -- past the loop the lengths are added and each range passes by itself
-added : (c : goal.After-loop-i)
+added : (c : After-loop-i)
     → let a = c.args in
     lengths_of (take a.n a.ranges) ≡ c.loop-i.total
 added c =
     let a = c.args in
     omega (arith, sum-end (λ r. r.length) a.ranges a.n c.loop-i.i (omega arith), c.loop-i.invariant.4)
 
-passed : (c : goal.After-loop-i)
+passed : (c : After-loop-i)
     → let a = c.args in
     all (each_ok a.s a.g) (take a.n a.ranges) ≡ true
 passed c =

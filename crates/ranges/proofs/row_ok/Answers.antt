@@ -6,14 +6,14 @@ use Rattle.ranges.proofs.row_ok.Goals as goal
 pub returns-then-row_number-ne0 : goal.returns-then-row_number-ne0
 returns-then-row_number-ne0 c =
     let a = c.args in
-    sym (each-not a.s a.g a.r _ c.row_number.ensures c.if-row_number-ne0.taken)
+    sym (each-not a.s a.g a.r _ c.row_number.ensures c.if-row_number-ne0.true)
 
 pub returns-then-s : goal.returns-then-s
 returns-then-s c =
     let a = c.args in
-    c.is_power.ensures ∙ sym (each_on a.s a.g a.r _ c.row_number.ensures c.if-row_number-ne0.left c.if-s.taken)
+    c.is_power.ensures ∙ sym (each_on a.s a.g a.r _ c.row_number.ensures c.if-row_number-ne0.false c.if-s.true)
 
 pub returns : goal.returns
 returns c =
     let a = c.args in
-    sym (each-off a.s a.g a.r _ c.row_number.ensures c.if-row_number-ne0.left c.if-s.left)
+    sym (each-off a.s a.g a.r _ c.row_number.ensures c.if-row_number-ne0.false c.if-s.false)

@@ -9,15 +9,16 @@ use Rattle.pieces.specs.Pieces.{PieceFound, NextIs}
 use Rattle.pieces.proofs.PieceLaws.{left-all, piece-length}
 use Rattle.ranges.proofs.RangeLaws.{units-lengths, lengths-small}
 use Rattle.ranges.proofs.units_in.Goals as goal
+use Rattle.ranges.proofs.units_in.Goals.{In-Is, Start}
 
 -- there are few: 16 ranges of at most 2^52 units
-few : (c : goal.Start) → length (units c.args.g (take c.args.n c.args.ranges)) ≤ 2 ^ 56
+few : (c : Start) → length (units c.args.g (take c.args.n c.args.ranges)) ≤ 2 ^ 56
 few c =
     let rs = take c.args.n c.args.ranges in
     omega (arith, units-lengths c.args.g rs, lengths-small c.args.g rs c.requires.2, length-take c.args.n c.args.ranges, c.requires.1)
 
 -- the piece that was found
-found : (c : goal.In-Is)
+found : (c : In-Is)
     → let a = c.args in
     let l = c.loop-piece in
     PieceFound (unit_size a.g) (take a.n a.ranges) l.row l.unit.0 c.in-Is.piece
@@ -43,12 +44,12 @@ returns-in_default c =
 pub overflow_add-total : goal.overflow_add-total
 overflow_add-total c =
     let l = c.loop-piece in
-    omega (arith, l.invariant.1, piece-length _ _ _ _ _ (found (goal.at.overflow_add-total c).After-length_of-arg-1), c.length_of-u.ensures.0, few (goal.at.overflow_add-total c).At-loop-piece)
+    omega (arith, l.invariant.1, piece-length _ _ _ _ _ (found (goal.at.overflow_add-total c).In-Is), c.length_of-u.ensures.0, few (goal.at.overflow_add-total c).Start)
 
 pub loop-piece-smaller : goal.loop-piece-smaller
-loop-piece-smaller c = omega (arith, (found (goal.at.loop-piece-smaller c).After-length_of-arg-1).some, piece-length _ _ _ _ _ (found (goal.at.loop-piece-smaller c).After-length_of-arg-1))
+loop-piece-smaller c = omega (arith, (found (goal.at.loop-piece-smaller c).In-Is).some, piece-length _ _ _ _ _ (found (goal.at.loop-piece-smaller c).In-Is))
 
 pub loop-piece-preserved : goal.loop-piece-preserved
 loop-piece-preserved c =
     let l = c.loop-piece in
-    ((found (goal.at.loop-piece-preserved c).After-length_of-arg-1).inside, omega (arith, l.invariant.1, piece-length _ _ _ _ _ (found (goal.at.loop-piece-preserved c).After-length_of-arg-1), c.length_of-u.ensures.0))
+    ((found (goal.at.loop-piece-preserved c).In-Is).inside, omega (arith, l.invariant.1, piece-length _ _ _ _ _ (found (goal.at.loop-piece-preserved c).In-Is), c.length_of-u.ensures.0))

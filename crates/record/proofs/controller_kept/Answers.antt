@@ -12,14 +12,12 @@ returns-in_default c = (sym (kept_in-off _ _ _ _ c.in_default.is), omega arith)
 
 pub returns-then-not-is_manager : goal.returns-then-not-is_manager
 returns-then-not-is_manager c =
-    let t = c.t-1.given in
-    (sym (kept_in-stray _ _ _ _ _ _ t.1 (sym c.is_manager.ensures ∙ not-true _ c.if-not-is_manager.true-raw)), omega arith)
+    (sym (kept_in-stray _ _ _ _ _ _ c.in-On.is (sym c.is_manager.ensures ∙ not-true _ c.if-not-is_manager.true-raw)), omega arith)
 
 pub returns-then-not-granularity_ok : goal.returns-then-not-granularity_ok
 returns-then-not-granularity_ok c =
-    let t = c.t-1.given in
     let m = sym c.is_manager.ensures ∙ not-false _ c.if-not-is_manager.false-raw in
-    (sym (kept_in-seven _ _ _ _ _ _ t.1 m (sym c.granularity_ok.ensures ∙ not-true _ c.if-not-granularity_ok.true-raw)), omega arith)
+    (sym (kept_in-seven _ _ _ _ _ _ c.in-On.is m (sym c.granularity_ok.ensures ∙ not-true _ c.if-not-granularity_ok.true-raw)), omega arith)
 
 pub list_kept-requires : goal.list_kept-requires
 list_kept-requires c =
@@ -27,6 +25,5 @@ list_kept-requires c =
 
 pub returns : goal.returns
 returns c =
-    let t = c.t-1.given in
     let m = sym c.is_manager.ensures ∙ not-false _ c.if-not-is_manager.false-raw in
-    (c.list_kept.ensures.0 ∙ sym (kept_in-on _ _ _ _ _ _ t.1 m (sym c.granularity_ok.ensures ∙ not-false _ c.if-not-granularity_ok.false-raw)), c.list_kept.ensures.1)
+    (c.list_kept.ensures.0 ∙ sym (kept_in-on _ _ _ _ _ _ c.in-On.is m (sym c.granularity_ok.ensures ∙ not-false _ c.if-not-granularity_ok.false-raw)), c.list_kept.ensures.1)

@@ -7,12 +7,13 @@ use Rattle.record.specs.declared.Walked.{Walked}
 use Rattle.record.proofs.WalkLaws.{walk_of-first, walk_of-weight}
 use Rattle.record.proofs.RecordLaws.{sound_device-facts, sound_device-first, sound_device-second}
 use Rattle.record.proofs.managed.Goals as goal
+use Rattle.record.proofs.managed.Goals.{After-walk-w}
 
 -- what was walked
-first : (c : goal.After-walk-w) → c.walk-w.result.first ≡ first_of c.args.d
+first : (c : After-walk-w) → c.walk-w.result.first ≡ first_of c.args.d
 first c = ap (λ (w : Walked). w.first) c.walk-w.ensures.0 ∙ walk_of-first c.args.d
 
-weighed : (c : goal.After-walk-w) → c.walk-w.result.weight ≡ weights_of c.args.d
+weighed : (c : After-walk-w) → c.walk-w.result.weight ≡ weights_of c.args.d
 weighed c = ap (λ (w : Walked). w.weight) c.walk-w.ensures.0 ∙ walk_of-weight c.args.d
 
 pub walk-w-requires : goal.walk-w-requires

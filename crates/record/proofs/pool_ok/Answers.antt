@@ -10,9 +10,10 @@ use Rattle.rules.specs.declared.Share.{Share}
 use Rattle.record.specs.Record.{units_of}
 use Rattle.record.proofs.RecordLaws.{shares_of-sizes}
 use Rattle.record.proofs.pool_ok.Goals as goal
+use Rattle.record.proofs.pool_ok.Goals.{After-sizes_ok}
 
 -- what was asked of the sizes is asked of the units
-asked : (c : goal.After-sizes_ok) → c.sizes_ok.result ≡ leb (units_of c.args.d) most_units
+asked : (c : After-sizes_ok) → c.sizes_ok.result ≡ leb (units_of c.args.d) most_units
 asked c =
     c.sizes_ok.ensures ∙ ap (λ l. leb (sum (map (λ (a : Share). a.size) l)) most_units) c.shares-all.ensures
     ∙ ap (λ n. leb n most_units) (shares_of-sizes c.args.d)

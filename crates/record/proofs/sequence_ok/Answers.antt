@@ -15,21 +15,22 @@ use Rattle.settings.proofs.SettingsLaws.{settings_ok-count}
 use Rattle.record.specs.Record.{no_controller}
 use Rattle.record.proofs.RecordLaws.{found-used, sequence-none, sequence-stray, sequence-owned}
 use Rattle.record.proofs.sequence_ok.Goals as goal
+use Rattle.record.proofs.sequence_ok.Goals.{In-At}
 
 -- the owner's place
-at : (c : goal.In-At) → found_at (place_of c.args.d.settings c.in-Open.owner) ≡ found.At c.in-At.i
+at : (c : In-At) → found_at (place_of c.args.d.settings c.in-Open.owner) ≡ found.At c.in-At.i
 at c = sym c.find.ensures ∙ c.in-At.is
 
-used : (c : goal.In-At) → c.in-At.i < c.args.d.settings.count
+used : (c : In-At) → c.in-At.i < c.args.d.settings.count
 used c = found-used _ _ _ (at c)
 
-below : (c : goal.In-At) → c.in-At.i < 8
+below : (c : In-At) → c.in-At.i < 8
 below c = omega (arith, used c, settings_ok-count _ c.requires)
 
-eight : (c : goal.In-At) → length c.args.d.controllers ≡ 8
+eight : (c : In-At) → length c.args.d.controllers ≡ 8
 eight c = search (length-mapped, rules)
 
-owned : (c : goal.In-At)
+owned : (c : In-At)
     → let d = c.args.d in
     sequence_ok d.settings (controllers_of d) d.sequence ≡ ((get_or d.controllers c.in-At.i no_controller).suspended && front_ok c.in-Open.end)
 owned c = sequence-owned c.args.d _ _ _ c.in-Open.is _ (at c) (used c) (omega (arith, below c, eight c))

@@ -13,38 +13,35 @@ use Rattle.record.specs.declared.Walked.{Walked}
 use Rattle.record.proofs.WalkLaws.{walk_of-first, walk_of-weight, walk_of-queues}
 use Rattle.record.proofs.RecordLaws.{sound_device-settings-not, sound_device-sequence-not, sound_device-queues-not, sound_device-heavy, sound_device-all-held, sound_device-pool, sound_device-lined}
 use Rattle.record.proofs.sound.Goals as goal
+use Rattle.record.proofs.sound.Goals.{After-counts_ok, After-walk-w, Else-not-counts_ok, Else-not-sequence_ok, Else-not-settings_ok, Else-not-w}
 
 -- past the first test the settings pass, and past the second the sequence does
-passed : (c : goal.Else-not-settings_ok) → settings_ok c.args.d.settings ≡ true
+passed : (c : Else-not-settings_ok) → settings_ok c.args.d.settings ≡ true
 passed c = sym c.settings_ok.ensures ∙ not-false _ c.if-not-settings_ok.false-raw
 
-follows : (c : goal.Else-not-sequence_ok) → let d = c.args.d in sequence_ok d.settings (controllers_of d) d.sequence ≡ true
+follows : (c : Else-not-sequence_ok) → let d = c.args.d in sequence_ok d.settings (controllers_of d) d.sequence ≡ true
 follows c = sym c.sequence_ok.ensures ∙ not-false _ c.if-not-sequence_ok.false-raw
 
 -- what was walked
-weighed : (c : goal.After-walk-w) → c.walk-w.result.weight ≡ weights_of c.args.d
+weighed : (c : After-walk-w) → c.walk-w.result.weight ≡ weights_of c.args.d
 weighed c = ap (λ (w : Walked). w.weight) c.walk-w.ensures.0 ∙ walk_of-weight c.args.d
 
-first : (c : goal.After-walk-w) → c.walk-w.result.first ≡ first_of c.args.d
+first : (c : After-walk-w) → c.walk-w.result.first ≡ first_of c.args.d
 first c = ap (λ (w : Walked). w.first) c.walk-w.ensures.0 ∙ walk_of-first c.args.d
 
-queued : (c : goal.After-walk-w) → c.walk-w.result.queues ≡ queues_ok c.args.d
+queued : (c : After-walk-w) → c.walk-w.result.queues ≡ queues_ok c.args.d
 queued c = ap (λ (w : Walked). w.queues) c.walk-w.ensures.0 ∙ walk_of-queues c.args.d
 
--- TODO a place stands alone, After-walk-w
--- TODO a place stands alone, After-walk-w
 -- what was asked of the limits: past the third test the weights are within them, and past the fourth the queues are as they may be
-limited : (c : goal.After-counts_ok) → let d = c.args.d in c.counts_ok.result ≡ within_limits d.settings (first_of d) (weights_of d)
+limited : (c : After-counts_ok) → let d = c.args.d in c.counts_ok.result ≡ within_limits d.settings (first_of d) (weights_of d)
 limited c =
     let d = c.args.d in
     c.counts_ok.ensures ∙ ap (λ n. within_limits d.settings n c.walk-w.result.weight) (first c.before) ∙ ap (within_limits d.settings (first_of d)) (weighed c.before)
 
--- TODO a place stands alone, After-counts_ok
-light : (c : goal.Else-not-counts_ok) → let d = c.args.d in within_limits d.settings (first_of d) (weights_of d) ≡ true
+light : (c : Else-not-counts_ok) → let d = c.args.d in within_limits d.settings (first_of d) (weights_of d) ≡ true
 light c = sym (limited c.before) ∙ not-false _ c.if-not-counts_ok.false-raw
 
--- TODO a place stands alone, After-walk-w
-in_order : (c : goal.Else-not-w) → queues_ok c.args.d ≡ true
+in_order : (c : Else-not-w) → queues_ok c.args.d ≡ true
 in_order c = sym (queued c.before.before.before.before) ∙ not-false _ c.if-not-w.false
 
 pub returns-then-not-settings_ok : goal.returns-then-not-settings_ok
@@ -74,10 +71,9 @@ pub returns-then-not-w : goal.returns-then-not-w
 returns-then-not-w c =
     sym (sound_device-queues-not c.args.d (sym (queued (goal.at.returns-then-not-w c).After-walk-w) ∙ not-true _ c.if-not-w.true))
 
--- TODO no step end at After-walk
 pub returns-then-w-le-MOST_UNITS : goal.returns-then-w-le-MOST_UNITS
 returns-then-w-le-MOST_UNITS c =
-    sym (sound_device-lined c.args.d (passed (goal.at.returns-then-w-le-MOST_UNITS c).Else-not-settings_ok) (light (goal.at.returns-then-w-le-MOST_UNITS c).Else-not-counts_ok) (follows (goal.at.returns-then-w-le-MOST_UNITS c).Else-not-sequence_ok) (in_order (goal.at.returns-then-w-le-MOST_UNITS c).Else-not-w) (omega (arith, ap (λ ((goal.at.returns-then-w-le-MOST_UNITS c).After-walk-w : Walked). c.end) c.walk-w.ensures.0, c.if-w-le-MOST_UNITS.true)))
+    sym (sound_device-lined c.args.d (passed (goal.at.returns-then-w-le-MOST_UNITS c).Else-not-settings_ok) (light (goal.at.returns-then-w-le-MOST_UNITS c).Else-not-counts_ok) (follows (goal.at.returns-then-w-le-MOST_UNITS c).Else-not-sequence_ok) (in_order (goal.at.returns-then-w-le-MOST_UNITS c).Else-not-w) (omega (arith, ap (λ (w : Walked). w.end) c.walk-w.ensures.0, c.if-w-le-MOST_UNITS.true)))
 
 pub pool_ok-requires : goal.pool_ok-requires
 pool_ok-requires c =

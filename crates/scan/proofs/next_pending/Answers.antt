@@ -1,4 +1,4 @@
-use mathlib.Core.Path.{◌≡◌, subst}
+use mathlib.Core.Path.{◌≡◌}
 use mathlib.Core.Bool.{Bool, true}
 use mathlib.Core.List.{List}
 use Prim.Native.Nat.{ℕ, ◌≤◌, ◌<◌, ◌-◌, ◌+◌, ◌^◌}
@@ -11,63 +11,62 @@ use Rattle.bits.proofs.Flat.{flat-length}
 use Rattle.rules.specs.Settings.{unit_size}
 use Rattle.rules.specs.Units.{units}
 use Rattle.rules.specs.declared.Range.{Range}
-use Rattle.pieces.specs.Pieces.{PieceFound, NextIs}
+use Rattle.pieces.specs.Pieces.{PieceFound}
 use Rattle.pieces.specs.declared.Piece.{Piece}
 use Rattle.pieces.proofs.PieceLaws.{piece-length}
 use Rattle.scan.specs.Scan.{Scanned}
 use Rattle.scan.proofs.ScanSteps.{scanned-start, scanned-nothing, piece-end, scanned-piece, next-from}
 use Rattle.scan.proofs.next_pending.Goals as goal
+use Rattle.scan.proofs.next_pending.Goals.{In-Is}
 
-module _ (k : tie.After-known-told invariant-loop decreases-loop) where
-  abbrev f : tie.Start invariant-loop decreases-loop
-  f = k.before.before.before.before.before.before
-
+-- where a piece was found
+module _ (k : In-Is) where
   abbrev i : ℕ
-  i = k.before.before.before.before.loop.i
+  i = k.loop-piece.i
 
   abbrev u : ℕ
-  u = k.before.before.before.before.loop.u.0
+  u = k.loop-piece.u.0
 
   abbrev p : ℕ
-  p = k.before.before.before.before.loop.at
+  p = k.loop-piece.at
 
   abbrev q : Piece
-  q = k.before.piece.given.0.0
-
-  abbrev total : ℕ
-  total = length (units f.args.g (take f.args.n f.args.ranges))
-
-  abbrev marks : List Bool
-  marks = get_share (flat f.args.marks.now) f.args.base total
+  q = k.in-Is.piece
 
   abbrev rs : List Range
-  rs = take f.args.n f.args.ranges
+  rs = take k.args.n k.args.ranges
 
-  fits : f.args.base + total ≤ length (flat f.args.marks.now)
-  fits = omega (arith, f.pre.3.within, flat-length f.args.marks.now)
+  abbrev total : ℕ
+  total = length (units k.args.g rs)
 
-  stood : Scanned f.args.g rs marks f.args.pos i u p
-  stood = k.before.before.before.before.loop.inv
+  abbrev marks : List Bool
+  marks = get_share (flat k.args.marks.now) k.args.base total
 
-  found : PieceFound (unit_size f.args.g) rs i u q
-  found = subst (NextIs (unit_size f.args.g) rs i u) k.before.piece.given.1 k.before.before.before.next-piece.ensures
+  fits : k.args.base + total ≤ length (flat k.args.marks.now)
+  fits = omega (arith, k.requires.3.within, flat-length k.args.marks.now)
+
+  stood : Scanned k.args.g rs marks k.args.pos i u p
+  stood = k.loop-piece.invariant
+
+  found : PieceFound (unit_size k.args.g) rs i u q
+  found = k.in-Is.ensures
 
   abbrev end : ℕ
   end = p + q.range.length
 
   ended : end ≤ total
-  ended = piece-end f.args.g rs marks f.args.pos i u p stood q found
+  ended = piece-end k.args.g rs marks k.args.pos i u p stood q found
 
-  small : f.args.base + end < 2 ^ 64
-  small = omega (arith, ended, f.pre.3.small)
+  small : k.args.base + end < 2 ^ 64
+  small = omega (arith, ended, k.requires.3.small)
 
   -- the next set mark of it
-  module _ (r : ℕ) (e : r ≡ next true (flat f.args.marks.now) (f.args.base + p) (f.args.base + end)) where
-    set : (f.args.base ≤ r) × (r - f.args.base ≡ next true marks p end)
-    set = next-from true (flat f.args.marks.now) f.args.base total p end r fits ended e
+  module _ (r : ℕ) (e : r ≡ next true (flat k.args.marks.now) (k.args.base + p) (k.args.base + end)) where
+    set : (k.args.base ≤ r) × (r - k.args.base ≡ next true marks p end)
+    set = next-from true (flat k.args.marks.now) k.args.base total p end r fits ended e
 
-    none : end ≤ r - f.args.base → Scanned f.args.g rs marks f.args.pos q.row q.next.0 end
-    none h = scanned-piece f.args.g rs marks f.args.pos i u p stood q found (r - f.args.base) set.1 h
+    none : end ≤ r - k.args.base → Scanned k.args.g rs marks k.args.pos q.row q.next.0 end
+    none h = scanned-piece k.args.g rs marks k.args.pos i u p stood q found (r - k.args.base) set.1 h
 
 pub loop-piece-init : goal.loop-piece-init
 loop-piece-init c = scanned-start _ _ _ _ _ _ c.requires.4
@@ -78,7 +77,7 @@ next_piece-requires c =
 
 pub returns-in_default : goal.returns-in_default
 returns-in_default c =
-    scanned-nothing _ _ _ _ _ _ _ (subst (NextIs _ _ _ _) c.in_default.is c.next_piece.ensures) c.loop-piece.invariant
+    scanned-nothing _ _ _ _ _ _ _ c.in_default.ensures c.loop-piece.invariant
 
 pub overflow_add-end : goal.overflow_add-end
 overflow_add-end c = omega (arith, small (goal.at.overflow_add-end c).In-Is)
@@ -94,10 +93,13 @@ overflow_sub-from c = (set (goal.at.overflow_sub-from c).In-Is _ c.next_set.ensu
 
 pub returns-then-from-end : goal.returns-then-from-end
 returns-then-from-end c =
-    record { row = i (goal.at.returns-then-from-end c).In-Is; unit = u (goal.at.returns-then-from-end c).In-Is; scanned = stood (goal.at.returns-then-from-end c).In-Is; piece = found (goal.at.returns-then-from-end c).In-Is; first = (set (goal.at.returns-then-from-end c).In-Is _ c.next_set.ensures).1; inside = c.if-from-end.true }
+    let k = (goal.at.returns-then-from-end c).In-Is in
+    record { row = i k; unit = u k; scanned = stood k; piece = found k; first = (set k _ c.next_set.ensures).1; inside = c.if-from-end.true }
 
 pub loop-piece-smaller : goal.loop-piece-smaller
-loop-piece-smaller c = omega (arith, piece-length _ _ _ _ _ (found (goal.at.loop-piece-smaller c).In-Is), (found (goal.at.loop-piece-smaller c).In-Is).some)
+loop-piece-smaller c =
+    let f = found (goal.at.loop-piece-smaller c).In-Is in
+    omega (arith, piece-length _ _ _ _ _ f, f.some)
 
 pub loop-piece-preserved : goal.loop-piece-preserved
 loop-piece-preserved c = none (goal.at.loop-piece-preserved c).In-Is _ c.next_set.ensures c.if-from-end.false

@@ -1,7 +1,5 @@
 -- `scan::next_pending` is right: piece by piece the next set mark is looked for. The loop's invariant (`Scanned`): all marks
 -- from `pos` to where it stands are clear. The measure is the units that are left. Assumes nothing.
--- ---- where a piece was found
-use Prim.Native.Nat.{◌-◌}
 use lib.ListN.{length, take}
 use Rattle.bits.specs.Flat.{flat}
 use Rattle.bits.specs.Share.{get_share}

@@ -5,9 +5,10 @@ use native.Mathlib.Omega.{arith}
 use Rattle.scan.specs.Scan.{piece_end}
 use Rattle.scan.proofs.ScanSteps.{begins-ends}
 use Rattle.scan.proofs.run_from.Goals as goal
+use Rattle.scan.proofs.run_from.Goals.{After-next_clear}
 
 -- the run has a unit, and ends with its piece at the latest
-ends : (c : goal.After-next_clear)
+ends : (c : After-next_clear)
     → let a = c.args in
     (a.base + a.f.from < c.next_clear.result) × (c.next_clear.result ≤ a.base + piece_end a.f)
 ends c = begins-ends _ _ _ _ c.requires.1 _ c.next_clear.ensures

@@ -20,67 +20,71 @@ use Rattle.calls.specs.Calls.{in_words}
 use Rattle.calls.proofs.PlaceLaws.{refused-place, tracking_by-on, held_at, share-within}
 use Rattle.track_receive.proofs.ReceiveLaws.{receives-nothing, receive-refused, receive-off, receive-short, receive-done, lists-few, lists-words}
 use Rattle.track_receive.proofs.receive.Goals as goal
+use Rattle.track_receive.proofs.receive.Goals.{After-number_of, After-ranges_of-ranges, In-At, In-On}
 
 -- the place that was found, or the refusal
-found : (c : goal.In-At)
+found : (c : In-At)
     → let a = c.args in
     where_by a.d (length a.marks.now) a.manager a.id ≡ At c.in-At.i
 found c = sym c.locate_by-place.ensures ∙ c.in-At.is
 
-refused : (c : goal.After-number_of)
+refused : (c : After-number_of)
     → let a = c.args in
     where_by a.d (length a.marks.now) a.manager a.id ≡ Refused c.number_of.result
 refused c = sym c.locate_by-place.ensures ∙ refused-place _ _ _ c.in_default.is c.number_of.ensures
 
 -- whichever manager asks
-placed : (c : goal.In-At)
+placed : (c : In-At)
     → let a = c.args in
     where_is a.d (length a.marks.now) a.id ≡ At c.in-At.i
 placed c = (where_by-at _ _ _ _ _ (found c)).1
 
-below : (c : goal.In-At) → c.in-At.i < 8
+below : (c : In-At) → c.in-At.i < 8
 below c = (where_is-at _ _ _ _ (placed c)).below
 
 -- the record has its eight controllers
-there : (c : goal.In-At) → c.in-At.i < length c.args.d.controllers
+there : (c : In-At) → c.in-At.i < length c.args.d.controllers
 there c =
     let e : length c.args.d.controllers ≡ 8 = search (length-mapped, rules) in
     omega (arith, below c)
 
--- where a controller was found tracked, its place was found
-abbrev place : tie.After-known-told2 → tie.After-known-told
-place c = c.before.before.before.before.before
+-- the same, of where a controller was found tracked
+found' : (c : In-On) → where_by c.args.d (length c.args.marks.now) c.args.manager c.args.id ≡ At c.in-At.i
+found' c = sym c.locate_by-place.ensures ∙ c.in-At.is
 
-abbrev record-in : tie.After-known-told2 → Device
-record-in c = (place c).before.before.before.before.before.before.args.d
+placed' : (c : In-On) → where_is c.args.d (length c.args.marks.now) c.args.id ≡ At c.in-At.i
+placed' c = (where_by-at _ _ _ _ _ (found' c)).1
 
-abbrev controller-in : tie.After-known-told2 → Controller
-controller-in c = get_or (record-in c).controllers (place c).before.place.given.0.0 no_controller
+there' : (c : In-On) → c.in-At.i < length c.args.d.controllers
+there' c =
+    let e : length c.args.d.controllers ≡ 8 = search (length-mapped, rules) in
+    omega (arith, (where_is-at _ _ _ _ (placed' c)).below)
 
 -- by the manager that asks
-by : (c : goal.In-On)
-    → tracking_by (place c).before.before.before.before.before.before.args.manager (controller-in c).tracking (controller-in c).manager ≡ On c.in-On.g c.in-On.n
+by : (c : In-On)
+    → tracking_by c.args.manager (get_or c.args.d.controllers c.in-At.i no_controller).tracking (get_or c.args.d.controllers c.in-At.i no_controller).manager ≡ On c.in-On.g c.in-On.n
 by c = sym c.tracking_by-t.ensures ∙ c.in-On.is
 
-tracked : (c : goal.In-On) → (controller-in c).tracking ≡ On c.in-On.g c.in-On.n
-tracked c = (tracking_by-on _ (controller-in c).tracking (controller-in c).manager _ _ (by c)).0
+tracked : (c : In-On) → (get_or c.args.d.controllers c.in-At.i no_controller).tracking ≡ On c.in-On.g c.in-On.n
+tracked c = (tracking_by-on _ (get_or c.args.d.controllers c.in-At.i no_controller).tracking (get_or c.args.d.controllers c.in-At.i no_controller).manager _ _ (by c)).0
 
 -- what a tracked controller of a sound record holds, and that its marks lie within the words
-held : (c : goal.In-On)
+held : (c : In-On)
     → let n = c.in-On.n in
-    HeldFacts (record-in c).settings c.in-On.g n (take n (controller-in c).ranges)
-held c = held_at _ _ _ _ (placed (place c)) (there (place c)) _ _ (tracked c)
+    HeldFacts c.args.d.settings c.in-On.g n (take n (get_or c.args.d.controllers c.in-At.i no_controller).ranges)
+held c = held_at _ _ _ _ (placed' c) (there' c) _ _ (tracked c)
 
--- TODO a place stands alone, In-On
--- TODO a place stands alone, In-On
--- TODO a place stands alone, In-On
--- TODO a place stands alone, In-On
--- TODO a place stands alone, In-On
-fits : (c : goal.After-ranges_of-ranges)
-    → let t = c.t-1 in
-    (controller-in k).base + length (units t.given.0.0 (take t.given.0.1.0 (controller-in k).ranges)) ≤ 64 * mark_words
+fits : (c : After-ranges_of-ranges)
+    → let r = get_or c.args.d.controllers c.in-At.i no_controller in
+    r.base + length (units c.in-On.g (take c.in-On.n r.ranges)) ≤ 64 * mark_words
 fits c =
-    share-within _ _ _ _ (placed (place k)) (there (place k)) _ _ (tracked k) (omega (arith, ap length c.ranges_of-ranges.ensures.0, c.ranges_of-ranges.ensures.1))
+    let t = get_or c.args.d.controllers c.in-At.i no_controller in
+    let found = sym c.locate_by-place.ensures ∙ c.in-At.is in
+    let placed = (where_by-at _ _ _ _ _ found).1 in
+    let e : length c.args.d.controllers ≡ 8 = search (length-mapped, rules) in
+    share-within _ _ _ _ placed (omega (arith, (where_is-at _ _ _ _ placed).below)) _ _
+    (tracking_by-on _ t.tracking t.manager _ _ (sym c.tracking_by-t.ensures ∙ c.in-On.is)).0
+    (omega (arith, ap length c.ranges_of-ranges.ensures.0, c.ranges_of-ranges.ensures.1))
 
 pub returns-in_default : goal.returns-in_default
 returns-in_default c = receives-nothing _ _ _ _ _ (receive-refused _ _ _ _ _ _ _ (refused (goal.at.returns-in_default c).After-number_of)) c.nothing.ensures
@@ -98,12 +102,12 @@ returns-in_default-t c =
 
 pub returns-then-size-lt32 : goal.returns-then-size-lt32
 returns-then-size-lt32 c =
-    receives-nothing _ 8 _ _ _ (receive-short _ _ _ _ _ _ _ (found (place (goal.at.returns-then-size-lt32 c).In-On)) _ _ (by (goal.at.returns-then-size-lt32 c).In-On) c.if-size-lt32.taken) c.nothing-then-size-lt32.ensures
+    receives-nothing _ 8 _ _ _ (receive-short _ _ _ _ _ _ _ (found' (goal.at.returns-then-size-lt32 c).In-On) _ _ (by (goal.at.returns-then-size-lt32 c).In-On) c.if-size-lt32.true) c.nothing-then-size-lt32.ensures
 
 pub list_runs-listed-requires : goal.list_runs-listed-requires
 list_runs-listed-requires c =
-    let w = (where_is-at _ _ _ _ (placed (place (goal.at.list_runs-listed-requires c).In-On))).whole in
-    let f = fits (goal.at.list_runs-listed-requires c).After-ranges_of-ranges in record { fact_1 = ((held (goal.at.list_runs-listed-requires c).In-On).small, (held (goal.at.list_runs-listed-requires c).In-On).few, rw c.ranges_of-ranges.ensures.0 (held (goal.at.list_runs-listed-requires c).In-On).rows); fact_2 = (record { within = rw c.ranges_of-ranges.ensures.0 (omega (arith, f, w)); small = rw c.ranges_of-ranges.ensures.0 (omega (arith, f)) }, omega arith) }
+    let w = (where_is-at _ _ _ _ (placed' (goal.at.list_runs-listed-requires c).In-On)).whole in
+    let f = fits (goal.at.list_runs-listed-requires c).After-ranges_of-ranges in record { rows = ((held (goal.at.list_runs-listed-requires c).In-On).small, (held (goal.at.list_runs-listed-requires c).In-On).few, rw c.ranges_of-ranges.ensures.0 (held (goal.at.list_runs-listed-requires c).In-On).rows); space = (record { within = rw c.ranges_of-ranges.ensures.0 (omega (arith, f, w)); small = rw c.ranges_of-ranges.ensures.0 (omega (arith, f)) }, omega arith) }
 
 pub overflow_cast-listed : goal.overflow_cast-listed
 overflow_cast-listed c =
@@ -112,6 +116,6 @@ overflow_cast-listed c =
 pub returns : goal.returns
 returns c =
     let s = rw c.ranges_of-ranges.ensures.0 at c.list_runs-listed.ensures in
-    receive-done in_words _ _ _ _ _ _ (found (place (goal.at.returns c).In-On)) _ _ (by (goal.at.returns c).In-On) c.if-size-lt32.left _ _ _ _ _ _ s.count-is s.more-is s.groups-is
-    (lists-words _ _ _ _ _ _ _ _ _ _ _ s (λ i. (c.slice_known-3-1.given i).fits) c.list_runs-listed.kept.0)
+    receive-done in_words _ _ _ _ _ _ (found' (goal.at.returns c).In-On) _ _ (by (goal.at.returns c).In-On) c.if-size-lt32.false _ _ _ _ _ _ s.count-is s.more-is s.groups-is
+    (lists-words _ _ _ _ _ _ _ _ _ _ _ s (λ i. (c.slice_known-3-1.given i).fits) c.list_runs-listed.auto.marks)
     s.bytes-are c.put_header.ensures

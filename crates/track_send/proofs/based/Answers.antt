@@ -9,6 +9,7 @@ use Rattle.pool.proofs.Pool.{new_bases-at, new_base-next}
 use Rattle.rules.proofs.LoopLaws.{length-mapped}
 use Rattle.track_send.proofs.PackLaws.{based-none, based-moved, based-left, based-all, device-is}
 use Rattle.track_send.proofs.based.Goals as goal
+use Rattle.track_send.proofs.based.Goals.{then-sizes-i-ne0, else-sizes-i-ne0}
 
 pub loop-i-init : goal.loop-i-init
 loop-i-init c = (search (length-mapped, rules), omega arith, refl, refl, based-none _ _)
@@ -22,33 +23,33 @@ overflow_cast-e c =
     omega (arith, e, new_base-next sizes i 8 (omega arith), p.1)
 
 pub bounds-e-i : goal.bounds-e-i
-bounds-e-i c = (omega arith, tt)
+bounds-e-i c = omega arith
 
 pub loop-i-preserved : goal.loop-i-preserved
 loop-i-preserved c =
     let l = c.loop-i in
     let sizes = c.args.sizes in
     let old = c.args.d.controllers in
-    ⊎_elim
-    (λ w.
-    let q = w.2 in (
-      l.invariant.0,
-      omega arith,
-      ap (λ x. x.settings) q ∙ l.invariant.2,
-      ap (λ x. x.sequence) q ∙ l.invariant.3,
-      rw q
-          (based-moved sizes old l.e.controllers l.i (get_or c.args.bases l.i 0) l.invariant.4 (omega (arith, l.invariant.0)) w.0.taken
-          (ap (λ x. get_or x l.i 0) c.requires.0 ∙ new_bases-at sizes l.i (omega arith))),
-    ))
-    (λ w.
-    let q = w.1 in (
-      l.invariant.0,
-      omega arith,
-      ap (λ x. x.settings) q ∙ l.invariant.2,
-      ap (λ x. x.sequence) q ∙ l.invariant.3,
-      rw q (based-left sizes old l.e.controllers l.i l.invariant.4 w.0.left),
-    ))
-    c.if-sizes-i-ne0.branch
+    elim c.if-sizes-i-ne0.branch [
+      | then-sizes-i-ne0 w ↦
+          let q = w.e-is in (
+            l.invariant.0,
+            omega arith,
+            ap (λ x. x.settings) q ∙ l.invariant.2,
+            ap (λ x. x.sequence) q ∙ l.invariant.3,
+            rw q
+                (based-moved sizes old l.e.controllers l.i (get_or c.args.bases l.i 0) l.invariant.4 (omega (arith, l.invariant.0)) w.if-sizes-i-ne0.true
+                (ap (λ x. get_or x l.i 0) c.requires.0 ∙ new_bases-at sizes l.i (omega arith))),
+          )
+      | else-sizes-i-ne0 w ↦
+          let q = w.e-is in (
+            l.invariant.0,
+            omega arith,
+            ap (λ x. x.settings) q ∙ l.invariant.2,
+            ap (λ x. x.sequence) q ∙ l.invariant.3,
+            rw q (based-left sizes old l.e.controllers l.i l.invariant.4 w.if-sizes-i-ne0.false),
+          )
+    ]
 
 pub returns : goal.returns
 returns c =

@@ -13,4 +13,4 @@ returns c =
     let m = c.clear_span in
     let a = c.args in
     let whole : a.base + a.n - a.base ≡ a.n = omega arith in
-    cleared _ m.new.0 _ _ m.auto.0 (λ i. (c.slice_known-2-1.given i).fits) (m.ensures ∙ ap (fill false (flat a.marks.now) a.base) whole)
+    cleared _ m.new.words _ _ m.auto.words (λ i. (c.slice_known-2-1.given i).fits) (m.ensures ∙ ap (fill false (flat a.marks.now) a.base) whole)

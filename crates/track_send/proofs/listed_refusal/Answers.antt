@@ -17,61 +17,59 @@ use Rattle.record.proofs.RecordLaws.{sound_device-facts, sound_device-counts, so
 use Rattle.start_data.proofs.Answers.{ranges_read-there}
 use Rattle.track_send.proofs.StartedLaws.{listed_tests, shared_tests, listed-granularity, listed-short, listed-many, listed-rules, listed-rows, listed-shared, shared-pool, shared_limit, shared-shelf, shared-passed}
 use Rattle.track_send.proofs.listed_refusal.Goals as goal
+use Rattle.track_send.proofs.listed_refusal.Goals.{After-managed, After-read_ranges-ranges, After-together-held, After-units_in-units, After-weights, Else-count-managed, Else-not-granularity_ok, Else-units-held, Then-units-held}
 
 -- past the first test the granularity passes
-allowed : (c : goal.Else-not-granularity_ok) → granularity_ok c.args.d.settings c.args.g ≡ true
+allowed : (c : Else-not-granularity_ok) → granularity_ok c.args.d.settings c.args.g ≡ true
 allowed c = sym c.granularity_ok.ensures ∙ not-false _ c.if-not-granularity_ok.false-raw
 
-small : (c : goal.Else-not-granularity_ok) → c.args.g ≤ 20
+small : (c : Else-not-granularity_ok) → c.args.g ≤ 20
 small c =
     omega (arith, granularity_ok-greatest _ _ (allowed c), (sound_device-facts c.args.d c.requires.0).greatest)
 
 -- past the next two the ranges are read
-read : (c : goal.After-read_ranges-ranges)
+read : (c : After-read_ranges-ranges)
     → let a = c.args in
     c.read_ranges-ranges.result ≡ placed (records_at range_at 12 a.«data».now 8 a.n)
 read c = c.read_ranges-ranges.ensures ∙ ranges_read-there _ _ (omega arith) c.if-data-count.false
 
--- TODO a place stands alone, Else-not-granularity_ok
--- TODO a place stands alone, After-read_ranges-ranges
--- TODO a place stands alone, After-read_ranges-ranges
 -- past the ranges' own the tests are left of what controllers share
-shared : (c : goal.After-units_in-units)
+shared : (c : After-units_in-units)
     → let a = c.args in
     let d = a.d in
     let m = a.manager in
     let u = c.units_in-units.result.0 in
     refusal_at (listed_tests d.settings m (units_of d) (managed_of d m) (counts_of d) a.«data».now) ≡ refusal_at (shared_tests d.settings m (u + units_of d) (a.n + managed_of d m) (a.n + counts_of d))
 shared c =
-    listed-shared _ _ _ _ _ _ _ _ c.requires.2 (allowed k.before.before.before.before.before.before) c.if-data-count.false c.if-count-gt16.false _ (c.list_refusal-refusal.ensures ∙ rw (read r)) c.if-refusal-ne0.false _ (c.units_in-units.ensures.0 ∙ rw (read r))
+    listed-shared _ _ _ _ _ _ _ _ c.requires.2 (sym c.granularity_ok.ensures ∙ not-false _ c.if-not-granularity_ok.false-raw) c.if-data-count.false c.if-count-gt16.false _ (c.list_refusal-refusal.ensures ∙ rw (c.read_ranges-ranges.ensures ∙ ranges_read-there _ _ (omega arith) c.if-data-count.false)) c.if-refusal-ne0.false _ (c.units_in-units.ensures.0 ∙ rw (c.read_ranges-ranges.ensures ∙ ranges_read-there _ _ (omega arith) c.if-data-count.false))
 
 -- the shares of a sound record have its units, which fit the pool
-held : (c : goal.After-together-held) → c.together-held.result ≡ units_of c.args.d
+held : (c : After-together-held) → c.together-held.result ≡ units_of c.args.d
 held c = c.together-held.ensures ∙ rw c.shares.ensures (shares_of-sizes c.args.d)
 
-most : (c : goal.After-together-held) → units_of c.args.d ≤ most_units
+most : (c : After-together-held) → units_of c.args.d ≤ most_units
 most c = (sound_device-facts c.args.d c.requires.0).units
 
 -- the counts of a manager of a sound record are within its limit
-few : (c : goal.After-managed) → let a = c.args in managed_of a.d a.manager ≤ limit_of a.d.settings a.manager
+few : (c : After-managed) → let a = c.args in managed_of a.d a.manager ≤ limit_of a.d.settings a.manager
 few c = sound-managed c.args.d.settings (map held_of (controllers_of c.args.d)) _ c.requires.0 c.args.manager c.requires.1
 
 -- and its weights are its counts
-counted : (c : goal.After-weights) → c.weights.result ≡ counts_of c.args.d
+counted : (c : After-weights) → c.weights.result ≡ counts_of c.args.d
 counted c = c.weights.ensures ∙ sound_device-counts c.args.d c.requires.0
 
--- TODO a place stands alone, After-together-held
--- TODO a place stands alone, After-together-held
 -- at 11 the pool is passed; past it there is room, and past 12 the manager's limit is kept
-full : (c : goal.Then-units-held) → most_units < c.units_in-units.result.0 + units_of c.args.d
-full c = omega (arith, c.if-units-held.true, held c.before.before, most c.before.before)
+full : (c : Then-units-held) → most_units < c.units_in-units.result.0 + units_of c.args.d
+full c =
+    let e : c.together-held.result ≡ units_of c.args.d = c.together-held.ensures ∙ rw c.shares.ensures (shares_of-sizes c.args.d) in
+    omega (arith, c.if-units-held.true, e, (sound_device-facts c.args.d c.requires.0).units)
 
--- TODO a place stands alone, After-together-held
--- TODO a place stands alone, After-together-held
-room : (c : goal.Else-units-held) → c.units_in-units.result.0 + units_of c.args.d ≤ most_units
-room c = omega (arith, c.if-units-held.false, held c.before.before, most c.before.before)
+room : (c : Else-units-held) → c.units_in-units.result.0 + units_of c.args.d ≤ most_units
+room c =
+    let e : c.together-held.result ≡ units_of c.args.d = c.together-held.ensures ∙ rw c.shares.ensures (shares_of-sizes c.args.d) in
+    omega (arith, c.if-units-held.false, e, (sound_device-facts c.args.d c.requires.0).units)
 
-own : (c : goal.Else-count-managed) → let a = c.args in a.n + managed_of a.d a.manager ≤ limit_of a.d.settings a.manager
+own : (c : Else-count-managed) → let a = c.args in a.n + managed_of a.d a.manager ≤ limit_of a.d.settings a.manager
 own c = omega (arith, c.if-count-managed.false, c.managed.ensures, c.limit_of-limit.ensures)
 
 pub returns-then-not-granularity_ok : goal.returns-then-not-granularity_ok
@@ -113,7 +111,7 @@ pub managed-requires : goal.managed-requires
 managed-requires c = (c.requires.0, c.requires.1)
 
 pub overflow_add-count-2 : goal.overflow_add-count-2
-overflow_add-count-2 c = omega (arith, c.managed.ensures, few c, c.limit_of-limit.ensures, c.limit_of-limit.type-inv)
+overflow_add-count-2 c = omega (arith, c.managed.ensures, few c, c.limit_of-limit.ensures, c.limit_of-limit.type_inv)
 
 pub returns-then-count-managed : goal.returns-then-count-managed
 returns-then-count-managed c =

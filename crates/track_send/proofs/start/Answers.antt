@@ -16,40 +16,35 @@ use Rattle.calls.proofs.Answers.{leaves}
 use Rattle.calls.proofs.PlaceLaws.{refused-place}
 use Rattle.track_send.proofs.StartedLaws.{start-refused, start-suspended, start-tracked, start-header, start-listed, start-known, start-done, Listed, listed-known}
 use Rattle.track_send.proofs.start.Goals as goal
+use Rattle.track_send.proofs.start.Goals.{After-number_of, Else-refusal-ne0, In-At}
 
 -- the place that was found, or the refusal
-found : (c : goal.In-At)
+found : (c : In-At)
     → let a = c.args in
     where_by a.d (length a.marks.now) a.manager a.id ≡ At c.in-At.i
 found c = sym c.locate_by-place.ensures ∙ c.in-At.is
 
-refused : (c : goal.After-number_of)
+refused : (c : After-number_of)
     → let a = c.args in
     where_by a.d (length a.marks.now) a.manager a.id ≡ Refused c.number_of.result
 refused c = sym c.locate_by-place.ensures ∙ refused-place _ _ _ c.in_default.is c.number_of.ensures
 
 -- by a manager of the settings, in a sound record
-by : (c : goal.In-At)
+by : (c : In-At)
     → let a = c.args in
     is_manager a.d.settings a.manager ≡ true
 by c = (where_by-at _ _ _ _ _ (found c)).0
 
-located : (c : goal.In-At)
+located : (c : In-At)
     → let a = c.args in
     Located a.d (length a.marks.now) a.id c.in-At.i
 located c = where_is-at _ _ _ _ (where_by-at _ _ _ _ _ (found c)).1
 
--- the header that was read
-listed : (c : goal.In-Is) → header_of c.args.«data».now ≡ Is c.in-Is.g c.in-Is.n
-listed c = sym c.read_header-header.ensures.is ∙ c.in-Is.is
-
--- TODO a place stands alone, In-Is
--- TODO a place stands alone, In-Is
 -- what is known of its ranges, once they have passed
-known : (c : goal.Else-refusal-ne0)
+known : (c : Else-refusal-ne0)
     → let a = c.args in
-    Listed a.d.settings a.manager (units_of a.d) (managed_of a.d a.manager) (counts_of a.d) a.«data».now c.in-Is.g c.in-Is.n (listed c.before.before.before)
-known c = listed-known _ _ _ _ _ _ _ _ (listed c.before.before.before) _ c.listed_refusal-refusal.ensures c.if-refusal-ne0.false
+    Listed a.d.settings a.manager (units_of a.d) (managed_of a.d a.manager) (counts_of a.d) a.«data».now c.in-Is.g c.in-Is.n (sym c.read_header-header.ensures.is ∙ c.in-Is.is)
+known c = listed-known _ _ _ _ _ _ _ _ (sym c.read_header-header.ensures.is ∙ c.in-Is.is) _ c.listed_refusal-refusal.ensures c.if-refusal-ne0.false
 
 pub returns-in_default : goal.returns-in_default
 returns-in_default c = leaves _ _ _ _ _ (start-refused _ _ _ _ _ _ _ (refused (goal.at.returns-in_default c).After-number_of)) c.refused.ensures refl
@@ -73,10 +68,10 @@ returns-in_default-header c =
     c.refused-in_default-header.ensures refl
 
 pub listed_refusal-refusal-requires : goal.listed_refusal-refusal-requires
-listed_refusal-refusal-requires c = ((located (goal.at.listed_refusal-refusal-requires c).In-At).sound, by (goal.at.listed_refusal-refusal-requires c).In-At, listed c)
+listed_refusal-refusal-requires c = ((located (goal.at.listed_refusal-refusal-requires c).In-At).sound, by (goal.at.listed_refusal-refusal-requires c).In-At, sym c.read_header-header.ensures.is ∙ c.in-Is.is)
 
 pub returns-then-refusal-ne0 : goal.returns-then-refusal-ne0
-returns-then-refusal-ne0 c = leaves _ _ _ _ _ (start-listed _ _ _ _ _ _ _ (found (goal.at.returns-then-refusal-ne0 c).In-At) c.if-c.false c.in-Off.is _ _ (listed (goal.at.returns-then-refusal-ne0 c).In-Is) _ c.listed_refusal-refusal.ensures c.if-refusal-ne0.true) c.refused-then-refusal-ne0.ensures refl
+returns-then-refusal-ne0 c = leaves _ _ _ _ _ (start-listed _ _ _ _ _ _ _ (found (goal.at.returns-then-refusal-ne0 c).In-At) c.if-c.false c.in-Off.is _ _ (sym c.read_header-header.ensures.is ∙ c.in-Is.is) _ c.listed_refusal-refusal.ensures c.if-refusal-ne0.true) c.refused-then-refusal-ne0.ensures refl
 
 pub overflow_cast-n-2 : goal.overflow_cast-n-2
 overflow_cast-n-2 c = omega (arith, (known (goal.at.overflow_cast-n-2 c).Else-refusal-ne0).few)
@@ -88,7 +83,7 @@ install-device-requires c =
     record {
       starts =
           rw (c.read_ranges-ranges.ensures ∙ ranges_read-there _ _ k.few k.there)
-          (start-known _ _ _ _ _ _ l.sound l.used c.in-Off.is (listed (goal.at.install-device-requires c).In-Is) k);
+          (start-known _ _ _ _ _ _ l.sound l.used c.in-Off.is (sym c.read_header-header.ensures.is ∙ c.in-Is.is) k);
       words = l.whole;
     }
 
@@ -96,5 +91,5 @@ pub returns : goal.returns
 returns c =
     let l = known (goal.at.returns c).Else-refusal-ne0 in
     let read = c.read_ranges-ranges.ensures ∙ ranges_read-there _ _ l.few l.there in
-    leaves _ _ _ _ _ (start-done _ _ _ _ _ _ _ (found (goal.at.returns c).In-At) c.if-c.false c.in-Off.is _ _ (listed (goal.at.returns c).In-Is) _ c.listed_refusal-refusal.ensures c.if-refusal-ne0.false)
+    leaves _ _ _ _ _ (start-done _ _ _ _ _ _ _ (found (goal.at.returns c).In-At) c.if-c.false c.in-Off.is _ _ (sym c.read_header-header.ensures.is ∙ c.in-Is.is) _ c.listed_refusal-refusal.ensures c.if-refusal-ne0.false)
     (rw (c.install-device.ensures.0, read)) (c.install-device.ensures.1 ∙ rw read)

@@ -1,6 +1,7 @@
 -- `writes::note` is right: it refuses an identifier that is not in the settings, and else is the note of the controller at its place. Assumes nothing.
 -- ---- one range, or none that is tracked
 -- ---- several ranges
+use native.Mathlib.Omega.{arith}
 use mathlib.Core.Path.{◌≡◌, refl, sym, ◌∙◌}
 use Prim.Native.Nat.{◌<◌}
 use lib.ListN.{length, get_or}
@@ -12,26 +13,24 @@ use Rattle.rules.proofs.LoopLaws.{length-mapped}
 use Rattle.calls.proofs.Answers.{leaves-unchanged, leaves-as}
 use Rattle.writes.proofs.WriteLaws.{sound-found, sound-nothing, write-refused, write-on, may-note, last-place, one-note, one-may, same_base}
 use Rattle.writes.proofs.note.Goals as goal
+use Rattle.writes.proofs.note.Goals.{In-At, In_default-i}
 
 -- the place that was found
-found : (c : goal.In-At)
+found : (c : In-At)
     → let a = c.args in
     where_is a.d (length a.marks.now) a.id ≡ At c.in-At.i
 found c = sound-found _ _ _ c.requires _ (sym c.find.ensures ∙ c.in-At.is)
 
-below : (c : goal.In-At) → c.in-At.i < 8
+below : (c : In-At) → c.in-At.i < 8
 below c = (where_is-at _ _ _ _ (found c)).below
 
 -- the record has its eight controllers
-eight : (c : goal.In-At) → length c.args.d.controllers ≡ 8
+eight : (c : In-At) → length c.args.d.controllers ≡ 8
 eight c = search (length-mapped, rules)
 
--- TODO a place stands alone, In-At
 -- the place that the last arm is left with
-last : (c : goal.In_default-i) → c.in-At.i ≡ 7
-last c =
-    let r = c.in_default-i.rest in
-    last-place _ (below c.before.before.before.before.before) r.0.0.0.0.0.0.1 r.0.0.0.0.0.1 r.0.0.0.0.1 r.0.0.0.1 r.0.0.1 r.0.1 r.1
+last : (c : In_default-i) → c.in-At.i ≡ 7
+last c = omega (arith, (where_is-at _ _ _ _ (sound-found _ _ _ c.requires _ (sym c.find.ensures ∙ c.in-At.is))).below)
 
 pub returns-in_default : goal.returns-in_default
 returns-in_default c = leaves-unchanged _ _ _ (write-refused _ _ _ _ _ _ (sound-nothing _ _ _ c.requires (sym c.find.ensures ∙ c.in_default.is)))
@@ -51,65 +50,41 @@ returns-then-is_one c =
     leaves-as _ _ _ _ (write-on _ _ _ _ _ (found (goal.at.returns-then-is_one c).In-At) _ refl _ (same_base _ _ c.single_at-c.ensures.0) _ ∙ one-note _ _ c.single_at-c.ensures o _ _ _) c.note_one.ensures
 
 -- place 0
-pub bounds-d-0 : goal.bounds-d-0
-bounds-d-0 c = search (length-mapped, rules)
-
 pub note_on-requires : goal.note_on-requires
 note_on-requires c =
     may-note _ _ _ _ (found (goal.at.note_on-requires c).In-At) 0 c.in-0.is (eight (goal.at.note_on-requires c).In-At) c.single_at-c.ensures.1 _ (same_base _ _ c.single_at-c.ensures.0)
 
 -- place 1
-pub bounds-d-1 : goal.bounds-d-1
-bounds-d-1 c = search (length-mapped, rules)
-
 pub note_on-requires-in-1 : goal.note_on-requires-in-1
 note_on-requires-in-1 c =
     may-note _ _ _ _ (found (goal.at.note_on-requires-in-1 c).In-At) 1 c.in-1.is (eight (goal.at.note_on-requires-in-1 c).In-At) c.single_at-c.ensures.1 _ (same_base _ _ c.single_at-c.ensures.0)
 
 -- place 2
-pub bounds-d-2 : goal.bounds-d-2
-bounds-d-2 c = search (length-mapped, rules)
-
 pub note_on-requires-in-2 : goal.note_on-requires-in-2
 note_on-requires-in-2 c =
     may-note _ _ _ _ (found (goal.at.note_on-requires-in-2 c).In-At) 2 c.in-2.is (eight (goal.at.note_on-requires-in-2 c).In-At) c.single_at-c.ensures.1 _ (same_base _ _ c.single_at-c.ensures.0)
 
 -- place 3
-pub bounds-d-3 : goal.bounds-d-3
-bounds-d-3 c = search (length-mapped, rules)
-
 pub note_on-requires-in-3 : goal.note_on-requires-in-3
 note_on-requires-in-3 c =
     may-note _ _ _ _ (found (goal.at.note_on-requires-in-3 c).In-At) 3 c.in-3.is (eight (goal.at.note_on-requires-in-3 c).In-At) c.single_at-c.ensures.1 _ (same_base _ _ c.single_at-c.ensures.0)
 
 -- place 4
-pub bounds-d-4 : goal.bounds-d-4
-bounds-d-4 c = search (length-mapped, rules)
-
 pub note_on-requires-in-4 : goal.note_on-requires-in-4
 note_on-requires-in-4 c =
     may-note _ _ _ _ (found (goal.at.note_on-requires-in-4 c).In-At) 4 c.in-4.is (eight (goal.at.note_on-requires-in-4 c).In-At) c.single_at-c.ensures.1 _ (same_base _ _ c.single_at-c.ensures.0)
 
 -- place 5
-pub bounds-d-5 : goal.bounds-d-5
-bounds-d-5 c = search (length-mapped, rules)
-
 pub note_on-requires-in-5 : goal.note_on-requires-in-5
 note_on-requires-in-5 c =
     may-note _ _ _ _ (found (goal.at.note_on-requires-in-5 c).In-At) 5 c.in-5.is (eight (goal.at.note_on-requires-in-5 c).In-At) c.single_at-c.ensures.1 _ (same_base _ _ c.single_at-c.ensures.0)
 
 -- place 6
-pub bounds-d-6 : goal.bounds-d-6
-bounds-d-6 c = search (length-mapped, rules)
-
 pub note_on-requires-in-6 : goal.note_on-requires-in-6
 note_on-requires-in-6 c =
     may-note _ _ _ _ (found (goal.at.note_on-requires-in-6 c).In-At) 6 c.in-6.is (eight (goal.at.note_on-requires-in-6 c).In-At) c.single_at-c.ensures.1 _ (same_base _ _ c.single_at-c.ensures.0)
 
 -- place 7
-pub bounds-d-7 : goal.bounds-d-7
-bounds-d-7 c = search (length-mapped, rules)
-
 pub note_on-requires-in_default-i : goal.note_on-requires-in_default-i
 note_on-requires-in_default-i c =
     may-note _ _ _ _ (found (goal.at.note_on-requires-in_default-i c).In-At) 7 (last (goal.at.note_on-requires-in_default-i c).In_default-i) (eight (goal.at.note_on-requires-in_default-i c).In-At) c.single_at-c.ensures.1 _ (same_base _ _ c.single_at-c.ensures.0)

@@ -7,15 +7,16 @@ use Rattle.calls.proofs.Answers.{leaves-unchanged}
 use Rattle.writes.specs.Inner.{Lies}
 use Rattle.writes.proofs.WriteLaws.{note-passes, on-refused, on-off, on-empty, on-done}
 use Rattle.writes.proofs.note_on.Goals as goal
+use Rattle.writes.proofs.note_on.Goals.{In-On}
 
 -- the written range ends within memory
-within : (c : goal.In-On) → let a = c.args in a.at + a.bytes.0 ≤ 2 ^ 64
+within : (c : In-On) → let a = c.args in a.at + a.bytes.0 ≤ 2 ^ 64
 within c =
     let a = c.args in
     (note-passes a.c.suspended (record { address = a.at; bytes = a.bytes.0 }) (sym c.note_number-number.ensures ∙ c.if-number-ne0.false)).1
 
 -- what a tracked one holds
-lies : (c : goal.In-On)
+lies : (c : In-On)
     → let a = c.args in
     Lies c.in-On.g c.in-On.n a.c.ranges a.marks.now a.base
 lies c = c.requires _ _ c.in-On.is
@@ -45,4 +46,4 @@ returns c =
     ap (λ (b : ℕ). record { address = a.at; bytes = b }) e in
     let r = c.mark_ranges-count in
     leaves-unchanged _ _ _ (on-done _ a.marks.now _ _ _ c.note_number-number.ensures c.if-number-ne0.false _ _ c.in-On.is _ _
-    (λ i. (c.slice_known-2-1.given i).fits) r.auto.0 (rw w at r.ensures.0) (rw w at r.ensures.1))
+    (λ i. (c.slice_known-2-1.given i).fits) r.auto.marks (rw w at r.ensures.0) (rw w at r.ensures.1))

@@ -9,19 +9,20 @@ use Rattle.rules.specs.declared.Tracking.TheVariants.{On}
 use Rattle.writes.specs.Inner.{Lies, alone}
 use Rattle.writes.proofs.WriteLaws.{note-passes, on-refused, on-off, on-empty, on-done, one_on}
 use Rattle.writes.proofs.note_one.Goals as goal
+use Rattle.writes.proofs.note_one.Goals.{In-On}
 
 -- the written range ends within memory
-within : (c : goal.In-On) → let a = c.args in a.at + a.bytes.0 ≤ 2 ^ 64
+within : (c : In-On) → let a = c.args in a.at + a.bytes.0 ≤ 2 ^ 64
 within c =
     let a = c.args in
     (note-passes a.c.suspended (record { address = a.at; bytes = a.bytes.0 }) (sym c.note_number-number.ensures ∙ c.if-number-ne0.false)).1
 
 -- a tracked one has one range
-single : (c : goal.In-On) → c.args.c.tracking ≡ On c.in-On.g 1
+single : (c : In-On) → c.args.c.tracking ≡ On c.in-On.g 1
 single c = c.in-On.is ∙ ap (On c.in-On.g) (one_on _ _ _ c.in-On.is c.requires.0)
 
 -- what it holds
-lies : (c : goal.In-On)
+lies : (c : In-On)
     → let a = c.args in
     Lies c.in-On.g 1 (a.c.first ∷ []) a.marks.now a.base
 lies c = c.requires.1 _ _ (single c)
@@ -51,4 +52,4 @@ returns c =
     ap (λ (b : ℕ). record { address = a.at; bytes = b }) e in
     let r = c.mark_one-new in
     leaves-unchanged _ _ _ (on-done (alone a.c) a.marks.now _ _ _ c.note_number-number.ensures c.if-number-ne0.false _ 1 (single (goal.at.returns c).In-On) _ _
-    (λ i. (c.slice_known-2-1.given i).fits) r.auto.0 (rw w at r.ensures.0) (rw w at r.ensures.1))
+    (λ i. (c.slice_known-2-1.given i).fits) r.auto.marks (rw w at r.ensures.0) (rw w at r.ensures.1))

@@ -1,39 +1,15 @@
 -- `writes::single_at` is right because each arm takes the controller at its number. Assumes nothing.
+use native.Mathlib.Omega.{arith}
 use mathlib.Core.Path.{◌≡◌}
 use borrow.Author.Rules.{rules}
 use Rattle.rules.proofs.LoopLaws.{length-mapped}
 use Rattle.writes.proofs.WriteLaws.{single-known, last-place}
 use Rattle.writes.proofs.single_at.Goals as goal
+use Rattle.writes.proofs.single_at.Goals.{In_default}
 
 -- the place that the last arm is left with
-last : (c : goal.In_default) → c.args.i ≡ 7
-last c =
-    let r = c.in_default.rest in
-    last-place _ c.requires r.0.0.0.0.0.0.1 r.0.0.0.0.0.1 r.0.0.0.0.1 r.0.0.0.1 r.0.0.1 r.0.1 r.1
-
-pub bounds-d-0 : goal.bounds-d-0
-bounds-d-0 c = search (length-mapped, rules)
-
-pub bounds-d-1 : goal.bounds-d-1
-bounds-d-1 c = search (length-mapped, rules)
-
-pub bounds-d-2 : goal.bounds-d-2
-bounds-d-2 c = search (length-mapped, rules)
-
-pub bounds-d-3 : goal.bounds-d-3
-bounds-d-3 c = search (length-mapped, rules)
-
-pub bounds-d-4 : goal.bounds-d-4
-bounds-d-4 c = search (length-mapped, rules)
-
-pub bounds-d-5 : goal.bounds-d-5
-bounds-d-5 c = search (length-mapped, rules)
-
-pub bounds-d-6 : goal.bounds-d-6
-bounds-d-6 c = search (length-mapped, rules)
-
-pub bounds-d-7 : goal.bounds-d-7
-bounds-d-7 c = search (length-mapped, rules)
+last : (c : In_default) → c.args.i ≡ 7
+last c = omega (arith, c.requires)
 
 pub returns-in-0 : goal.returns-in-0
 returns-in-0 c = single-known c.args.d.controllers _ 0 c.in-0.is _ c.single_of.ensures

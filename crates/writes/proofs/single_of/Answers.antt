@@ -5,8 +5,9 @@ use lib.ListN.{length}
 use borrow.Author.Rules.{rules}
 use Rattle.rules.proofs.LoopLaws.{length-mapped}
 use Rattle.writes.proofs.single_of.Goals as goal
+use Rattle.writes.proofs.single_of.Goals.{Start}
 
-sixteen : (c : goal.Start) → length c.args.c.ranges ≡ 16
+sixteen : (c : Start) → length c.args.c.ranges ≡ 16
 sixteen c = search (length-mapped, rules)
 
 pub returns : goal.returns
