@@ -111,5 +111,5 @@ overflow_cast-listed c = let s = asks (goal.at.overflow_cast-listed c).After-byt
 pub returns : goal.returns
 returns c =
     let s = rw (one_unit _ _ c.bytes_of-unit.ensures, c.ranges_of-ranges.ensures.0) at c.list_units-listed.ensures in
-    receive-done in_bytes _ _ _ _ _ _ (found' (goal.at.returns c).In-On) _ _ (by (goal.at.returns c).In-On) c.if-size-lt32.false _ _ _ _ _ _ s.count-is s.more-is s.groups-is s.area-is s.buffer-is
+    receive-done in_bytes _ _ _ _ _ _ (found' (goal.at.returns c).In-On) _ _ (by (goal.at.returns c).In-On) c.if-size-lt32.false _ _ _ _ _ _ s.count_is s.more_is s.groups_is s.area_is s.buffer_is
     c.put_header.ensures
