@@ -5,12 +5,12 @@
 ghost use Rattle.std.specs.Prelude.{◌≤◌, length};
 
 use fields::Number;
-use libc::STDIN_FILENO;
 use listing::Call;
 use log_numbers::{Account, Log, Totals};
 use output::{Buffer, Waiting};
 use playing::Played;
 use rules::{Device, Settings};
+use std::io::Read;
 
 // ---- reading
 
@@ -141,26 +141,25 @@ fn play(
     Played { device: d, waiting }
 }
 
-// Plays standard input, on the engine that marks or bytes were lent for. Totals have at most 63 bytes with their spaces, so that a line which is cut for want of room is
+// Plays what is read from this reader, on the engine that marks or bytes were lent for. Totals have at most 63 bytes with their spaces, so that a line which is cut for want of room is
 // still too long. The loop counts its turns down, from a number that no run uses up.
-pub fn run(marks: &mut [u64], bytes: &mut [u8]) {
+pub fn run<R: Read>(from: &mut R, marks: &mut [u64], bytes: &mut [u8], out: &mut Buffer) {
     let mut line = [0u8; 1087];
     let mut input = [0u8; 65536];
-    let mut out = [0u8; 65536];
     let mut waiting = Waiting::Bytes(0);
     let mut device = playing::none(marks, bytes);
     let mut reading = lines::begin();
     let mut turns = u64::MAX;
     while turns > 0 {
         turns -= 1;
-        waiting = lines::settle(reading, &out, waiting);
+        waiting = lines::settle(reading, out, waiting);
         if lines::ends(reading, waiting) {
             return;
         }
-        reading = lines::step(STDIN_FILENO, &mut input, &mut line, reading);
+        reading = lines::step(from, &mut input, &mut line, reading);
         if reading.whole {
             let length = reading.used;
-            let played = play(device, marks, bytes, &line[..length], &mut out, waiting);
+            let played = play(device, marks, bytes, &line[..length], out, waiting);
             device = played.device;
             waiting = played.waiting;
         }

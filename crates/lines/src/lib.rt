@@ -1,10 +1,10 @@
 // Input on its way into lines: where a line ends, what of it is kept, and reading itself. What a line says is nothing to this.
 #![tactic(auto)]
 
-ghost use Rattle.std.specs.Prelude.{◌≡◌, ◌≤◌, length};
-ghost use Rattle.io.specs.Counts.{IsPrefixLen};
+ghost use Rattle.std.specs.Prelude.{◌≡◌, ◌≤◌, length, take};
 
 use output::{Buffer, Waiting};
+use std::io::Read;
 
 // Where a line ends in some input: at the next line feed, or at the end of the input.
 fn line_end(input: &[u8], from: usize) -> usize
@@ -76,11 +76,13 @@ fn take_in(line: &mut [u8], used: usize, input: &[u8], at: usize) -> Taken
 }
 
 // Reads once, and answers how many bytes came: 0 at the end of the input, and where reading fails.
-fn read_some(from: i32, input: &mut [u8]) -> usize
-    ensures { IsPrefixLen result input.new }
+fn read_some<R: Read>(from: &mut R, input: &mut [u8]) -> usize
+    ensures { (result ≤ length input.new) × (result ≡ length (take result input.new)) }
 {
-    let got = libc::read(from, input);
-    io::count(got, input)
+    match from.read(input) {
+        Ok(n) => n,
+        Err(_) => 0,
+    }
 }
 
 // The input that is left to take in, from a place to an end. Where it ends with 0 there is none any more.
@@ -90,8 +92,8 @@ struct Left {
     end: usize,
 }
 
-// The input that is left, or more of it, read from this descriptor, where none is.
-fn refill(from: i32, input: &mut [u8], at: usize, end: usize) -> Left
+// The input that is left, or more of it, read from this reader, where none is.
+fn refill<R: Read>(from: &mut R, input: &mut [u8], at: usize, end: usize) -> Left
     requires { end ≤ length input.old }
     ensures { result.end ≤ length input.old }
 {
@@ -151,8 +153,8 @@ fn begun(r: Reading) -> usize
     r.used
 }
 
-// A step of reading lines from this descriptor: to the next line feed, or to the end of what was read. Where the input is over, a rest is the last line.
-pub fn step(from: i32, input: &mut [u8], line: &mut [u8], r: Reading) -> Reading
+// A step of reading lines from this reader: to the next line feed, or to the end of what was read. Where the input is over, a rest is the last line.
+pub fn step<R: Read>(from: &mut R, input: &mut [u8], line: &mut [u8], r: Reading) -> Reading
     requires { (r.end ≤ length input.old) × (r.used ≤ length line.old) }
     ensures { (result.end ≤ length input.old) × (result.used ≤ length line.old) }
 {

@@ -11,6 +11,7 @@ use output::{Buffer, Waiting};
 use parts::Area;
 use playing::{After, Booked};
 use rules::{Device, MARK_WORDS, STATE_BYTES};
+use std::io::Read;
 
 // How a line is played: as document 01's, or as one of a shelf's, which leaves the device as it is, or may change it.
 #[derive(Clone, Copy)]
@@ -105,12 +106,12 @@ fn change(
     managers::play(l, d, marks, bytes, line, out, waiting)
 }
 
-// Plays the listing that is read from this descriptor, to its end or until writing fails, on the engine that marks or bytes were lent for, and hands back what there is
+// Plays the listing that is read from this reader, to its end or until writing fails, on the engine that marks or bytes were lent for, and hands back what there is
 // behind its last line. A shelf's lends `area` to the parts of a state and `areas` to the queues; document 01's uses neither. A proved loop has to end, and nothing says
 // that the input does: it counts its turns down, from a number that no run uses up.
-pub fn run(
+pub fn run<R: Read>(
     shelf: bool,
-    from: i32,
+    from: &mut R,
     marks: &mut [u64],
     bytes: &mut [u8],
     area: &mut Area,
@@ -218,7 +219,7 @@ pub fn run(
 
 // Plays document 01's listing on mark words of its own: no bytes are lent to the plain engine, and nothing to queues, which have no line there. A line's buffer has a
 // byte more than a line may have, so that one which is cut is still too long.
-pub fn session(from: i32, out: &mut Buffer, waiting: Waiting) -> After {
+pub fn session<R: Read>(from: &mut R, out: &mut Buffer, waiting: Waiting) -> After {
     let mut marks = [0u64; MARK_WORDS];
     let mut bytes = [0u8; 0];
     let mut area = [0u8; STATE_BYTES];

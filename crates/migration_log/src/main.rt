@@ -2,10 +2,11 @@
 // the answers. Prints a line for each controller of a file's last device, or `bad` for a file that can't be opened, and last the sums over all.
 #![tactic(auto)]
 
-use libc::{PATH_MAX, STDIN_FILENO};
 use log_numbers::{Log, Sums};
 use output::{Buffer, Waiting};
 use rules::Settings;
+use std::fs::File;
+use std::rt::Files;
 
 // After a file: the sums so far, and the lines that wait.
 #[derive(Clone, Copy)]
@@ -29,15 +30,27 @@ fn put_controllers(l: Log, s: Settings, sums: Sums, out: &mut Buffer, waiting: W
     Summed { sums, waiting }
 }
 
-// Plays the file of this name, and puts its lines. A name that can't be one is refused by `open_read`.
-fn put_file(name: &[u8], sums: Sums, out: &mut Buffer, waiting: Waiting) -> Summed {
-    let file = os::open_read(name);
-    if file < 0 {
-        let waiting = playing::put_bad(out, waiting);
-        return Summed { sums, waiting };
-    }
-    let after = listings::session(file, out, Waiting::Silent);
-    libc::close(file);
+// Puts the answer to a name of which no file can be opened.
+fn put_bad(sums: Sums, out: &mut Buffer, waiting: Waiting) -> Summed {
+    let waiting = playing::put_bad(out, waiting);
+    Summed { sums, waiting }
+}
+
+// Plays the file of this name, and puts its lines. A name that can't be one is refused by `open`, and one that is no text before that.
+fn put_file<R: Files>(
+    files: &R,
+    name: &[u8],
+    sums: Sums,
+    out: &mut Buffer,
+    waiting: Waiting,
+) -> Summed {
+    let Ok(path) = str::from_utf8(name) else {
+        return put_bad(sums, out, waiting);
+    };
+    let Ok(mut file) = File::open(files, path) else {
+        return put_bad(sums, out, waiting);
+    };
+    let after = listings::session(&mut file, out, Waiting::Silent);
     let log = after.log;
     let device = after.device;
     let settings = device.settings;
@@ -51,11 +64,15 @@ fn put_sum(sums: Sums, out: &mut Buffer, waiting: Waiting) {
     output::flush(out, b);
 }
 
-// A name's buffer has a byte more than a name may have, so that one which is cut is still too long. The loop counts its turns down, from a number that no run uses up.
-fn main() {
+// The bytes of a name's buffer: one more than the system lets a name have, so that one which is cut is still too long.
+const NAME_BYTES: usize = 4096;
+
+// The loop counts its turns down, from a number that no run uses up.
+fn main(rt: HostRuntime) {
+    let mut from = rt.stdin();
     let mut input = [0u8; 65536];
-    let mut name = [0u8; PATH_MAX];
-    let mut out = [0u8; 65536];
+    let mut name = [0u8; NAME_BYTES];
+    let mut out = Buffer::new(rt.stdout());
     let mut waiting = Waiting::Bytes(0);
     let mut sums = log_numbers::no_sums();
     let mut reading = lines::begin();
@@ -67,10 +84,10 @@ fn main() {
             put_sum(sums, &mut out, waiting);
             return;
         }
-        reading = lines::step(STDIN_FILENO, &mut input, &mut name, reading);
+        reading = lines::step(&mut from, &mut input, &mut name, reading);
         if reading.whole {
             let length = reading.used;
-            let summed = put_file(&name[..length], sums, &mut out, waiting);
+            let summed = put_file(&rt, &name[..length], sums, &mut out, waiting);
             sums = summed.sums;
             waiting = summed.waiting;
         }

@@ -2,10 +2,26 @@
 // the number of those that wait 16 bits, so that it lies within the buffer whatever it is.
 #![tactic(auto)]
 
-use libc::STDOUT_FILENO;
+ghost use Rattle.std.specs.Prelude.{◌≤◌};
 
-// What waits stands at the front of this.
-pub type Buffer = [u8; 65536];
+use std::io::{Stdout, Write};
+
+// What waits stands at the front of the bytes, and is written to standard output.
+#[derive(Drop)]
+pub struct Buffer {
+    bytes: [u8; 65536],
+    to: Stdout,
+}
+
+impl Buffer {
+    // A buffer on its way to this output.
+    pub fn new(to: Stdout) -> Buffer {
+        Buffer {
+            bytes: [0u8; 65536],
+            to,
+        }
+    }
+}
 
 // How many bytes wait at the buffer's front; or that writing failed, after which nothing is put or written any more; or that nothing is to be put or written.
 #[derive(Clone, Copy)]
@@ -24,12 +40,13 @@ pub fn failed(waiting: Waiting) -> bool {
     }
 }
 
-// What waits after a write: nothing, if it was done.
-fn written(done: bool) -> Waiting {
-    if done {
-        return Waiting::Bytes(0);
+// Writes some bytes. Nothing waits behind a write that was done.
+fn write(to: Stdout, bytes: &[u8]) -> Waiting {
+    let mut to = to;
+    match to.write_all(bytes) {
+        Ok(()) => Waiting::Bytes(0),
+        Err(_) => Waiting::Failed,
     }
-    Waiting::Failed
 }
 
 // Puts a byte behind those that wait, and writes them all where it fills the buffer.
@@ -38,11 +55,11 @@ pub fn put_byte(out: &mut Buffer, waiting: Waiting, b: u8) -> Waiting {
         return waiting;
     };
     let at = used as usize;
-    out[at] = b;
+    out.bytes[at] = b;
     if used < 65535 {
         return Waiting::Bytes(used + 1);
     }
-    written(io::write_all(STDOUT_FILENO, out))
+    write(out.to, &out.bytes)
 }
 
 // Puts some bytes.
@@ -56,11 +73,30 @@ pub fn put_bytes(out: &mut Buffer, waiting: Waiting, text: &[u8]) -> Waiting {
     waiting
 }
 
+// The power of ten that a number's first digit counts: 1, where the number is 0.
+fn first_power(n: u64) -> u64
+    ensures { 1 ≤ result }
+{
+    let mut power: u64 = 10_000_000_000_000_000_000;
+    while n < power {
+        if power < 10 {
+            return 1;
+        }
+        power = power / 10;
+    }
+    power
+}
+
 // Puts a number in decimal.
 pub fn put_number(out: &mut Buffer, waiting: Waiting, n: u64) -> Waiting {
-    let mut text = [0u8; 20];
-    let k = io::decimal(n, &mut text);
-    put_bytes(out, waiting, &text[..k])
+    let mut waiting = waiting;
+    let mut power = first_power(n);
+    while power > 0 {
+        let digit = (n / power % 10) as u8;
+        waiting = put_byte(out, waiting, b'0' + digit);
+        power = power / 10;
+    }
+    waiting
 }
 
 // Writes out what waits.
@@ -68,7 +104,6 @@ pub fn flush(out: &Buffer, waiting: Waiting) -> Waiting {
     let Waiting::Bytes(used) = waiting else {
         return waiting;
     };
-    let all: &[u8] = out;
     let n = used as usize;
-    written(io::write_all(STDOUT_FILENO, &all[..n]))
+    write(out.to, &out.bytes[..n])
 }

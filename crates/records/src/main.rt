@@ -12,13 +12,12 @@
 // and 4200 bytes of area as they are after the call, with zeros past the lent ones.
 #![tactic(auto)]
 
-ghost use Rattle.std.specs.Prelude.{◌≤◌};
-ghost use Rattle.io.specs.Counts.{IsPrefixLen};
+ghost use Rattle.std.specs.Prelude.{◌≡◌, ◌≤◌, length, take};
 
 use calls::{Changed, Received, WriteRecord};
-use libc::STDIN_FILENO;
 use output::{Buffer, Waiting};
 use rules::{Bytes, Controller, Device, Queue, Range, Ring, Second, Sequence, Settings, Tracking};
+use std::io::Read;
 
 // Between two bytes of input: how many bytes of a case are there, and the answers that wait to be written.
 #[derive(Clone, Copy)]
@@ -739,7 +738,7 @@ fn later_byte(case: &[u8], i: usize) -> u8 {
     let fill = byte_at(case, 2830);
     if to_queue(case) {
         let place = ((i / 32) % 256) as u8;
-        return std::num::wrapping_add_u8(fill, place);
+        return fill.wrapping_add(place);
     }
     fill
 }
@@ -961,23 +960,25 @@ fn take_in(s: State, case: &mut [u8], out: &mut Buffer, input: &[u8]) -> State {
 }
 
 // Reads once, and answers how many bytes came: 0 at the end of the input, and where reading fails.
-fn read_some(input: &mut [u8]) -> usize
-    ensures { IsPrefixLen result input.new }
+fn read_some<R: Read>(from: &mut R, input: &mut [u8]) -> usize
+    ensures { (result ≤ length input.new) × (result ≡ length (take result input.new)) }
 {
-    let got = libc::read(STDIN_FILENO, input);
-    io::count(got, input)
+    match from.read(input) {
+        Ok(n) => n,
+        Err(_) => 0,
+    }
 }
 
 // Plays the cases, to their end or until writing fails; a rest that is no whole case is none. What was answered is written out before more input is waited
 // for. A proved loop has to end, and nothing says that the input does: it counts its turns down, from a number that no run uses up.
-fn run(case: &mut [u8], out: &mut Buffer, input: &mut [u8]) {
+fn run<R: Read>(from: &mut R, case: &mut [u8], out: &mut Buffer, input: &mut [u8]) {
     let mut s = State {
         there: 0,
         waiting: Waiting::Bytes(0),
     };
     let mut turns = u64::MAX;
     while turns > 0 {
-        let n = read_some(input);
+        let n = read_some(from, input);
         if n == 0 {
             return;
         }
@@ -994,9 +995,10 @@ fn run(case: &mut [u8], out: &mut Buffer, input: &mut [u8]) {
 }
 
 // A case is 3056 bytes.
-fn main() {
+fn main(rt: HostRuntime) {
     let mut case = [0u8; 3056];
-    let mut out = [0u8; 65536];
+    let mut from = rt.stdin();
+    let mut out = Buffer::new(rt.stdout());
     let mut input = [0u8; 65536];
-    run(&mut case, &mut out, &mut input);
+    run(&mut from, &mut case, &mut out, &mut input);
 }

@@ -1,10 +1,10 @@
 // The session program: reads the listing of document 01 from standard input to its end and answers line by line on standard output.
 #![tactic(auto)]
 
-use libc::STDIN_FILENO;
-use output::Waiting;
+use output::{Buffer, Waiting};
 
-fn main() {
-    let mut out = [0u8; 65536];
-    listings::session(STDIN_FILENO, &mut out, Waiting::Bytes(0));
+fn main(rt: HostRuntime) {
+    let mut from = rt.stdin();
+    let mut out = Buffer::new(rt.stdout());
+    listings::session(&mut from, &mut out, Waiting::Bytes(0));
 }

@@ -1,6 +1,5 @@
 -- `bursts::batch_line` is safe and ends: each record that is read goes on in the line. The measure is what is left of the line.
-use Prim.Native.Nat.{◌≤◌, ◌-◌}
-use lib.ListN.{length}
+use Rattle.std.proofs.Common.{◌≤◌, ◌-◌, length}
 use Rattle.bursts.proofs.batch_line.Given as goal
 
 abbrev pub invariant-loop-at : goal.invariant-loop-at

@@ -1,5 +1,5 @@
 -- `bursts::read_line` is safe: the word lies in the line.
-use native.Mathlib.Omega.{arith}
+use Rattle.std.proofs.Common.{arith}
 use Rattle.fields.proofs.FieldLaws.{first_field-within}
 use Rattle.bursts.proofs.read_line.Goals as goal
 

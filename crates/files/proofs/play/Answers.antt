@@ -1,5 +1,5 @@
 -- `files::play` is safe: a line's first field lies in it.
-use native.Mathlib.Omega.{arith}
+use Rattle.std.proofs.Common.{arith}
 use Rattle.fields.proofs.FieldLaws.{first_field-within}
 use Rattle.files.proofs.play.Goals as goal
 

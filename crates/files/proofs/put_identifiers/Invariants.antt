@@ -1,5 +1,5 @@
 -- `files::put_identifiers` is safe and ends: each identifier stands in a place. The measure is the places that are left.
-use Prim.Native.Nat.{◌≤◌, ◌-◌}
+use Rattle.std.proofs.Common.{◌≤◌, ◌-◌}
 use Rattle.files.proofs.put_identifiers.Given as goal
 
 abbrev pub invariant-loop-i : goal.invariant-loop-i

@@ -1,5 +1,5 @@
 -- `hand_lines::made_of` keeps its promise: the first field lies in the line.
-use native.Mathlib.Omega.{arith}
+use Rattle.std.proofs.Common.{arith}
 use Rattle.fields.proofs.FieldLaws.{first_field-within}
 use Rattle.hand_lines.proofs.made_of.Goals as goal
 

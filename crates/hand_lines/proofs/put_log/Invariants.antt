@@ -1,5 +1,5 @@
 -- `hand_lines::put_log` is safe and ends: there are eight accounts and eight places for identifiers. The measure is the number of places left.
-use Prim.Native.Nat.{◌≤◌, ◌-◌}
+use Rattle.std.proofs.Common.{◌≤◌, ◌-◌}
 use Rattle.hand_lines.proofs.put_log.Given as goal
 
 abbrev pub invariant-loop-i : goal.invariant-loop-i

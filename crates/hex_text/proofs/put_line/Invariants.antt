@@ -1,6 +1,5 @@
--- `hex::put_line` is safe and ends. The measure is the number of bytes left.
-use Prim.Native.Nat.{◌≤◌, ◌-◌}
-use lib.ListN.{length}
+-- `hex_text::put_line` is safe and ends. The measure is the number of bytes left.
+use Rattle.std.proofs.Common.{◌≤◌, ◌-◌, length}
 use Rattle.hex_text.proofs.put_line.Given as goal
 
 abbrev pub invariant-loop-i : goal.invariant-loop-i

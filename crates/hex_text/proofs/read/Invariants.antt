@@ -1,7 +1,5 @@
--- `hex::read` is safe and ends: there are two digits in the field, and a place in the data, for each byte. The measure is the number of bytes left.
-use Prim.Native.Nat.{◌+◌, ◌-◌, ◌≤◌}
-use mathlib.Core.Path.{◌≡◌}
-use lib.ListN.{length}
+-- `hex_text::read` is safe and ends: there are two digits in the field, and a place in the data, for each byte. The measure is the number of bytes left.
+use Rattle.std.proofs.Common.{◌+◌, ◌-◌, ◌≤◌, ◌≡◌, length}
 use Rattle.hex_text.proofs.read.Given as goal
 
 abbrev pub invariant-loop-i : goal.invariant-loop-i

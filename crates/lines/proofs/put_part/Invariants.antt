@@ -1,8 +1,6 @@
 -- `lines::put_part` is safe, ends, and stays in the line's buffer, because `n` is no more than its room and the part.
 -- The loop's invariant is that. The measure is the number of bytes left.
-use Prim.Native.Nat.{◌+◌, ◌-◌, ◌≤◌}
-use mathlib.Core.Path.{◌≡◌}
-use lib.ListN.{length}
+use Rattle.std.proofs.Common.{◌+◌, ◌-◌, ◌≤◌, ◌≡◌, length}
 use Rattle.lines.proofs.put_part.Given as goal
 
 abbrev pub invariant-loop-i : goal.invariant-loop-i

@@ -1,5 +1,5 @@
 -- `managers::caller_of` keeps its promise: the fields that it reads lie in the line, and a call's line begins in it.
-use native.Mathlib.Omega.{arith}
+use Rattle.std.proofs.Common.{arith}
 use Rattle.fields.proofs.FieldLaws.{first_field-within}
 use Rattle.managers.proofs.caller_of.Goals as goal
 

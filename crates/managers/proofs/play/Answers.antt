@@ -1,5 +1,5 @@
 -- `managers::play` is safe: the numbers begin in the line.
-use native.Mathlib.Omega.{arith}
+use Rattle.std.proofs.Common.{arith}
 use Rattle.fields.proofs.FieldLaws.{first_field-within}
 use Rattle.managers.proofs.play.Goals as goal
 

@@ -1,7 +1,5 @@
 -- `migration_log::main` is safe and ends: a name lies in its buffer, and the input that is left in its own. The measure is the number of turns left.
-use Prim.Native.Nat.{◌≤◌}
-use mathlib.Core.Path.{◌≡◌}
-use lib.ListN.{length}
+use Rattle.std.proofs.Common.{◌≤◌, ◌≡◌, length}
 use Rattle.migration_log.proofs.main.Given as goal
 
 abbrev pub invariant-loop-turns : goal.invariant-loop-turns

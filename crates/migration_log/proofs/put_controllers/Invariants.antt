@@ -1,5 +1,5 @@
 -- `migration_log::put_controllers` is safe and ends: there are eight accounts and eight places for identifiers. The measure is the number of places left.
-use Prim.Native.Nat.{◌≤◌, ◌-◌}
+use Rattle.std.proofs.Common.{◌≤◌, ◌-◌}
 use Rattle.migration_log.proofs.put_controllers.Given as goal
 
 abbrev pub invariant-loop-i : goal.invariant-loop-i

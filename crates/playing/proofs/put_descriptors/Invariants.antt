@@ -1,5 +1,5 @@
 -- `playing::put_descriptors` is safe and ends: each descriptor lies in the report. The measure is the number of descriptors left.
-use Prim.Native.Nat.{◌≤◌, ◌-◌}
+use Rattle.std.proofs.Common.{◌≤◌, ◌-◌}
 use Rattle.playing.proofs.put_descriptors.Given as goal
 
 abbrev pub invariant-loop-i : goal.invariant-loop-i

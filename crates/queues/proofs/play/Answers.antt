@@ -1,5 +1,5 @@
 -- `queues::play` is safe: the numbers begin in the line, and what is lent lies in the areas.
-use native.Mathlib.Omega.{arith}
+use Rattle.std.proofs.Common.{arith}
 use Rattle.fields.proofs.FieldLaws.{first_field-within}
 use Rattle.queues.proofs.play.Goals as goal
 

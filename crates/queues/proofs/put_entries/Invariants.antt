@@ -1,5 +1,5 @@
 -- `queues::put_entries` is safe and ends: each entry lies in the buffer. The measure is the number of entries left.
-use Prim.Native.Nat.{◌≤◌, ◌-◌}
+use Rattle.std.proofs.Common.{◌≤◌, ◌-◌}
 use Rattle.queues.proofs.put_entries.Given as goal
 
 abbrev pub invariant-loop-i : goal.invariant-loop-i

@@ -3,7 +3,7 @@ use Rattle.std.proofs.Common.{◌≡◌, length}
 use Rattle.records.proofs.run.Given as goal
 
 abbrev pub invariant-loop-turns : goal.invariant-loop-turns
-invariant-loop-turns l = (length l.case ≡ length l.initial.case) × (length l.input ≡ length l.initial.input)
+invariant-loop-turns g l = (length l.case ≡ length l.initial.case) × (length l.input ≡ length l.initial.input)
 
 abbrev pub decreases-loop-turns : goal.decreases-loop-turns
-decreases-loop-turns l = l.turns
+decreases-loop-turns g l = l.turns

@@ -1,6 +1,5 @@
 -- `settings_line::read_identifiers` is safe and ends: each number stands in a place. The measure is the bytes of the line that are left.
-use Prim.Native.Nat.{◌≤◌, ◌-◌}
-use lib.ListN.{length}
+use Rattle.std.proofs.Common.{◌≤◌, ◌-◌, length}
 use Rattle.settings_line.proofs.read_identifiers.Given as goal
 
 abbrev pub invariant-loop-end : goal.invariant-loop-end

@@ -1,5 +1,5 @@
 -- `totals::answer` is safe: the identifier is looked for in the line.
-use native.Mathlib.Omega.{arith}
+use Rattle.std.proofs.Common.{arith}
 use Rattle.fields.proofs.FieldLaws.{first_field-within}
 use Rattle.totals.proofs.answer.Goals as goal
 

@@ -1,8 +1,0 @@
--- `queues::post` is safe: the entry that is handed on lies in its buffer.
-use mathlib.Core.Path.{sym}
-use native.Mathlib.Omega.{arith}
-use lib.Seq.{length-take-le}
-use Rattle.queues.proofs.post.Goals as goal
-
-pub slice_bounds-post-end : goal.slice_bounds-post-end
-slice_bounds-post-end c = sym (length-take-le _ _ (let t = c.take-read in omega (arith, t.ensures, t.auto.1)))
