@@ -3,7 +3,7 @@
 from pathlib import Path
 
 from figures import PROVED
-from playing import OUT, run_quietly, ROOT, seconds
+from playing import OUT, built_proved, seconds
 from programs import command_of
 from sessions import RECORDS
 
@@ -11,8 +11,7 @@ WRITES, REPORTS = 400, 40  # of a body's front: on the plain engine each goes ov
 
 
 def built_plain_engine():
-    run_quietly(["rt", "check", "plain_shelf"], ROOT)
-    return command_of(ROOT / "target/bin/plain_shelf")
+    return command_of(built_proved("plain_shelf"))
 
 
 def front(lines, word, count):

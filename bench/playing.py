@@ -10,9 +10,10 @@ ROOT = Path(__file__).resolve().parent.parent
 OUT = ROOT / "target/bench"
 sys.path.insert(0, str(ROOT / "tests"))
 
-from c_programs import built_c, run_quietly  # noqa: E402
+from c_programs import built_c  # noqa: E402
 from figures import PLAIN, PROVED, SHELF, TESTED, Costs  # noqa: E402
 from programs import Trouble, command_of  # noqa: E402
+from proved import built as built_proved, static_library  # noqa: E402
 from sessions import BATCHES  # noqa: E402
 
 NATIVE = platform.machine() in ("x86_64", "amd64")
@@ -25,10 +26,9 @@ PLAIN_COPIES = {} if NATIVE else {"GLIBC_TUNABLES": "glibc.cpu.x86_rep_movsb_thr
 # ---- Building
 
 def built():
-    """The programs and how each is started. `rt check` proves nothing again that has not changed; else it takes some minutes."""
+    """The programs and how each is started. A proved one is proved and built again, in some minutes, only where a file that it is made from has changed."""
     OUT.mkdir(parents=True, exist_ok=True)
-    run_quietly(["rt", "check", "session", "shelf"], ROOT)
-    proved = {PROVED: ROOT / "target/bin/session", SHELF: ROOT / "target/bin/shelf"}
+    proved = {PROVED: built_proved("session"), SHELF: built_proved("shelf")}
     paths = {**proved, PLAIN: built_plain("plain", 0), TESTED: built_plain("plain-sound", 1)}
     return {name: command_of(path) for name, path in paths.items()}
 
@@ -39,9 +39,8 @@ def built_plain(name, sound):
 
 def built_searches():
     """The program that only searches, with the proved search and with the one of C."""
-    run_quietly(["rt", "staticlib", "search"], ROOT)
     paths = {name: built_c(OUT / name, ROOT / "bench/search.c", "-std=c11", f"-DPROVED={proved}", libraries=libraries)
-             for name, proved, libraries in (("search", 1, [ROOT / "target/staticlib/libsearch.a"]), ("search-c", 0, []))}
+             for name, proved, libraries in (("search", 1, [static_library("search", "search")]), ("search-c", 0, []))}
     searches = {name: command_of(path) for name, path in paths.items()}
     if len({started(command, os.devnull, subprocess.PIPE).communicate()[0] for command in searches.values()}) > 1:
         raise Trouble("the two searches find other places")

@@ -59,7 +59,7 @@ def program(name, command):
     path, *words = command
     path = Path(path)
     if not path.is_file():
-        made = f"; `rt check {path.name}` makes it" if path.parent == ROOT / "target/bin" else ""
+        made = "; `rt ci` makes it, and so does `rt run` in its crate's folder" if ROOT / "crates" in path.parents else ""
         raise Trouble(f"there is no {path}{made}")
     return Program(name, command_of(path) + words)
 
@@ -82,18 +82,14 @@ def built_second():
 
 
 def command_of(path):
-    """How a program is started here. Proved programs are for x86-64; elsewhere they need an emulator."""
+    """How a program is started here. Proved programs are for x86-64; elsewhere they need an emulator, which the kit doesn't have."""
     path = str(path.resolve())
     if not is_for_x86_64(path) or platform.machine() in ("x86_64", "amd64"):
         return [path]
-    tools = kit_tools()
-    emulator, loader = tools / "bin/qemu-x86_64", tools / "lib/ld-linux-x86-64.so.2"
-    if emulator.is_file() and loader.is_file():  # as `rt check` runs a program: the kit's emulator and C library
-        return [str(emulator), str(loader), "--library-path", str(tools / "lib"), path]
     emulator = shutil.which("qemu-x86_64") or shutil.which("qemu-x86_64-static")
     if emulator:
         return [emulator, path]
-    raise Trouble(f"{path} is for x86-64, and neither the kit's emulator nor qemu-x86_64 was found")
+    raise Trouble(f"{path} is for x86-64, and qemu-x86_64 was not found")
 
 
 def is_for_x86_64(path):
@@ -104,12 +100,12 @@ def is_for_x86_64(path):
 
 
 def kit_tools():
-    """The kit's tools for this machine. `rt doc` prints the path of a guide, in the folder docs/ of the kit."""
+    """The folder of the kit's compiler for C and of the C library. `rt doc` prints the path of a guide, at the top of the kit."""
     try:
         guide = subprocess.run(["rt", "doc"], stdout=subprocess.PIPE, check=True).stdout.decode().strip()
-    except (OSError, subprocess.CalledProcessError):
-        guide = ""
-    return Path(guide).resolve().parent.parent / "on" / platform.machine() / "toolchain"
+    except (OSError, subprocess.CalledProcessError) as error:
+        raise Trouble(f"Rattle's command rt does not tell where its kit is: {error}") from error
+    return Path(guide).resolve().parent / "toolchain"
 
 
 def run(program, text):

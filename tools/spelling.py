@@ -4,7 +4,9 @@
 usage: python3 tools/spelling.py      at the top of the repository, once, right after the kit's port.py
 
 It goes by text over crates/: each name that begins with a small letter, or part of one behind a '-', loses its inner capitals (soundWith becomes sound_with).
-Names of types and modules keep theirs. Where a local name would fall together with one so respelled, the local one is renamed first.
+Names of types and modules keep theirs. Where a local name would fall together with one so respelled, the local one is renamed first. A name that a file of
+specs/ declares has no '-' either (may-start becomes may_start), but where another name is spelled so already, from which the '-' keeps it apart; a law of proofs/
+keeps the '-' between what it is about and what it says, as the library's do.
 """
 
 import os
@@ -27,12 +29,15 @@ MOVED = [("demands/specs/Contracts.antt", "demands/specs/CallContracts.antt"), (
 PATHS = [(r"Rattle\.demands\.(specs|proofs)\.Contracts\b", r"Rattle.demands.\1.CallContracts")]
 LISTS = [("demands/specs/Lib.antt", "Contracts", "CallContracts"), ("demands/proofs/Lib.antt", "Contracts", "CallContracts")]
 
+DECLARED = re.compile(r"(?m)^ *(?:(?:abbrev|unfoldable|pub) )*([a-z][A-Za-z0-9_']*(?:-[A-Za-z0-9_']+)+) :(?: |$)")
 WORD = re.compile(r"[A-Za-z_][A-Za-z0-9_'-]*")
 CAPITAL = re.compile(r"(?<=[a-z0-9'])([A-Z])")
 
 
 def snake(name):
     """A name with its small-lettered parts in snake case. `T` of a proposition's name, as in not_T, and a part that begins with a capital stay."""
+    if re.fullmatch(r"b'.'", name):  # a byte of the code
+        return name
     parts = name.split("-")
     return "-".join(CAPITAL.sub(lambda m: "_" + m.group(1).lower(), p) if re.match(r"_*[a-z]", p) else p for p in parts)
 
@@ -54,6 +59,14 @@ def main():
     for old, new in MOVED:
         if os.path.exists(os.path.join(root, old)):
             os.rename(os.path.join(root, old), os.path.join(root, new))
+    joined, taken = {}, set()
+    for path in files(root):
+        with open(path, encoding="utf-8") as f:
+            text = f.read()
+        taken.update(snake(name) for name in WORD.findall(text))
+        if "/specs/" in path:
+            joined.update((name, snake(name).replace("-", "_")) for name in DECLARED.findall(text))
+    joined = {name: new for name, new in joined.items() if new not in taken}
     for path in files(root):
         with open(path, encoding="utf-8") as f:
             text = before = f.read()
@@ -66,7 +79,7 @@ def main():
                 text = re.sub(r"(?m)^((?:pub )?mod )" + old + "$", r"\g<1>" + new, text)
         for old, new in PATHS:
             text = re.sub(old, new, text)
-        text = WORD.sub(lambda m: snake(m.group(0)), text)
+        text = WORD.sub(lambda m: joined.get(m.group(0)) or joined.get(snake(m.group(0))) or snake(m.group(0)), text)
         if text != before:
             with open(path, "w", encoding="utf-8") as f:
                 f.write(text)

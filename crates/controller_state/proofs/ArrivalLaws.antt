@@ -158,8 +158,8 @@ module _ (q : Sequence) (area : List ℕ) (id : ℕ) (p : Part) where
   abbrev number : ℕ
   number = refusal (part_tests (arriving_in q area id) p)
 
-  pub part-others : others_in id q ≡ true → 23 ≡ number
-  part-others o = rw o
+  pub part_others : others_in id q ≡ true → 23 ≡ number
+  part_others o = rw o
 
   module _ (o : others_in id q ≡ false) where
     pub part-offset : is_offset (offset_of p) ≡ false → 24 ≡ number
@@ -170,8 +170,8 @@ module _ (q : Sequence) (area : List ℕ) (id : ℕ) (p : Part) where
       part-data d = rw (o, f, d)
 
       module _ (d : data_ok p ≡ true) where
-        pub part-next : is_next q id p.indicator (offset_of p) ≡ false → 26 ≡ number
-        part-next n = rw (o, f, d, follows_next area id p q, n)
+        pub part_next : is_next q id p.indicator (offset_of p) ≡ false → 26 ≡ number
+        part_next n = rw (o, f, d, follows_next area id p q, n)
 
         module _ (l : length area ≡ 4096) (w : Within q) (n : is_next q id p.indicator (offset_of p) ≡ true) where
           abbrev whole : List ℕ

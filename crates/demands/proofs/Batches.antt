@@ -27,13 +27,13 @@ use Rattle.calls.specs.declared.WriteRecord.{WriteRecord}
 use Rattle.calls.specs.declared.Batched.{Batched}
 use Rattle.calls.specs.Calls.{Engine, batch_by, in_words, write_by, Change, with_marks, Note, noted, note_in, write_done, write_note, write_in, batched, notes_from}
 use Rattle.demands.specs.View.{run}
-use Rattle.demands.specs.Sessions.{Left, Given, Sized, Step, one, batch, next, left_after, answers_to, stepped, left_by, note_of, tried, calls_of, expand, begun, calls_in, history_in}
+use Rattle.demands.specs.Sessions.{Left, Given, Sized, Step, one, batch, next, left_after, answers_to, stepped, left_is, note_of, tried, calls_of, expand, begun, calls_in, history_in}
 use Rattle.demands.specs.Demand2.{Equals, Stands}
 use Rattle.demands.specs.Batches.{done_in, newly_in, last_number, IsNotes, ByNote, Batches, BatchesStand}
 use Rattle.demands.specs.Demand3.{Demand3}
 use Rattle.demands.proofs.SessionLaws.{left-append}
 use Rattle.demands.proofs.AnswerLaws.{answers}
-use Rattle.demands.proofs.Demand1.{mark-calls}
+use Rattle.demands.proofs.Demand1.{mark_calls}
 use Rattle.demands.proofs.Demand2.{demand-2}
 use Rattle.demands.proofs.Demand3.{demand-3}
 
@@ -146,10 +146,10 @@ module _ (en : Engine) (keeps : (d : Device) (ws : List ℕ) (id : ℕ) (w : Wri
   module _ (d : Device) (ws : List ℕ) where
     -- a note is refused with 1 exactly where record and marks are unsound, and so is a batch
     note-one : (id : ℕ) (w : Write) → sound_with d (en.words ws) ≡ false → (write_by en d ws id w).answer.number ≡ 1
-    note-one id w e = ((mark-calls en).write d ws id w).first ∙ rw e
+    note-one id w e = ((mark_calls en).write d ws id w).first ∙ rw e
 
     note-other : (id : ℕ) (w : Write) → sound_with d (en.words ws) ≡ true → (write_by en d ws id w).answer.number ≢ 1
-    note-other id w e = λ z. go (seen_in d (en.words ws) (place_of d.settings id)).known (not (seen_in d (en.words ws) (place_of d.settings id)).suspended) (leb (w.address + w.bytes) (2 ^ 64)) (sym (((mark-calls en).write d ws id w).first ∙ rw e) ∙ z)
+    note-other id w e = λ z. go (seen_in d (en.words ws) (place_of d.settings id)).known (not (seen_in d (en.words ws) (place_of d.settings id)).suspended) (leb (w.address + w.bytes) (2 ^ 64)) (sym (((mark_calls en).write d ws id w).first ∙ rw e) ∙ z)
       where
         go : (a b c : Bool) → ◌≢◌ {A = ℕ} (cond a (cond b (cond c 0 14) 4) 2) 1
         go true true true = λ z. absurd (omega (arith, z))
@@ -189,7 +189,7 @@ module _ (en : Engine) (keeps : (d : Device) (ws : List ℕ) (id : ℕ) (w : Wri
         none = λ e. (done-is l.device l.marks [] e).0;
         cut = λ r rs e z.
             (done-is l.device l.marks (r ∷ rs) e).0
-            ∙ rw (ne_eqb (write_by en l.device l.marks r.id (write_in r)).answer.number 0 z, (((mark-calls en).write l.device l.marks r.id (write_in r)).refused z).1);
+            ∙ rw (ne_eqb (write_by en l.device l.marks r.id (write_in r)).answer.number 0 z, (((mark_calls en).write l.device l.marks r.id (write_in r)).refused z).1);
         goes_on = λ r rs e z.
             let n = write_by en l.device l.marks r.id (write_in r) in
             let p = done-is l.device l.marks (r ∷ rs) e in
@@ -217,7 +217,7 @@ module _ (en : Engine) (keeps : (d : Device) (ws : List ℕ) (id : ℕ) (w : Wri
           let calls : calls_of en l (batch rs) ≡ [] = rw (ne_eqb (batch_by en l.device l.marks rs).answer.number 0 (λ z. absurd (omega (arith, z, e)))) in
           ap (λ m. record { device = l.device; marks = m; area = l.area; queues = l.queues }) ((is-notes l rs).answers.refused (λ z. absurd (omega (arith, z, e)))).3 ∙ ap (left_after en l) (sym calls)
 
-  left_is : (xs : List Step) (l : Left) → left_by en l xs ≡ left_after en l (expand en l xs)
+  left_is : (xs : List Step) (l : Left) → left_is en l xs ≡ left_after en l (expand en l xs)
   left_is [] l = refl
   left_is (x ∷ xs) l =
       left_is xs (stepped en l x) ∙ ap (λ (q : Left). left_after en q (expand en (stepped en l x) xs)) (step_left l x) ∙ sym (left-append en (calls_of en l x) (expand en (stepped en l x) xs) l)
@@ -230,7 +230,7 @@ module _ (en : Engine) (keeps : (d : Device) (ws : List ℕ) (id : ℕ) (w : Wri
   batches-of rules apart =
       record {
         notes = is-notes;
-        by-note = by_first;
+        by_note = by_first;
         session = λ s m xs. left_is xs (begun en s m);
         calls = λ s m ks. only_calls ks (begun en s m);
         rules = λ s a m xs sized. rules s a m (calls_in en s m xs) sized;

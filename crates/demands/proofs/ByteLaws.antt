@@ -30,7 +30,7 @@ use Rattle.plain_marks.specs.Plain.{marks_of, mark_bytes, clear_bytes}
 use Rattle.plain_marks.proofs.Outside.{mark_bytes-length, clear_bytes-length}
 use Rattle.calls.specs.declared.Changed.{Changed}
 use Rattle.calls.specs.Calls.{Change, changed, fresh_by, stop_done, stop_by, Note, noted, note_in, write_done, write_by, Receipt, received, receive_in, receive_done, receive_by}
-use Rattle.plain.specs.Bytes.{cleared_bytes, joined_bytes, packed_bytes, in_bytes}
+use Rattle.plain.specs.Bytes.{cleared_bytes, joined_long, packed_bytes, in_bytes}
 
 -- ---- bytes of which all from a place on are made anew
 
@@ -93,9 +93,9 @@ fresh-zeros s bs e =
     ap (λ (c : Change Changed). c.marks)
     (verdict-done (λ (c : Change Changed). c.answer.number) (fresh_order s (in_bytes.words bs)) (changed 0 d (replicate (length bs) 0)) (λ n i. changed n d bs) (λ n i. refl) (omega arith, (omega arith, tt)) e).0
 
-pub fresh-bytes : (s : Settings) (bs : List ℕ) → length (fresh_by in_bytes s bs).marks ≡ length bs
+pub fresh_bytes : (s : Settings) (bs : List ℕ) → length (fresh_by in_bytes s bs).marks ≡ length bs
 unfolding fresh_by
-fresh-bytes s bs =
+fresh_bytes s bs =
     let d = fresh_of s (in_bytes.words bs) in
     verdict-has (λ (c : Change Changed). length c.marks ≡ length bs) (λ n i. changed n d bs) (λ n i. refl) (fresh_order s (in_bytes.words bs)) (changed 0 d (replicate (length bs) 0)) (λ p. length-replicate {A = ℕ} (length bs) 0)
 
@@ -202,26 +202,26 @@ module _ (bs bases sizes : List ℕ) (clear : ℕ) (packs : Packs bs bases sizes
           let inside = packs.inside i h (eqb-false i clear e) (omega (arith, n)) in
           length-take-le (get_or sizes i 0) (drop (get_or bases i 0) bs) (omega (arith, inside, length-drop (get_or bases i 0) bs))
 
-  joined_long : (n : ℕ) → n ≤ 8 → length (joined_bytes bs bases sizes clear n) ≡ new_base sizes n
-  unfolding joined_bytes new_base
+  joined_long : (n : ℕ) → n ≤ 8 → length (joined_long bs bases sizes clear n) ≡ new_base sizes n
+  unfolding joined_long new_base
   joined_long zero h = refl
-  joined_long (suc n) h = length-append (joined_bytes bs bases sizes clear n) (part n) ∙ ap₂ (λ a b. a + b) (joined_long n (omega arith)) (part_length n (omega arith))
+  joined_long (suc n) h = length-append (joined_long bs bases sizes clear n) (part n) ∙ ap₂ (λ a b. a + b) (joined_long n (omega arith)) (part_length n (omega arith))
 
   joined_at : (n : ℕ) → n ≤ 8 → (rest : List ℕ) (j m : ℕ) → j < n → j ≢ clear → m < get_or sizes j 0
-      → get_or (joined_bytes bs bases sizes clear n ++ rest) (new_base sizes j + m) 0 ≡ get_or bs (get_or bases j 0 + m) 0
-  unfolding joined_bytes
+      → get_or (joined_long bs bases sizes clear n ++ rest) (new_base sizes j + m) 0 ≡ get_or bs (get_or bases j 0 + m) 0
+  unfolding joined_long
   joined_at zero h rest j m k other g = absurd (omega arith)
   joined_at (suc n) h rest j m k other g =
-      ap (λ l. get_or l (new_base sizes j + m) 0) (append_assoc (joined_bytes bs bases sizes clear n) (part n) rest) ∙ go (eqb j n) refl (joined_at n (omega arith) (part n ++ rest) j m)
+      ap (λ l. get_or l (new_base sizes j + m) 0) (append_assoc (joined_long bs bases sizes clear n) (part n) rest) ∙ go (eqb j n) refl (joined_at n (omega arith) (part n ++ rest) j m)
     where
       go : (b : Bool) → eqb j n ≡ b
-          → (j < n → j ≢ clear → m < get_or sizes j 0 → get_or (joined_bytes bs bases sizes clear n ++ (part n ++ rest)) (new_base sizes j + m) 0 ≡ get_or bs (get_or bases j 0 + m) 0)
-          → get_or (joined_bytes bs bases sizes clear n ++ (part n ++ rest)) (new_base sizes j + m) 0 ≡ get_or bs (get_or bases j 0 + m) 0
+          → (j < n → j ≢ clear → m < get_or sizes j 0 → get_or (joined_long bs bases sizes clear n ++ (part n ++ rest)) (new_base sizes j + m) 0 ≡ get_or bs (get_or bases j 0 + m) 0)
+          → get_or (joined_long bs bases sizes clear n ++ (part n ++ rest)) (new_base sizes j + m) 0 ≡ get_or bs (get_or bases j 0 + m) 0
       go true e ih =
           let same : j ≡ n = eqb-true j n e in
           let own : part n ≡ take (get_or sizes j 0) (drop (get_or bases j 0) bs) = rw (sym same, ne_eqb j clear other) in
-          ap (λ i. get_or (joined_bytes bs bases sizes clear n ++ (part n ++ rest)) (i + m) 0) (ap (new_base sizes) same ∙ sym (joined_long n (omega arith)))
-          ∙ get_or-append-add (joined_bytes bs bases sizes clear n) (part n ++ rest) m 0
+          ap (λ i. get_or (joined_long bs bases sizes clear n ++ (part n ++ rest)) (i + m) 0) (ap (new_base sizes) same ∙ sym (joined_long n (omega arith)))
+          ∙ get_or-append-add (joined_long bs bases sizes clear n) (part n ++ rest) m 0
           ∙ get_d_front (part n) rest m (omega (arith, part_length n (omega arith), g, ap (λ i. get_or sizes i 0) same))
           ∙ ap (λ l. get_or l m 0) own
           ∙ get_or-take (get_or sizes j 0) (drop (get_or bases j 0) bs) m 0 g

@@ -19,13 +19,13 @@ asks =
       set-state = λ κs a. tt;
       make-queue = λ κs a. tt;
       post = λ κs a. tt;
-      take-queue = λ κs a. tt;
+      take_queue = λ κs a. tt;
       read-header = λ κs a. tt;
       read-ranges = λ κs a. tt;
       read-start = λ κs a. tt;
       write-start = λ κs a. tt;
       refusal = λ κs a. tt;
-      bad-index = λ κs a. tt;
+      bad_index = λ κs a. tt;
       suspended = λ κs a. tt;
       more = λ κs a. tt;
       identifier = λ κs a. tt;
@@ -34,7 +34,7 @@ asks =
       refusal-at = λ κs a. tt;
       address = λ κs a. tt;
       length = λ κs a. tt;
-      run-address = λ κs a. tt;
+      run_address = λ κs a. tt;
       run_length = λ κs a. tt;
       read-line = λ κs a. tt;
     }
@@ -53,7 +53,7 @@ calls =
       set-state = λ κs a r e p. p;
       make-queue = λ κs a r e p. p;
       post = λ κs a r e p. p;
-      take-queue = λ κs a r e p. p;
+      take_queue = λ κs a r e p. p;
     }
 
 batch : BatchIs
@@ -67,7 +67,7 @@ room r i a b = (
 
 lent : Lent
 lent =
-    record { fresh = refl; start = refl; stop = refl; write = refl; batch = refl; batch-of = refl; receive = refl; suspend = refl; resume = refl; set-state = refl; make-queue = refl; post = refl; take-queue = refl }
+    record { fresh = refl; start = refl; stop = refl; write = refl; batch = refl; batch-of = refl; receive = refl; suspend = refl; resume = refl; set-state = refl; make-queue = refl; post = refl; take_queue = refl }
 
 structures : StructuresAre
 structures =
@@ -82,7 +82,7 @@ reader : ReaderIs
 reader =
     record {
       refusal = λ κs a r e p. p;
-      bad-index = λ κs a r e p. p;
+      bad_index = λ κs a r e p. p;
       suspended = λ κs a r e p. p;
       more = λ κs a r e p. p;
       identifier = λ κs a r e p. p;
@@ -91,7 +91,7 @@ reader =
       refusal-at = λ κs a r e p. p;
       address = λ κs a r e p. p;
       length = λ κs a r e p. p;
-      run-address = λ κs a r e p. p;
+      run_address = λ κs a r e p. p;
       run_length = λ κs a r e p. p;
     }
 

@@ -97,9 +97,9 @@ unfolding sound_with
 sees-sound d words = refl
 
 -- the calls that touch marks, of any engine
-pub mark-calls : (en : Engine) → MarkCalls en
+pub mark_calls : (en : Engine) → MarkCalls en
 unfolding stop_by write_by receive_by
-mark-calls en =
+mark_calls en =
     record {
       fresh = fresh-answers en;
       start = start-number en;
@@ -127,12 +127,12 @@ pub demand-1 : Demand1
 unfolding suspend_change resume_change part_change make_change post_change take_change
 demand-1 =
     record {
-      mark-calls = mark-calls in_words;
+      mark_calls = mark_calls in_words;
       fresh-order = λ s words. refl;
       sees = λ d words i. (sees-sound d words, refl, refl);
-      sees-nobody = λ d words. (sees-sound d words, refl);
-      sees-off = λ d words i e. ap (λ t. tracked_by t (controller_at d (some i)).manager) e;
-      sees-on = λ d words i g n e. ap (λ t. tracked_by t (controller_at d (some i)).manager) e;
+      sees_nobody = λ d words. (sees-sound d words, refl);
+      sees_off = λ d words i e. ap (λ t. tracked_by t (controller_at d (some i)).manager) e;
+      sees_on = λ d words i g n e. ap (λ t. tracked_by t (controller_at d (some i)).manager) e;
       tracks = λ m t. (refl, refl);
       managers = λ s m. (manager-named s m, named-manager s m);
       limits = λ s m limit ok n. limit-named s ok m limit n;
@@ -166,17 +166,17 @@ demand-1 =
           answers Taking (λ r. r.answer.number) (λ r. (r.answer ≡ record { number = r.answer.number; count = 0; closing = false; device = d }) × (r.buffer ≡ x))
           (queue_order (seen_in d words (place_of d.settings id)) (length area) (order.take asked x)) (take_done d area asked x (place_of d.settings id)) (λ n i. taking n 0 false d x)
           (take-zero d area asked x (place_of d.settings id)) (λ n i. refl) (λ n i. (refl, refl));
-      make-order = λ v bytes. refl;
-      post-order = λ v bytes e. refl;
-      take-order = λ v bytes asked x. refl;
+      make_order = λ v bytes. refl;
+      post_order = λ v bytes e. refl;
+      take_order = λ v bytes asked x. refl;
       size-made = λ n bytes. (refl, refl);
-      sees-none = λ d words i e. (ap places_of e, ap has_stopped e);
-      sees-queue = λ d words i r e. (ap places_of e, ap has_stopped e);
-      part-lent = lent;
+      sees_none = λ d words i e. (ap places_of e, ap has_stopped e);
+      sees_queue = λ d words i r e. (ap places_of e, ap has_stopped e);
+      part_lent = lent;
       part-order = λ s m v a p. refl;
-      part-next = λ f p. (refl, refl);
-      part-others = λ area id owner end. (refl, refl);
-      suspend-leaves = leaves;
+      part_next = λ f p. (refl, refl);
+      part_others = λ area id owner end. (refl, refl);
+      suspend_leaves = leaves;
       read-header = λ x.
           let e = header_of-says x in
           record {
@@ -200,16 +200,16 @@ demand-1 =
                   start_data-none x bad,
                 );
           };
-      read-many = many-said;
+      read_many = many-said;
       read_whole = whole-said;
       write-start = λ buffer g n rs. record { first = refl; refused = start_written-refused buffer g n rs };
-      write-many = λ size n h. rw (lt-leb n 16 h);
-      write-whole = λ size n h k. rw (le-leb n 16 h, le-leb (8 + 12 * n) size k);
-      read-report = λ x.
+      write_many = λ size n h. rw (lt-leb n 16 h);
+      write_whole = λ size n h k. rw (le-leb n 16 h, le-leb (8 + 12 * n) size k);
+      read_report = λ x.
           record {
             first = refl;
             refused = λ h. (refl, sym (refused-answer x _ h), sym (refused-answer x _ h), sym (refused-answer x _ h), sym (refused-answer x _ h), sym (refused-answer x _ h));
           };
       read_none = none_said;
-      read-index = λ x i. record { first = refl; refused = λ h. (sym (index-zero x i _ h), sym (index-zero x i _ h)) };
+      read_index = λ x i. record { first = refl; refused = λ h. (sym (index-zero x i _ h), sym (index-zero x i _ h)) };
     }

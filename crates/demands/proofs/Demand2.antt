@@ -71,7 +71,7 @@ use Rattle.demands.proofs.SessionLaws.{begins, fits_after, left-append, after-ap
 use Rattle.demands.proofs.ClosedLaws.{fresh-done, session, history-same, slot_same, equals}
 use Rattle.demands.proofs.AnswerLaws.{fresh-answers, write-zero}
 use Rattle.demands.proofs.Soundness.{soundness}
-use Rattle.demands.proofs.Queues.{queue-calls, logs}
+use Rattle.demands.proofs.Queues.{queue_calls, logs}
 use Rattle.rules.proofs.Sessions.{known-session}
 use Rattle.rules.proofs.QueueHistory.{Logged}
 use Rattle.demands.specs.Queues.{Logs}
@@ -304,8 +304,8 @@ module _ (s : Settings) (m : Given) (ks : List Call) (sizes : Sized s m) (made :
       manager-is : manager_in c.tracking c.manager ≡ manager_by h
       manager-is = ap (λ (z : Slot). z.manager) is-slot
 
-      marks-are : marks_of in_words l c.base c.tracking c.ranges ≡ marks_by h (tracks_by none h)
-      marks-are = ap (λ (z : Slot). z.marks) is-slot
+      marks_are : marks_of in_words l c.base c.tracking c.ranges ≡ marks_by h (tracks_by none h)
+      marks_are = ap (λ (z : Slot). z.marks) is-slot
 
       most : d.settings.count ≤ 8
       most = (sound_device-facts d sound).count
@@ -317,7 +317,7 @@ module _ (s : Settings) (m : Given) (ks : List Call) (sizes : Sized s m) (made :
       -- ---- not tracked, as its calls and answers tell
 
       is-off : tracks_by none h ≡ none → c.tracking ≡ Off
-      is-off e = go c.tracking (marks-are ∙ ap (marks_by h) e)
+      is-off e = go c.tracking (marks_are ∙ ap (marks_by h) e)
         where
           go : (t : Tracking) → marks_of in_words l c.base t c.ranges ≡ off → t ≡ Off
           go Off q = refl
@@ -376,11 +376,11 @@ module _ (s : Settings) (m : Given) (ks : List Call) (sizes : Sized s m) (made :
       unfolding granularity_ok powers_ok
       listed_same x = ap (λ (t : Settings). start_listed t x) settings-are
 
-      may-start : (b limit : ℕ) (x : List ℕ) → Manages s b limit → suspended_by false h ≡ false → tracks_by none h ≡ none → passes (header_tests x ++ start_listed s x) ≡ true
+      may_start : (b limit : ℕ) (x : List ℕ) → Manages s b limit → suspended_by false h ≡ false → tracks_by none h ≡ none → passes (header_tests x ++ start_listed s x) ≡ true
           → length (units (granularity_of x) (ranges_of x)) + units_in (session_end s (length m.marks) ks) ≤ 16384
           → count_of x + managed_in (session_end s (length m.marks) ks) b ≤ limit → count_of x + counts_in (session_end s (length m.marks) ks) ≤ s.shelf → (start_change d l b a x).answer.number ≡ 0
       unfolding start_by
-      may-start b limit x named e idle ok fit few all =
+      may_start b limit x named e idle ok fit few all =
           let v = seen_in d (length l) (some i) in
           let seen = subst (λ q. seen_in d (length l) q ≡ seen_at (view in_words d l area qs) q) place (seen_same d l area qs fits a) in
           let managed : v.managed b ≡ managed_in (session_end s (length m.marks) ks) b = ap (λ (z : Seen). z.managed b) seen ∙ ap (λ (st : State). managed_in st b) (session s m ks sizes).state in
@@ -421,7 +421,7 @@ module _ (s : Settings) (m : Given) (ks : List Call) (sizes : Sized s m) (made :
         p = told_of h us
 
         held : Held c l g rs p
-        held = go c.tracking refl (marks-are ∙ ap (marks_by h) by)
+        held = go c.tracking refl (marks_are ∙ ap (marks_by h) by)
           where
             go : (t : Tracking) → c.tracking ≡ t → marks_of in_words l c.base t c.ranges ≡ on g rs p → Held c l g rs p
             go Off e q = let z : ◌≡◌ {A = ℕ} 0 1 = cc in absurd (omega arith)
@@ -542,13 +542,13 @@ module _ (s : Settings) (m : Given) (ks : List Call) (sizes : Sized s m) (made :
         known : is_manager d.settings (manager_by h) ≡ true
         known = sym (ap (is_manager d.settings) who) ∙ tracker-known d i g held.n sound used (omega (arith, inside, fits.controllers)) held.tracking
 
-        may-stop : suspended_by false h ≡ false → (stop_change d l (manager_by h) a).answer.number ≡ 0
+        may_stop : suspended_by false h ≡ false → (stop_change d l (manager_by h) a).answer.number ≡ 0
         unfolding stop_by
-        may-stop e = rw (place, sure, known, flag_is, e, held.tracking, eq-eqb c.manager (manager_by h) who)
+        may_stop e = rw (place, sure, known, flag_is, e, held.tracking, eq-eqb c.manager (manager_by h) who)
 
-        may-receive : (x : List ℕ) → 32 ≤ length x → (receive_receipt d l (manager_by h) a x).answer.number ≡ 0
+        may_receive : (x : List ℕ) → 32 ≤ length x → (receive_receipt d l (manager_by h) a x).answer.number ≡ 0
         unfolding receive_by
-        may-receive x k = rw (place, sure, known, held.tracking, eq-eqb c.manager (manager_by h) who, le-leb 32 (length x) k)
+        may_receive x k = rw (place, sure, known, held.tracking, eq-eqb c.manager (manager_by h) who, le-leb 32 (length x) k)
 
         -- ---- what is refused
 
@@ -556,14 +556,14 @@ module _ (s : Settings) (m : Given) (ks : List Call) (sizes : Sized s m) (made :
         unfolding run start_by
         again b x n e = rw (place, sure, named-manager d.settings b n, flag_is, e, held.tracking)
 
-        other-stops : (b : ℕ) → IsManager d.settings b → b ≢ manager_by h → suspended_by false h ≡ false
+        other_stops : (b : ℕ) → IsManager d.settings b → b ≢ manager_by h → suspended_by false h ≡ false
             → outcome in_words (end_of in_words s m ks) (record { id = a; op = stop b }) ≡ refused_on (end_of in_words s m ks) (stop b) 5
         unfolding run stop_by
-        other-stops b n other e = rw (place, sure, named-manager d.settings b n, flag_is, e, held.tracking, ne_eqb c.manager b (λ z. other (sym z ∙ who)))
+        other_stops b n other e = rw (place, sure, named-manager d.settings b n, flag_is, e, held.tracking, ne_eqb c.manager b (λ z. other (sym z ∙ who)))
 
-        other-receives : (b : ℕ) (x : List ℕ) → IsManager d.settings b → b ≢ manager_by h → outcome in_words (end_of in_words s m ks) (record { id = a; op = receive b x }) ≡ refused_on (end_of in_words s m ks) (receive b x) 5
+        other_receives : (b : ℕ) (x : List ℕ) → IsManager d.settings b → b ≢ manager_by h → outcome in_words (end_of in_words s m ks) (record { id = a; op = receive b x }) ≡ refused_on (end_of in_words s m ks) (receive b x) 5
         unfolding run receive_by
-        other-receives b x n other = rw (place, sure, named-manager d.settings b n, held.tracking, ne_eqb c.manager b (λ z. other (sym z ∙ who)))
+        other_receives b x n other = rw (place, sure, named-manager d.settings b n, held.tracking, ne_eqb c.manager b (λ z. other (sym z ∙ who)))
 
         is-tracked : Tracked (end_of in_words s m ks) h a i g rs
         is-tracked =
@@ -573,11 +573,11 @@ module _ (s : Settings) (m : Given) (ks : List Call) (sizes : Sized s m) (made :
               written = is-written;
               received = is-received;
               size = size_is;
-              may-stop = may-stop;
-              may-receive = may-receive;
+              may_stop = may_stop;
+              may_receive = may_receive;
               again = again;
-              other-stops = other-stops;
-              other-receives = other-receives;
+              other_stops = other_stops;
+              other_receives = other_receives;
             }
 
     -- ---- any controller
@@ -620,7 +620,7 @@ module _ (s : Settings) (m : Given) (ks : List Call) (sizes : Sized s m) (made :
           suspended = is-suspended;
           may_write = λ i w at. may_write i at w;
           unknown = is-unknown;
-          may-start = λ b limit i x n at. may-start i at b limit x n;
+          may_start = λ b limit i x n at. may_start i at b limit x n;
           started = λ b i x at. starts-so (end_of in_words s m ks) fits a i (place i at) b x;
           stopped = λ b i at. stops_so (end_of in_words s m ks) fits a i (place i at) b;
           suspends = λ b i kind n at. is-suspend i at b kind n;
@@ -768,7 +768,7 @@ demand-2 =
       unmoved = unmoved;
       found = is_found;
       keeps = keeps;
-      queue-calls = λ l shaped a i at. queue-calls l.device (length l.marks) a i shaped.controllers at;
+      queue_calls = λ l shaped a i at. queue_calls l.device (length l.marks) a i shaped.controllers at;
       divided = λ s s' m m' ks ks' ok ok' e e' b b' a a' p p'. divided s m ks ok e b a p s' m' ks' ok' e' b' a' p';
       runs = (rules.demand-2).runs;
       touches = (rules.demand-2).touches;

@@ -17,7 +17,7 @@ calls =
       set-state = λ κs a r r' e e' p q. (p.0 ∙ sym q.0, p.1 ∙ sym q.1);
       make-queue = λ κs a r r' e e' p q. p ∙ sym q;
       post = λ κs a r r' e e' p q. (p.0 ∙ sym q.0, p.1 ∙ sym q.1);
-      take-queue = λ κs a r r' e e' p q. (p.0 ∙ sym q.0, p.1 ∙ sym q.1);
+      take_queue = λ κs a r r' e e' p q. (p.0 ∙ sym q.0, p.1 ∙ sym q.1);
     }
 
 structure : Structure
@@ -33,7 +33,7 @@ report-reader : ReportReader
 report-reader =
     record {
       refusal = λ κs a r r' e e' p q. p ∙ sym q;
-      bad-index = λ κs a r r' e e' p q. p ∙ sym q;
+      bad_index = λ κs a r r' e e' p q. p ∙ sym q;
       suspended = λ κs a r r' e e' p q. p ∙ sym q;
       more = λ κs a r r' e e' p q. p ∙ sym q;
       identifier = λ κs a r r' e e' p q. p ∙ sym q;
@@ -42,7 +42,7 @@ report-reader =
       refusal-at = λ κs a r r' e e' p q. p ∙ sym q;
       address = λ κs a r r' e e' p q. p ∙ sym q;
       length = λ κs a r r' e e' p q. p ∙ sym q;
-      run-address = λ κs a r r' e e' p q. p ∙ sym q;
+      run_address = λ κs a r r' e e' p q. p ∙ sym q;
       run_length = λ κs a r r' e e' p q. p ∙ sym q;
     }
 

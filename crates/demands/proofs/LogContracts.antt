@@ -15,12 +15,12 @@ asks =
       batch-of = λ κs a. tt;
       receive = λ κs a. tt;
       totals = λ κs a. tt;
-      plain-fresh = λ κs a. tt;
-      plain-stop = λ κs a. tt;
-      plain-write = λ κs a. tt;
-      plain-batch-of = λ κs a. tt;
-      plain-receive = λ κs a. tt;
-      plain-totals = λ κs a. tt;
+      plain_fresh = λ κs a. tt;
+      plain_stop = λ κs a. tt;
+      plain_write = λ κs a. tt;
+      plain_batch_of = λ κs a. tt;
+      plain_receive = λ κs a. tt;
+      plain_totals = λ κs a. tt;
     }
 
 calls : LogAre
@@ -32,12 +32,12 @@ calls =
       batch-of = λ κs a r e p. p;
       receive = λ κs a r e p. p;
       totals = λ κs a r e p. p;
-      plain-fresh = λ κs a r e p. p;
-      plain-stop = λ κs a r e p. p;
-      plain-write = λ κs a r e p. p;
-      plain-batch-of = λ κs a r e p. p;
-      plain-receive = λ κs a r e p. p;
-      plain-totals = λ κs a r e p. p;
+      plain_fresh = λ κs a r e p. p;
+      plain_stop = λ κs a r e p. p;
+      plain_write = λ κs a r e p. p;
+      plain_batch_of = λ κs a r e p. p;
+      plain_receive = λ κs a r e p. p;
+      plain_totals = λ κs a r e p. p;
     }
 
 lent : LogLent
@@ -49,12 +49,12 @@ lent =
       batch-of = refl;
       receive = refl;
       totals = refl;
-      plain-fresh = refl;
-      plain-stop = refl;
-      plain-write = refl;
-      plain-batch-of = refl;
-      plain-receive = refl;
-      plain-totals = refl;
+      plain_fresh = refl;
+      plain_stop = refl;
+      plain_write = refl;
+      plain_batch_of = refl;
+      plain_receive = refl;
+      plain_totals = refl;
     }
 
 same-change : (r r' : LoggedChange) → r.answer ≡ r'.answer → r.log ≡ r'.log → r ≡ r'
@@ -78,12 +78,12 @@ determinate =
       batch-of = λ κs a r r' e e' p q. (same-batch r r' (p.0 ∙ sym q.0) (p.2 ∙ sym q.2), p.1 ∙ sym q.1);
       receive = λ κs a r r' e e' p q. (same-report r r' (p.0 ∙ sym q.0) (p.3 ∙ sym q.3), p.1 ∙ sym q.1, p.2 ∙ sym q.2);
       totals = λ κs a r r' e e' p q. p ∙ sym q;
-      plain-fresh = λ κs a r r' e e' p q. (same-change r r' (p.0 ∙ sym q.0) (p.2 ∙ sym q.2), p.1 ∙ sym q.1);
-      plain-stop = λ κs a r r' e e' p q. (same-change r r' (p.0 ∙ sym q.0) (p.2 ∙ sym q.2), p.1 ∙ sym q.1);
-      plain-write = λ κs a r r' e e' p q. (same_write r r' (p.0 ∙ sym q.0) (p.2 ∙ sym q.2), p.1 ∙ sym q.1);
-      plain-batch-of = λ κs a r r' e e' p q. (same-batch r r' (p.0 ∙ sym q.0) (p.2 ∙ sym q.2), p.1 ∙ sym q.1);
-      plain-receive = λ κs a r r' e e' p q. (same-report r r' (p.0 ∙ sym q.0) (p.3 ∙ sym q.3), p.1 ∙ sym q.1, p.2 ∙ sym q.2);
-      plain-totals = λ κs a r r' e e' p q. p ∙ sym q;
+      plain_fresh = λ κs a r r' e e' p q. (same-change r r' (p.0 ∙ sym q.0) (p.2 ∙ sym q.2), p.1 ∙ sym q.1);
+      plain_stop = λ κs a r r' e e' p q. (same-change r r' (p.0 ∙ sym q.0) (p.2 ∙ sym q.2), p.1 ∙ sym q.1);
+      plain_write = λ κs a r r' e e' p q. (same_write r r' (p.0 ∙ sym q.0) (p.2 ∙ sym q.2), p.1 ∙ sym q.1);
+      plain_batch_of = λ κs a r r' e e' p q. (same-batch r r' (p.0 ∙ sym q.0) (p.2 ∙ sym q.2), p.1 ∙ sym q.1);
+      plain_receive = λ κs a r r' e e' p q. (same-report r r' (p.0 ∙ sym q.0) (p.3 ∙ sym q.3), p.1 ∙ sym q.1, p.2 ∙ sym q.2);
+      plain_totals = λ κs a r r' e e' p q. p ∙ sym q;
     }
 
 functions : LogFunctions

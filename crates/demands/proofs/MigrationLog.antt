@@ -30,14 +30,14 @@ use Rattle.log_numbers.specs.declared.Sums.{Sums}
 use Rattle.log_numbers.specs.Sums.{no_sums}
 use Rattle.log_numbers.proofs.LogLaws.{shown, shown-showing}
 use Rattle.log_numbers.proofs.SumLaws.{is_known, marked_in, reported_in, dropped_in, sum_over, sums_over, summed-none, summed-snoc}
-use Rattle.record.specs.Record.{sound_with, place_at, where_is}
+use Rattle.record.specs.Record.{sound_with, placed_is, where_is}
 use Rattle.calls.specs.declared.WriteRecord.{WriteRecord}
 use Rattle.calls.specs.declared.Batched.{Batched}
 use Rattle.calls.specs.Calls.{Engine, in_words, Change, fresh_by, write_by, batch_by}
 use Rattle.booking.specs.declared.Reading.{Reading}
 use Rattle.booking.specs.Booking.{begun_by, fresh_log, batch_log, units_held, reading_at}
 use Rattle.booking.proofs.BookLaws.{begun-refused, begun-done}
-use Rattle.plain.specs.Bytes.{words_for, in_bytes}
+use Rattle.plain.specs.Bytes.{words_for, plain_bytes}
 use Rattle.demands.specs.View.{run}
 use Rattle.demands.specs.Sessions.{Left, Given, Sized, Step, one, batch, begun, outcome, left_after, answers_to, stepped, left_by, calls_of, expand, end_of, end_by, calls_in, history_in}
 use Rattle.demands.specs.Demand2.{pending_of, Equals}
@@ -172,7 +172,7 @@ module _ (en : Engine) (keeps : (d : _) (ws : List ℕ) (id : ℕ) (w : _) → e
           abbrev h : List Did
           h = history_in en s m (calls_in en s m xs) a
 
-          placed_is : (p : Option ℕ) → place_of s a ≡ p → where_is end.device (en.words end.marks) a ≡ place_at p
+          placed_is : (p : Option ℕ) → place_of s a ≡ p → where_is end.device (en.words end.marks) a ≡ placed_is p
           unfolding where_is
           placed_is p e = rw (end-sound, end-place a, e)
 
@@ -217,14 +217,14 @@ module _ (en : Engine) (keeps : (d : _) (ws : List ℕ) (id : ℕ) (w : _) → e
             rules = λ i e. read_is g xs a i e ∙ ap (λ (y : List Did). record { number = 0; totals = showing (shown_by y) }) (rules s a m (ks g xs) sized).answers;
             place = λ i e. (is-told g xs).told a i e ∙ ap (λ (q : Reading). q.totals) (sym (read_is g xs a i e));
             nobody = read-nobody g xs a;
-            from-then-on = λ ys r. stays g xs ys a r;
+            from_then_on = λ ys r. stays g xs ys a r;
           }
 
   -- ---- refused batches
 
-  refused-batch : (l : Left) (g : Log) (rs : List WriteRecord) → (batch_by en l.device l.marks rs).answer.number ≢ 0 → batch_log en g l.device l.marks rs ≡ g
+  refused_batch : (l : Left) (g : Log) (rs : List WriteRecord) → (batch_by en l.device l.marks rs).answer.number ≢ 0 → batch_log en g l.device l.marks rs ≡ g
   unfolding batch_log
-  refused-batch l g rs n = rw (ne_eqb _ 0 (λ e. n ((groups.notes l rs).answers.first ∙ e)))
+  refused_batch l g rs n = rw (ne_eqb _ 0 (λ e. n ((groups.notes l rs).answers.first ∙ e)))
 
   -- ---- a refused fresh
 
@@ -235,7 +235,7 @@ module _ (en : Engine) (keeps : (d : _) (ws : List ℕ) (id : ℕ) (w : _) → e
     where
       idle : (x : Step) → logged_by en (shut m) g x ≡ g
       idle (one k) = refused_none en (shut m) g k (λ z. absurd (omega (arith, z, ap number_of (closed-answer en m k).0)))
-      idle (batch rs) = refused-batch (shut m) g rs (λ z. absurd (omega (arith, z, ap (λ (c : Change Batched). c.answer.number) (closed-batch en m rs))))
+      idle (batch rs) = refused_batch (shut m) g rs (λ z. absurd (omega (arith, z, ap (λ (c : Change Batched). c.answer.number) (closed-batch en m rs))))
 
   is-closed : (s : Settings) (m : Given) (g : Log) (xs : List Step) → (fresh_by en s m.marks).answer.number ≢ 0 → log_in en s m g xs ≡ g
   is-closed s m g xs e =
@@ -260,7 +260,7 @@ module _ (en : Engine) (keeps : (d : _) (ws : List ℕ) (id : ℕ) (w : _) → e
         unsound = unsound-read;
         closed = is-closed;
         refused = λ l g k n. refused_none en l g k n;
-        refused-batch = refused-batch;
+        refused_batch = refused_batch;
         apart = λ s a i m m' g g' xs xs' sized sized' same made made' at e f f'.
             let w = groups.together s a m m' xs xs' sized sized' same e f f' in
             read_is s m sized made g xs a i at ∙ ap (λ (y : List Did). record { number = 0; totals = showing (shown_by y) }) w.answers ∙ sym (read_is s m' sized' made' g' xs' a i at);
@@ -269,9 +269,9 @@ module _ (en : Engine) (keeps : (d : _) (ws : List ℕ) (id : ℕ) (w : _) → e
 in-words-log : MigrationLog in_words
 in-words-log = log-of in_words words-kept batches demand-3 (λ s m ks sized made a. in_words_lem.place-of s m ks sized made a) (λ s m ks sized made. in_words_lem.sure s m ks sized made) demand-2.rules
 
-in-bytes-log : MigrationLog in_bytes
+in-bytes-log : MigrationLog plain_bytes
 in-bytes-log =
-    log-of in_bytes (λ d bs id w. ap words_for (write_bytes d bs id w)) plain-demands.batches plain-demands.apart (λ s m ks sized made a. plain_bytes.place-of s m ks sized made a) (λ s m ks sized made. plain_bytes.sure s m ks sized made)
+    log-of plain_bytes (λ d bs id w. ap words_for (write_bytes d bs id w)) plain-demands.batches plain-demands.apart (λ s m ks sized made a. plain_bytes.place-of s m ks sized made a) (λ s m ks sized made. plain_bytes.sure s m ks sized made)
     plain-demands.rules
 
 pub migration-logs : MigrationLogs

@@ -252,8 +252,8 @@ module _ (d : Device) (ws area : List ℕ) (qs : ℕ → List ℕ) (fits : Fits 
       told : whole ≡ whole_by h p
       told = whole-told passed.follow
 
-      area-is : (part_change d (length ws) area b a p).area ≡ put area (offset_of p) p.bytes
-      area-is = ap (λ (x : Arrival). x.area) (is-done e).0 ∙ go (is_last p)
+      area_is : (part_change d (length ws) area b a p).area ≡ put area (offset_of p) p.bytes
+      area_is = ap (λ (x : Arrival). x.area) (is-done e).0 ∙ go (is_last p)
         where
           go : (b : Bool) → (cond b (arrival 0 (length whole) (with_sequence d Nothing) (put area (offset_of p) p.bytes)) (arrival 0 0 (with_sequence d (Open a (length whole))) (put area (offset_of p) p.bytes))).area
               ≡ put area (offset_of p) p.bytes
@@ -261,7 +261,7 @@ module _ (d : Device) (ws area : List ℕ) (qs : ℕ → List ℕ) (fits : Fits 
           go false = refl
 
       own : (part_change d (length ws) area b a p).area ≡ (take (begins_at p) area ++ p.bytes) ++ drop (begins_at p + length p.bytes) area
-      own = area-is ∙ put_is area (offset_of p) p.bytes (inside (fitting passed))
+      own = area_is ∙ put_is area (offset_of p) p.bytes (inside (fitting passed))
 
       goes_on : IsMore p → (part_change d (length ws) area b a p).answer ≡ record { number = 0; whole = 0; device = with_sequence d (Open a (length (whole_by h p))) }
       goes_on m = ap (λ (x : Arrival). x.answer) (is-done e).0 ∙ rw (more-last p m) (ap (λ x. record { number = 0; whole = 0; device = with_sequence d (Open a (length x)) }) told)
@@ -271,7 +271,7 @@ module _ (d : Device) (ws area : List ℕ) (qs : ℕ → List ℕ) (fits : Fits 
           × (take (length (whole_by h p)) (part_change d (length ws) area b a p).area ≡ whole_by h p)
       yields f = (
         ap (λ (x : Arrival). x.answer) (is-done e).0 ∙ rw (final-last p f) (ap (λ x. record { number = 0; whole = length x; device = with_sequence d Nothing }) told),
-        ap (take (length (whole_by h p))) area-is
+        ap (take (length (whole_by h p))) area_is
             ∙ subst (λ x. take (length x) (put area (offset_of p) p.bytes) ≡ x) told
             (joined-stored area a p fits.bytes d.sequence (sequence-within d sure) passed.follow (dwords (fitting passed)).1
             (leb-true (length whole) state_most (and_left (leb (length whole) state_most) _ passed.within))),
@@ -288,7 +288,7 @@ module _ (d : Device) (ws area : List ℕ) (qs : ℕ → List ℕ) (fits : Fits 
   pub arrives : Arrives (record { device = d; marks = ws; area = area; queues = qs }) h a
   arrives =
       record {
-        under-way = (open_told, open_said);
+        under_way = (open_told, open_said);
         bytes = bytes-told;
         accepted = λ b p. ((λ e. asked b p e), (λ f. may b p f.3 f.0 f.1 f.2));
         own = λ b p e. own b p e;

@@ -43,9 +43,9 @@ use Rattle.demands.specs.Plain.{lending, holding, Beside, SameAnswers}
 use Rattle.demands.specs.Plain as plain
 use Rattle.demands.proofs.ViewLaws.{place_of-used}
 use Rattle.demands.proofs.StepLaws.{not_on, order-numbers}
-use Rattle.demands.proofs.ByteLaws.{fresh-zeros, fresh-bytes, stop-each, write-each, write_bytes, receive-each, receive-bytes}
+use Rattle.demands.proofs.ByteLaws.{fresh-zeros, fresh_bytes, stop-each, write-each, write_bytes, receive-each, receive-bytes}
 use Rattle.demands.proofs.Pool.{moved-byte}
-use Rattle.demands.proofs.Demand1.{mark-calls}
+use Rattle.demands.proofs.Demand1.{mark_calls}
 use Rattle.demands.proofs.Batches.{batches-of}
 use Rattle.demands.proofs.AlikeLaws.{Alike}
 use Rattle.demands.proofs.Twins.{Twins, twins}
@@ -248,7 +248,7 @@ pub plain-demands : plain.Plain
 plain-demands =
     record {
       area = λ bs. (λ e. area-whole (length bs) e, λ e. sym (words_right (length bs) e));
-      mark-calls = mark-calls in_bytes;
+      mark_calls = mark_calls in_bytes;
       rules = is-rules;
       steps = is-step;
       told = λ s m ks sized done a. is-told s m ks sized done a;
@@ -263,8 +263,8 @@ plain-demands =
             received = λ d bs b id x i. receive-each d bs id b x i;
             stopped = λ d bs b id i. stop-each d bs id b i;
             moved = is-moved;
-            fresh-bytes = fresh-bytes;
-            written-bytes = write_bytes;
-            received-bytes = λ d bs b id x. receive-bytes d bs id b x;
+            fresh_bytes = fresh_bytes;
+            written_bytes = write_bytes;
+            received_bytes = λ d bs b id x. receive-bytes d bs id b x;
           };
     }

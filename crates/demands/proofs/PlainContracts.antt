@@ -16,7 +16,7 @@ asks =
       set-state = λ κs a. tt;
       make-queue = λ κs a. tt;
       post = λ κs a. tt;
-      take-queue = λ κs a. tt;
+      take_queue = λ κs a. tt;
     }
 
 calls : PlainAre
@@ -33,7 +33,7 @@ calls =
       set-state = λ κs a r e p. p;
       make-queue = λ κs a r e p. p;
       post = λ κs a r e p. p;
-      take-queue = λ κs a r e p. p;
+      take_queue = λ κs a r e p. p;
     }
 
 batch : PlainBatchIs
@@ -54,7 +54,7 @@ lent =
       set-state = refl;
       make-queue = refl;
       post = refl;
-      take-queue = refl;
+      take_queue = refl;
     }
 
 determinate : PlainDeterminate
@@ -72,7 +72,7 @@ determinate =
       set-state = λ κs a r r' e e' p q. (p.0 ∙ sym q.0, p.1 ∙ sym q.1);
       make-queue = λ κs a r r' e e' p q. p ∙ sym q;
       post = λ κs a r r' e e' p q. (p.0 ∙ sym q.0, p.1 ∙ sym q.1);
-      take-queue = λ κs a r r' e e' p q. (p.0 ∙ sym q.0, p.1 ∙ sym q.1);
+      take_queue = λ κs a r r' e e' p q. (p.0 ∙ sym q.0, p.1 ∙ sym q.1);
     }
 
 pub plain-contracts : PlainContracts

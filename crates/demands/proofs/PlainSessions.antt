@@ -39,7 +39,7 @@ use Rattle.plain.specs.Bytes.{in_bytes}
 use Rattle.plain.proofs.AreaLaws.{area-whole}
 use Rattle.demands.specs.View.{marks_of, slot_of, slots_from, front_at, view, Outcome}
 use Rattle.demands.specs.Sessions.{Left, Given, Sized, Step, one, batch, begun, outcome, next, left_after, answers_to, bytes_to, stepped, left_by, calls_of, end_of}
-use Rattle.demands.specs.Plain.{Said, to-call, to-batch, said_of, lent_of, said_by, lent_by, lending, holding}
+use Rattle.demands.specs.Plain.{Said, to_call, to_batch, said_of, lent_of, said_by, lent_by, lending, holding}
 use Rattle.demands.specs.Plain as plain
 use Rattle.demands.proofs.AlikeLaws.{Alike, map-replicate, same-marks}
 use Rattle.demands.proofs.ViewLaws.{Fits}
@@ -130,10 +130,10 @@ pub record OneStep (l : Left) (bs : List ℕ) (x : Step) : Type 0 where
 pub step_same : (x : Step) (l : Left) (bs : List ℕ) → Fits l.device l.marks l.area → Alike l.marks bs → OneStep l bs x
 step_same (one k) l bs f a =
     let t : Twins (outcome in_words l k) (outcome in_bytes (holding l bs) k) = twins l.device l.marks bs l.area f a l.queues k in
-    record { said = ap to-call t.answer; lent = t.bytes; end = (outcome in_bytes (holding l bs) k).marks; left = next-holding l bs k t; marks = t.marks }
+    record { said = ap to_call t.answer; lent = t.bytes; end = (outcome in_bytes (holding l bs) k).marks; left = next-holding l bs k t; marks = t.marks }
 step_same (batch rs) l bs f a =
     let p = batch-paired l.device l.area rs l.marks bs f a in
-    record { said = ap to-batch p.answer; lent = refl; end = (batch_by in_bytes l.device bs rs).marks; left = refl; marks = p.marks }
+    record { said = ap to_batch p.answer; lent = refl; end = (batch_by in_bytes l.device bs rs).marks; left = refl; marks = p.marks }
 
 step_fits : (x : Step) (l : Left) → Fits l.device l.marks l.area → Fits (stepped in_words l x).device (stepped in_words l x).marks (stepped in_words l x).area
 step_fits (one k) l f = (call_step l.device l.marks l.area l.queues f k).fits
@@ -177,8 +177,8 @@ fresh-same s ws bs e = fresh-is in_words s ws ∙ ap (fresh.answer_of s) e ∙ s
 
 -- what a closed device says to a step, and what it leaves of the bytes that were lent with it
 abbrev one-said : Step → Said
-one-said (one k) = to-call (refused 1 0)
-one-said (batch rs) = to-batch (record { number = 1; done = 0; count = 0; refusal = 0 })
+one-said (one k) = to_call (refused 1 0)
+one-said (batch rs) = to_batch (record { number = 1; done = 0; count = 0; refusal = 0 })
 
 abbrev one_lent : Step → List ℕ
 one_lent (one k) = lent k.op
@@ -213,8 +213,8 @@ module _ (en : Engine) (m : Given) where
   closed-step (batch rs) = ap (λ (c : Change Batched). record { device = closed_device; marks = c.marks; area = m.area; queues = m.queues }) (closed-batch rs)
 
   closed_said : (x : Step) → said_of en (shut m) x ≡ one-said x
-  closed_said (one k) = ap (λ (o : Outcome). to-call o.answer) (closed-outcome en m k)
-  closed_said (batch rs) = ap (λ (c : Change Batched). to-batch c.answer) (closed-batch rs)
+  closed_said (one k) = ap (λ (o : Outcome). to_call o.answer) (closed-outcome en m k)
+  closed_said (batch rs) = ap (λ (c : Change Batched). to_batch c.answer) (closed-batch rs)
 
   closed-lent : (x : Step) → lent_of en (shut m) x ≡ one_lent x
   closed-lent (one k) = ap (λ (o : Outcome). o.bytes) (closed-outcome en m k)

@@ -143,9 +143,9 @@ module _ (d : Device) (i : ℕ) (r : Ring) (area : List ℕ) (facts : RingFacts 
     unfolding fill_of total_after place_after entry_at part
     take-is =
         record {
-          most-asked = least-of.0;
-          most-queued = few;
-          most-fit = omega (arith, least-of.1);
+          most_asked = least-of.0;
+          most_queued = few;
+          most_fit = omega (arith, least-of.1);
           least = exact;
           entries = entry-is;
           rest = put-drop-after x 0 (joined es) (32 * m) (omega (arith, joined_length));
@@ -205,8 +205,8 @@ module _ (d : Device) (words a i : ℕ) (eight : length d.controllers ≡ 8) (pl
       (verdict-done (λ (p : Taking). p.answer.number) (queue_order seen (length area) (order.take asked x)) (take_done d area asked x (some i)) (λ n j. taking n 0 false d x) (λ n j. refl)
       (order-numbers d.settings seen (arriving_in d.sequence [] a) (order.queue (length area) (order.take asked x))) (rw place at z)).1.1.1.1.0
 
-  pub queue-calls : QueueCalls d words a i
-  queue-calls = record { makes = makes_so; posts = posts-so; takes = takes-so }
+  pub queue_calls : QueueCalls d words a i
+  queue_calls = record { makes = makes_so; posts = posts-so; takes = takes-so }
 
 -- ---- after a session
 
@@ -270,9 +270,9 @@ module _ (l : Left) (h : List Did) (a i : ℕ) (eight : length l.device.controll
       and_intro (eqb (32 * n % 32) 0) _ (eq-eqb (32 * n % 32) 0 (omega arith))
       (and_intro (leb 2 (32 * n / 32)) _ (le-leb 2 (32 * n / 32) (omega (arith, q))) (le-leb (32 * n / 32) 1024 (omega (arith, q))))
 
-  may-make : (n : ℕ) → 2 ≤ n → n ≤ 1024 → (make_change d words a (32 * n)).number ≡ 0
+  may_make : (n : ℕ) → 2 ≤ n → n ≤ 1024 → (make_change d words a (32 * n)).number ≡ 0
   unfolding make_change
-  may-make n h k =
+  may_make n h k =
       rw place (ap (λ (c : Changed). c.number)
       (verdict-passed (queue_order (seen_in d words (some i)) (32 * n) order.make) (make_done d (32 * n) (some i)) (λ m j. record { number = m; device = d })
       (sound, (refl, (places-are n h k, tt)))))
@@ -284,9 +284,9 @@ module _ (l : Left) (h : List Did) (a i : ℕ) (eight : length l.device.controll
       let k = sizes n e in
       rw (front_of-length (32 * n) (l.queues i), f.1, f.2) (and_intro (places_ok (32 * n)) _ (places-are n k.0 k.1) (eq-eqb (32 * n) (32 * n) refl), refl)
 
-  may-post : (n : ℕ) (e : List ℕ) → size_by h ≡ some n → stopped_by h ≡ false → length e ≡ 32 → (post_change d words (front_of (32 * n) (l.queues i)) a e).answer.number ≡ 0
+  may_post : (n : ℕ) (e : List ℕ) → size_by h ≡ some n → stopped_by h ≡ false → length e ≡ 32 → (post_change d words (front_of (32 * n) (l.queues i)) a e).answer.number ≡ 0
   unfolding post_change
-  may-post n e made running long =
+  may_post n e made running long =
       let area = front_of (32 * n) (l.queues i) in
       let f = found n made in
       let p = size-passes n made in
@@ -295,9 +295,9 @@ module _ (l : Left) (h : List Did) (a i : ℕ) (eight : length l.device.controll
       (verdict-passed (queue_order (seen_in d words (some i)) (length area) (order.post e)) (post_done d area e (some i)) (λ m j. posting m false d area)
       (sound, (refl, (p.0, (p.1, (eq-eqb (length e) 32 long, (not-intro (has_stopped own) going, tt))))))) ∙ post-zero d area e (some i))
 
-  may-take : (n asked : ℕ) (x : List ℕ) → size_by h ≡ some n → (take_change d words (front_of (32 * n) (l.queues i)) a asked x).answer.number ≡ 0
+  may_take : (n asked : ℕ) (x : List ℕ) → size_by h ≡ some n → (take_change d words (front_of (32 * n) (l.queues i)) a asked x).answer.number ≡ 0
   unfolding take_change
-  may-take n asked x made =
+  may_take n asked x made =
       let area = front_of (32 * n) (l.queues i) in
       let p = size-passes n made in
       rw place (ap (λ (r : Taking). r.answer.number)
@@ -328,8 +328,8 @@ module _ (l : Left) (h : List Did) (a i : ℕ) (eight : length l.device.controll
       record {
         is = λ n e. let f = found n e in (f.0, f.1, is-logged f.0 f.1 n f.2);
         none = λ e r is. let y : none ≡ some r.size = sym e ∙ sym (known r is).size in let z : ◌≡◌ {A = ℕ} 0 1 = cc in absurd (omega arith);
-        may-make = may-make;
-        may-post = may-post;
-        may-take = may-take;
+        may_make = may_make;
+        may_post = may_post;
+        may_take = may_take;
         closing = closing-is;
       }

@@ -14,7 +14,7 @@ asks =
       read-v1 = λ κs a. tt;
       read-file = λ κs a. tt;
       write-file = λ κs a. tt;
-      v1-refusal = λ κs a. tt;
+      v1_refusal = λ κs a. tt;
       refusal = λ κs a. tt;
       version = λ κs a. tt;
       manager = λ κs a. tt;
@@ -36,7 +36,7 @@ files = record { read-v1 = λ κs a r e p. p; read-file = λ κs a r e p. p; wri
 updater : UpdaterIs
 updater =
     record {
-      v1-refusal = λ κs a r e p. p;
+      v1_refusal = λ κs a r e p. p;
       refusal = λ κs a r e p. p;
       version = λ κs a r e p. p;
       manager = λ κs a r e p. p;
@@ -58,7 +58,7 @@ lent =
       read-v1 = refl;
       read-file = refl;
       write-file = (refl, refl);
-      v1-refusal = refl;
+      v1_refusal = refl;
       refusal = refl;
       version = refl;
       manager = refl;
@@ -80,7 +80,7 @@ determinate =
       read-v1 = λ κs a r r' e e' p q. p ∙ sym q;
       read-file = λ κs a r r' e e' p q. p ∙ sym q;
       write-file = λ κs a r r' e e' p q. (p.0 ∙ sym q.0, p.1 ∙ sym q.1);
-      v1-refusal = λ κs a r r' e e' p q. p ∙ sym q;
+      v1_refusal = λ κs a r r' e e' p q. p ∙ sym q;
       refusal = λ κs a r r' e e' p q. p ∙ sym q;
       version = λ κs a r r' e e' p q. p ∙ sym q;
       manager = λ κs a r r' e e' p q. p ∙ sym q;

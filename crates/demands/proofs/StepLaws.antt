@@ -56,7 +56,7 @@ use Rattle.calls.proofs.PoolLaws.{take-set, shares_of-with, sizes_of-at, base-at
 use Rattle.pool.specs.Pool.{new_base, Packs}
 use Rattle.state_bytes.proofs.StateLaws.{state_ok-true}
 use Rattle.controller_state.proofs.ArrivalLaws.{joined-stored}
-use Rattle.calls.specs.Calls.{in_words, receive_by, start_by, stop_by, write_by, marks_at, with_marks, with_clear, bases_of, sizes_of, with_base, packed_from, packed_device, packed_words, Change, changed, started, started_with, start_done, start_change, stopped, stop_done, stop_change, flagged, flag_done, suspend_change, dropped, resume_done, resume_change, Note, noted, note_in, write_done, write_note, Receipt, received, receive_in, receive_done, receive_receipt, Arrival, arrival, part_done, part_at, part_change, queuing, with_queue, made_ring, make_done, make_change, fill_in, queued_in, ring_posted, ring_taken, Posting, posting, post_in, post_done, post_at, post_change, Taking, taking, take_in, take_done, take_at, take_change}
+use Rattle.calls.specs.Calls.{in_words, receive_by, start_by, stop_by, write_by, marks_at, with_marks, with_clear, bases_of, sizes_of, with_base, packed_from, packed_device, packed_words, Change, changed, started, started_with, start_done, start_change, stopped, stop_done, stop_change, flagged, flag_done, suspend_change, dropped, resume_done, resume_change, Note, noted, note_in, write_is, write_note, Receipt, received, receive_in, receive_done, receive_receipt, Arrival, arrival, part_done, part_at, part_change, queuing, with_queue, made_ring, make_done, make_change, fill_in, queued_in, ring_posted, ring_taken, Posting, posting, post_in, post_done, post_at, post_change, Taking, taking, take_in, take_is, take_at, take_change}
 use Rattle.calls.specs.declared.Changed.{Changed}
 use Rattle.calls.specs.declared.Started.{Started}
 use Rattle.demands.specs.View.{marks_of, queue_of, manager_in, slot_of, front_at, stray_in, amiss_in, view, Outcome, answered, starts, stops, flags, notes, receipts, arrives, lent_at, handed_on, posts, takes, run_as, run}
@@ -524,7 +524,7 @@ module _ (d : Device) (ws area : List ℕ) (qs : ℕ → List ℕ) (fits : Fits 
         → length (marks_at ws c.base (length (units g (take n c.ranges)))) ≡ length (units g (take n c.ranges))
     marks-sized g n e = get_share-length _ c.base (length (units g (take n c.ranges))) (omega (arith, within i g n used e, flat-length ws, fits.words))
 
-    write_is : (w : Write) → Does [] (notes d area qs (write_done in_words d ws w (some i))) (some i) (write w)
+    write_is : (w : Write) → Does [] (notes d area qs (write_is in_words d ws w (some i))) (some i) (write w)
     write_is w = rw own (go c.tracking refl)
       where
         go : (t : Tracking) → c.tracking ≡ t
@@ -729,7 +729,7 @@ module _ (d : Device) (ws area : List ℕ) (qs : ℕ → List ℕ) (fits : Fits 
           here : qs' i ≡ area' ++ drop (length area') (qs i)
           here = ap (λ b. cond b (area' ++ drop (length area') (qs i)) (qs i)) (eq-eqb i i refl)
 
-      take_is : (asked : ℕ) (x : List ℕ) → Does x (takes ws area qs (take_done d lends asked x (some i))) (some i) (queue bytes (order.take asked x))
+      take_is : (asked : ℕ) (x : List ℕ) → Does x (takes ws area qs (take_is d lends asked x (some i))) (some i) (queue bytes (order.take asked x))
       take_is asked x =
           rw own (subst (λ (q : Queue). G q (queue_of (qs i) c.queue)) (sym is) (subst (λ (z : Option Queued). G (made.Is r) z) (sym slot-queue) (record {
             answer = ap₂ taken (taken-entries r lends facts counted small whole asked x) (taken-closing r lends facts counted small whole asked x);
@@ -826,9 +826,9 @@ module _ (d : Device) (ws area : List ℕ) (qs : ℕ → List ℕ) (fits : Fits 
   take-call bytes asked x =
       let p = place_of d.settings id in
       let x' = lent_at qs p bytes in
-      subst (λ (n : ℕ). Like id x (takes ws area qs (verdict (queue_order (seen_in d (length ws) p) n (order.take asked x)) (take_done d x' asked x p) (λ n i. taking n 0 false d x))) (step_at st p (queue bytes (order.take asked x))).0 (step_at st p (queue bytes (order.take asked x))).1)
+      subst (λ (n : ℕ). Like id x (takes ws area qs (verdict (queue_order (seen_in d (length ws) p) n (order.take asked x)) (take_is d x' asked x p) (λ n i. taking n 0 false d x))) (step_at st p (queue bytes (order.take asked x))).0 (step_at st p (queue bytes (order.take asked x))).1)
       (sym (lent_length bytes))
-      (at_place (queue bytes (order.take asked x)) Taking x (takes ws area qs) (take_done d x' asked x) (λ n i. taking n 0 false d x) (λ v a. (refl, (refl, (refl, (refl, tt)))))
+      (at_place (queue bytes (order.take asked x)) Taking x (takes ws area qs) (take_is d x' asked x) (λ n i. taking n 0 false d x) (λ v a. (refl, (refl, (refl, (refl, tt)))))
       (λ i e s q.
       let made = is_made (controller_at d (some i)).queue q.1.1.1.0 in
       rw e (take_is i e s bytes made.0 made.1 q.1.1.0 asked x)))
@@ -842,7 +842,7 @@ module _ (d : Device) (ws area : List ℕ) (qs : ℕ → List ℕ) (fits : Fits 
       at_place (stop b) (Change Changed) [] (stops area qs) (stop_done in_words d ws) (λ n i. changed n d ws) (λ v a. (refl, (refl, (refl, (refl, (refl, tt))))))
       (λ i e s q. let o = is-on (controller_at d (some i)).tracking (controller_at d (some i)).manager b q.1.1.1.1.0 in stop-done i e s b o.0 o.1 o.2)
   every_call (write w) =
-      at_place (write w) Note [] (notes d area qs) (write_done in_words d ws w) (λ n i. noted n 0 ws) (λ v a. (refl, (refl, (refl, (refl, tt))))) (λ i e s q. write_is i e s w)
+      at_place (write w) Note [] (notes d area qs) (write_is in_words d ws w) (λ n i. noted n 0 ws) (λ v a. (refl, (refl, (refl, (refl, tt))))) (λ i e s q. write_is i e s w)
   every_call (receive b x) =
       at_place (receive b x) Receipt x (receipts d area qs) (receive_done in_words d ws id x) (λ n i. received n no_report ws x) (λ v a. (refl, (refl, (refl, (refl, (refl, tt))))))
       (λ i e s q. receive-done i e s b x q.1.1.1.0)

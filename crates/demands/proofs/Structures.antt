@@ -40,12 +40,12 @@ read-passed x g n =
     (λ p e. let c : count_of x ≡ n = cc in (rw c at (leb-true (count_of x) 16 p.1.1.0), rw c at (leb-true (start_size (count_of x)) (length x) p.1.1.1.0)))
 
 module _ (buffer : List ℕ) (g n : ℕ) (ranges : List Range) (sixteen : length ranges ≡ 16) where
-  read-written : refusal (write_tests (length buffer) n) ≡ 0 → g < 256 → ((i : ℕ) → i < n → Fits (get_or ranges i no_range))
+  read_written : refusal (write_tests (length buffer) n) ≡ 0 → g < 256 → ((i : ℕ) → i < n → Fits (get_or ranges i no_range))
       → start_data (start_written buffer g n (take n ranges)) ≡ record { header = Is g n; ranges = placed (take n ranges) }
-  read-written e small fit =
+  read_written e small fit =
       let p = write-passed (length buffer) n e in
       let few : length (take n ranges) ≡ n = length-take-le n ranges (omega (arith, p.0)) in
-      rw few at ((rules.without-loss).read-written buffer g (take n ranges) small
+      rw few at ((rules.without-loss).read_written buffer g (take n ranges) small
       (λ i h. rw (get_or-take n ranges i no_range (omega (arith, h, few))) (fit i (omega (arith, h, few)))) (omega (arith, few, p.0)) (rw few p.1))
 
   rest : drop (start_size n) (start_written buffer g n (take n ranges)) ≡ drop (start_size n) buffer
@@ -70,8 +70,8 @@ written_read x buffer g n r ranges e is listed bytes zero zero' long =
 pub without-loss : WithoutLoss
 without-loss =
     record {
-      read-written = λ κs a number e w κs' a' r e' q done same small sixteen fit.
-          q.is ∙ ap start_data (same ∙ w.1) ∙ read-written _ _ _ _ sixteen (sym w.0 ∙ done) small fit;
+      read_written = λ κs a number e w κs' a' r e' q done same small sixteen fit.
+          q.is ∙ ap start_data (same ∙ w.1) ∙ read_written _ _ _ _ sixteen (sym w.0 ∙ done) small fit;
       written_read = λ κs a r e q κs' a' number e' w is same bytes zero zero' long.
           let z = written_read _ _ _ _ r _ q.is is same bytes zero zero' long in
           (w.0 ∙ z.0, rw w.1 z.1);

@@ -15,7 +15,7 @@ use Rattle.rules.specs.Lists.{all, any, sum, is_some}
 use Rattle.rules.specs.Settings.{mark_words, place_of}
 use Rattle.rules.specs.ControllerState.{state_most}
 use Rattle.rules.specs.Device.{held_count, counts_by, held_units, held_in, held_of, front_ok, fresh_controller, controllers_of, suspended_at, sequence_ok, shares_of, shares_ok, queues_ok, sound, sound_device}
-use Rattle.rules.specs.Machine.{Slot, fresh_slot, tracker_on, held_on, held_by, is_open, open_ok, places_in, stopped_in, slot_at, with_slot, sound_state, managed_in, counts_in, units_in, seen_at, arriving_at}
+use Rattle.rules.specs.Machine.{Slot, fresh_slot, tracker_on, held_on, held_is, is_open, open_ok, places_in, stopped_in, slot_at, with_slot, sound_state, managed_in, counts_in, units_in, seen_at, arriving_at}
 use Rattle.rules.specs.declared.Range.{Range}
 use Rattle.rules.specs.declared.Tracking.{Tracking}
 use Rattle.rules.specs.declared.Tracking.TheVariants.{Off, On}
@@ -72,14 +72,14 @@ module _ (ws : List ℕ) (f : ℕ → Option (List ℕ)) (qs : ℕ → List ℕ)
   slots-front cs n i h l = slots_at cs 0 n i h l ∙ ap (λ z. slot_of in_words ws (get_or cs i no_controller) (f z) (qs z)) (omega arith)
 
   -- a slot holds what its controller holds
-  held_is : (c : Controller) (k : ℕ) → Listed c → held_by (slot_of in_words ws c (f k) (qs k)) ≡ held_of c
+  held_is : (c : Controller) (k : ℕ) → Listed c → held_is (slot_of in_words ws c (f k) (qs k)) ≡ held_of c
   held_is c k h = go c.tracking refl
     where
       go : (t : Tracking) → c.tracking ≡ t → held_on (manager_in t c.manager) (marks_of in_words ws c.base t c.ranges) ≡ held_in t c.manager c.ranges
       go Off e = refl
       go (On g n) e = ap (λ m. some (record { manager = c.manager; granularity = g; count = m; ranges = take n c.ranges })) (length-take-le n c.ranges (h g n e))
 
-  pub slots-held : (cs : List Controller) (k : ℕ) → All Listed cs → map held_by (slots_from in_words ws f qs k cs) ≡ map held_of cs
+  pub slots-held : (cs : List Controller) (k : ℕ) → All Listed cs → map held_is (slots_from in_words ws f qs k cs) ≡ map held_of cs
   slots-held [] k h = refl
   slots-held (c ∷ cs) k h = ap₂ (λ x xs. x ∷ xs) (held_is c k h.0) (slots-held cs (suc k) h.1)
 
@@ -130,7 +130,7 @@ pub place_of-there : (d : Device) (id i : ℕ) → length d.settings.identifiers
 place_of-there d id i h e = omega (arith, h, (place_of-is d.settings id i e).0, length-take d.settings.count d.settings.identifiers)
 
 module _ (d : Device) (ws area : List ℕ) (qs : ℕ → List ℕ) (fits : Fits d ws area) where
-  held_same : map held_by (view in_words d ws area qs).slots ≡ map held_of (controllers_of d)
+  held_same : map held_is (view in_words d ws area qs).slots ≡ map held_of (controllers_of d)
   held_same = slots-held ws (front_at d.settings d.sequence area) qs (controllers_of d) 0 (All-take Listed d.settings.count d.controllers fits.listed)
 
   -- the owner's place says whether its sequence is as it may be

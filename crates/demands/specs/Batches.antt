@@ -77,7 +77,7 @@ pub record ByNote (en : Engine) (l : Left) : Type 0 where
 
 pub record Batches (en : Engine) : Type 1 where
   pub notes : (l : Left) (rs : List WriteRecord) → IsNotes en l rs
-  pub by-note : (l : Left) → ByNote en l
+  pub by_note : (l : Left) → ByNote en l
   -- a session with batches leaves what the session of its calls leaves; one with none is its calls
   pub session : (s : Settings) (m : Given) (xs : List Step) → end_by en s m xs ≡ end_of en s m (calls_in en s m xs)
   pub calls : (s : Settings) (m : Given) (ks : List Call) → calls_in en s m (map one ks) ≡ ks

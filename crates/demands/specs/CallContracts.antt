@@ -52,7 +52,7 @@ use Rattle.controller_state.proofs.set_state.Reads as set-state
 use Rattle.controller_state.proofs.set_state.Kinds as set-state-kinds
 use Rattle.queue.proofs.make_queue.Reads as make-queue
 use Rattle.queue.proofs.post.Reads as post
-use Rattle.queue.proofs.take.Reads as take-queue
+use Rattle.queue.proofs.take.Reads as take_queue
 use Rattle.queue.proofs.take.Kinds as take-kinds
 use Rattle.queue.proofs.make_queue.Kinds as make-kinds
 use Rattle.queue.proofs.post.Kinds as post-kinds
@@ -61,7 +61,7 @@ use Rattle.start_data.proofs.read_start.Reads as read-start
 use Rattle.start_data.proofs.write_start.Reads as write-start
 use Rattle.start_data.proofs.read_ranges.Reads as read-ranges
 use Rattle.report_reader.proofs.tmc_report_refusal.Reads as refusal-of
-use Rattle.report_reader.proofs.tmc_report_bad_index.Reads as bad-index
+use Rattle.report_reader.proofs.tmc_report_bad_index.Reads as bad_index
 use Rattle.report_reader.proofs.tmc_report_suspended.Reads as suspended
 use Rattle.report_reader.proofs.tmc_report_more.Reads as more
 use Rattle.report_reader.proofs.tmc_report_identifier.Reads as identifier
@@ -70,7 +70,7 @@ use Rattle.report_reader.proofs.tmc_report_count.Reads as count
 use Rattle.report_reader.proofs.tmc_report_refusal_at.Reads as refusal-at
 use Rattle.report_reader.proofs.tmc_report_address.Reads as address
 use Rattle.report_reader.proofs.tmc_report_length.Reads as length-of
-use Rattle.report_reader.proofs.tmc_report_run_address.Reads as run-address
+use Rattle.report_reader.proofs.tmc_report_run_address.Reads as run_address
 use Rattle.report_reader.proofs.tmc_report_run_length.Reads as run_length
 use Rattle.listing.proofs.read_line.Reads as read-line
 
@@ -87,13 +87,13 @@ pub record AsksNothing : Type 1 where
   pub set-state : (κs : _) (a : _) → set-state.Pre κs a
   pub make-queue : (κs : _) (a : _) → make-queue.Pre κs a
   pub post : (κs : _) (a : _) → post.Pre κs a
-  pub take-queue : (κs : _) (a : _) → take-queue.Pre κs a
+  pub take_queue : (κs : _) (a : _) → take_queue.Pre κs a
   pub read-header : (κs : _) (a : _) → read-header.Pre κs a
   pub read-ranges : (κs : _) (a : _) → read-ranges.Pre κs a
   pub read-start : (κs : _) (a : _) → read-start.Pre κs a
   pub write-start : (κs : _) (a : _) → write-start.Pre κs a
   pub refusal : (κs : _) (a : _) → refusal-of.Pre κs a
-  pub bad-index : (κs : _) (a : _) → bad-index.Pre κs a
+  pub bad_index : (κs : _) (a : _) → bad_index.Pre κs a
   pub suspended : (κs : _) (a : _) → suspended.Pre κs a
   pub more : (κs : _) (a : _) → more.Pre κs a
   pub identifier : (κs : _) (a : _) → identifier.Pre κs a
@@ -102,7 +102,7 @@ pub record AsksNothing : Type 1 where
   pub refusal-at : (κs : _) (a : _) → refusal-at.Pre κs a
   pub address : (κs : _) (a : _) → address.Pre κs a
   pub length : (κs : _) (a : _) → length-of.Pre κs a
-  pub run-address : (κs : _) (a : _) → run-address.Pre κs a
+  pub run_address : (κs : _) (a : _) → run_address.Pre κs a
   pub run_length : (κs : _) (a : _) → run_length.Pre κs a
   pub read-line : (κs : _) (a : _) → read-line.Pre κs a
 
@@ -141,7 +141,7 @@ pub record CallsAre : Type 1 where
   pub post : (κs : _) (a : _) (r : _) (e : _) → post.Post κs a r e
       → let c = post_change a.0 (length a.1.0.now) a.1.1.0.now a.1.1.1.0 a.1.1.1.1.0.now in
       (r ≡ c.answer) × (e.1.1.0.now ≡ c.area)
-  pub take-queue : (κs : _) (a : _) (r : _) (e : _) → take-queue.Post κs a r e
+  pub take_queue : (κs : _) (a : _) (r : _) (e : _) → take_queue.Post κs a r e
       → let c = take_change a.0 (length a.1.0.now) a.1.1.0.now a.1.1.1.0 a.1.1.1.1.0 a.1.1.1.1.1.0.now in
       (r ≡ c.answer) × (e.1.1.1.1.1.0.now ≡ c.buffer)
 
@@ -182,7 +182,7 @@ pub record Lent : Type 3 where
       ≡ p_shr_s (rt_f (f_int w64)) 0 tt ∷ p_mut_s (rt_f (f_int w8)) 1 tt ∷ p_num w16 ∷ p_num w16 ∷ p_num w8 ∷ p_num w32 ∷ p_num w32 ∷ p_num w32 ∷ p_shr_s (rt_f (f_int w8)) 2 tt ∷ []
   pub make-queue : drop 1 make-kinds.ps ≡ p_shr_s (rt_f (f_int w64)) 0 tt ∷ p_num w16 ∷ p_shr_s (rt_f (f_int w8)) 1 tt ∷ []
   pub post : drop 1 post-kinds.ps ≡ p_shr_s (rt_f (f_int w64)) 0 tt ∷ p_mut_s (rt_f (f_int w8)) 1 tt ∷ p_num w16 ∷ p_shr_s (rt_f (f_int w8)) 2 tt ∷ []
-  pub take-queue : drop 1 take-kinds.ps
+  pub take_queue : drop 1 take-kinds.ps
       ≡ p_shr_s (rt_f (f_int w64)) 0 tt ∷ p_shr_s (rt_f (f_int w8)) 1 tt ∷ p_num w16 ∷ p_num w32 ∷ p_mut_s (rt_f (f_int w8)) 2 tt ∷ []
 
 -- the start structure's readers and its writer
@@ -197,7 +197,7 @@ pub record StructuresAre : Type 1 where
 -- the report's reader
 pub record ReaderIs : Type 1 where
   pub refusal : (κs : _) (a : _) (r : _) (e : _) → refusal-of.Post κs a r e → r ≡ report_refusal a.0.now
-  pub bad-index : (κs : _) (a : _) (r : _) (e : _) → bad-index.Post κs a r e → r ≡ report_bad_index a.0.now
+  pub bad_index : (κs : _) (a : _) (r : _) (e : _) → bad_index.Post κs a r e → r ≡ report_bad_index a.0.now
   pub suspended : (κs : _) (a : _) (r : _) (e : _) → suspended.Post κs a r e → r ≡ report_suspended a.0.now
   pub more : (κs : _) (a : _) (r : _) (e : _) → more.Post κs a r e → r ≡ report_more a.0.now
   pub identifier : (κs : _) (a : _) (r : _) (e : _) → identifier.Post κs a r e → r ≡ report_identifier a.0.now
@@ -206,7 +206,7 @@ pub record ReaderIs : Type 1 where
   pub refusal-at : (κs : _) (a : _) (r : _) (e : _) → refusal-at.Post κs a r e → r ≡ report_refusal_at a.0.now a.1.0
   pub address : (κs : _) (a : _) (r : _) (e : _) → address.Post κs a r e → r ≡ report_address a.0.now a.1.0
   pub length : (κs : _) (a : _) (r : _) (e : _) → length-of.Post κs a r e → r ≡ report_length a.0.now a.1.0
-  pub run-address : (κs : _) (a : _) (r : _) (e : _) → run-address.Post κs a r e → r ≡ report_run_address a.0.now a.1.0
+  pub run_address : (κs : _) (a : _) (r : _) (e : _) → run_address.Post κs a r e → r ≡ report_run_address a.0.now a.1.0
   pub run_length : (κs : _) (a : _) (r : _) (e : _) → run_length.Post κs a r e → r ≡ report_run_length a.0.now a.1.0
 
 pub record Contracts : Type 3 where

@@ -68,7 +68,7 @@ pub record MarkCalls (en : Engine) : Type 0 where
       ≡ record { number = r.answer.number; suspended = r.report.suspended; more = r.report.more; granularity = r.report.granularity; runs = length r.report.descriptors; groups = r.report.groups }
 
 pub record Demand1 : Type 0 where
-  pub mark-calls : MarkCalls in_words
+  pub mark_calls : MarkCalls in_words
   -- 16, then 1 unless there are 256 words (W7), and for nothing else
   pub fresh-order : (s : Settings) (words : ℕ) → fresh_order s words ≡ (settings_ok s else 16) ∷ (eqb words 256 else 1) ∷ []
   -- W12: a manager is one that the settings name, and it has the limit that they give it
@@ -99,7 +99,7 @@ pub record Demand1 : Type 0 where
       Answers a.answer.number (part_order d.settings m (seen_in d words (place_of d.settings id)) (arriving_in d.sequence area id) p)
       ((a.answer.whole ≡ 0) × (a.answer.device ≡ d) × (a.area ≡ area))
   -- marks of 256 words and an area of 4,096 bytes, or 1, whatever else it is given
-  pub part-lent : (d : Device) (words : ℕ) (area : List ℕ) (m id : ℕ) (p : Part) → (words ≢ 256) ⊎ (length area ≢ 4096) → (part_change d words area m id p).answer.number ≡ 1
+  pub part_lent : (d : Device) (words : ℕ) (area : List ℕ) (m id : ℕ) (p : Part) → (words ≢ 256) ⊎ (length area ≢ 4096) → (part_change d words area m id p).answer.number ≡ 1
   -- its tests, in the order of document 02. (When a part is accepted, and so the last two of them, is said in plain numbers by `Fitting`.)
   pub part-order : (s : Settings) (m : ℕ) (v : Seen) (a : Arriving) (p : Part)
       → let offset = p.low + 2 ^ 32 * p.high in
@@ -114,11 +114,11 @@ pub record Demand1 : Type 0 where
       ∷ (cond (eqb p.indicator 1 || eqb p.indicator 3) (eqb offset 0) (follows_on a.front p) else 26)
       ∷ (joined_ok a.front p else 27)
       ∷ []
-  pub part-next : (f : List ℕ) (p : Part) → (follows_on none p ≡ false) × (follows_on (some f) p ≡ eqb (p.low + 2 ^ 32 * p.high) (length f))
-  pub part-others : (area : List ℕ) (id owner end : ℕ)
+  pub part_next : (f : List ℕ) (p : Part) → (follows_on none p ≡ false) × (follows_on (some f) p ≡ eqb (p.low + 2 ^ 32 * p.high) (length f))
+  pub part_others : (area : List ℕ) (id owner end : ℕ)
       → ((arriving_in Nothing area id).others ≡ false) × ((arriving_in (Open owner end) area id).others ≡ not (eqb owner id))
   -- a suspend leaves an open sequence, whosever it is
-  pub suspend-leaves : (d : Device) (words m id kind : ℕ) → (suspend_change d words m id kind).device.sequence ≡ d.sequence
+  pub suspend_leaves : (d : Device) (words m id kind : ℕ) → (suspend_change d words m id kind).device.sequence ≡ d.sequence
   -- W8: a refused call to a queue leaves its area or its buffer as it was, too
   pub make : (d : Device) (words id bytes : ℕ)
       → let c = make_change d words id bytes in
@@ -132,9 +132,9 @@ pub record Demand1 : Type 0 where
       Answers r.answer.number (queue_order (seen_in d words (place_of d.settings id)) (length area) (order.take asked x))
       ((r.answer ≡ record { number = r.answer.number; count = 0; closing = false; device = d }) × (r.buffer ≡ x))
   -- their tests, in the order of document 02
-  pub make-order : (v : Seen) (bytes : ℕ)
+  pub make_order : (v : Seen) (bytes : ℕ)
       → queue_order v bytes order.make ≡ (v.sound else 1) ∷ (v.known else 2) ∷ (eqb (bytes % 32) 0 && (leb 2 (bytes / 32) && leb (bytes / 32) 1024) else 28) ∷ []
-  pub post-order : (v : Seen) (bytes : ℕ) (e : List ℕ)
+  pub post_order : (v : Seen) (bytes : ℕ) (e : List ℕ)
       → queue_order v bytes (order.post e)
       ≡ (v.sound else 1)
       ∷ (v.known else 2)
@@ -143,7 +143,7 @@ pub record Demand1 : Type 0 where
       ∷ (eqb (length e) 32 else 8)
       ∷ (not v.stopped else 30)
       ∷ []
-  pub take-order : (v : Seen) (bytes asked : ℕ) (x : List ℕ)
+  pub take_order : (v : Seen) (bytes asked : ℕ) (x : List ℕ)
       → queue_order v bytes (order.take asked x)
       ≡ (v.sound else 1)
       ∷ (v.known else 2)
@@ -152,17 +152,17 @@ pub record Demand1 : Type 0 where
       ∷ []
   -- "not the size made"; and what they see of a controller's queue
   pub size-made : (n bytes : ℕ) → (size_made none bytes ≡ true) × (size_made (some n) bytes ≡ eqb bytes (32 * n))
-  pub sees-none : (d : Device) (words i : ℕ) → (controller_at d (some i)).queue ≡ made.Nothing
+  pub sees_none : (d : Device) (words i : ℕ) → (controller_at d (some i)).queue ≡ made.Nothing
       → ((seen_in d words (some i)).places ≡ none) × ((seen_in d words (some i)).stopped ≡ false)
-  pub sees-queue : (d : Device) (words i : ℕ) (r : Ring) → (controller_at d (some i)).queue ≡ made.Is r
+  pub sees_queue : (d : Device) (words i : ℕ) (r : Ring) → (controller_at d (some i)).queue ≡ made.Is r
       → ((seen_in d words (some i)).places ≡ some r.size) × ((seen_in d words (some i)).stopped ≡ r.stopped)
   -- what any call sees of a record beside that: 1 and 2 are answered for nothing else
   pub sees : (d : Device) (words i : ℕ)
       → ((seen_in d words (some i)).sound ≡ (sound_device d && eqb words 256)) × ((seen_in d words (some i)).known ≡ true) × ((seen_in d words (some i)).suspended ≡ (controller_at d (some i)).suspended)
-  pub sees-nobody : (d : Device) (words : ℕ) → ((seen_in d words none).sound ≡ (sound_device d && eqb words 256)) × ((seen_in d words none).known ≡ false)
+  pub sees_nobody : (d : Device) (words : ℕ) → ((seen_in d words none).sound ≡ (sound_device d && eqb words 256)) × ((seen_in d words none).known ≡ false)
   -- W12: which manager tracks a controller, and what that is to another
-  pub sees-off : (d : Device) (words i : ℕ) → (controller_at d (some i)).tracking ≡ Off → (seen_in d words (some i)).tracker ≡ none
-  pub sees-on : (d : Device) (words i g n : ℕ) → (controller_at d (some i)).tracking ≡ On g n → (seen_in d words (some i)).tracker ≡ some (controller_at d (some i)).manager
+  pub sees_off : (d : Device) (words i : ℕ) → (controller_at d (some i)).tracking ≡ Off → (seen_in d words (some i)).tracker ≡ none
+  pub sees_on : (d : Device) (words i g n : ℕ) → (controller_at d (some i)).tracking ≡ On g n → (seen_in d words (some i)).tracker ≡ some (controller_at d (some i)).manager
   pub tracks : (m t : ℕ) → (is_tracker m none ≡ false) × (is_tracker m (some t) ≡ eqb t m)
   -- the tables of the calls that have none above: no queue is looked at
   pub stop-order : (s : Settings) (m : ℕ) (v : Seen)
@@ -180,18 +180,18 @@ pub record Demand1 : Type 0 where
       → let h = header_says (start_data x).header in
       Answers h.number (read_tests x) ((h.place ≡ place_in (read_tests x)) × (h.granularity ≡ 0) × (h.count ≡ 0) × ((start_data x).ranges ≡ placed []))
   -- W3: a count over 16 is 18 at the count's place, byte 4; a smaller one, 0 too, is read where its ranges are there
-  pub read-many : (x : List ℕ) → 8 ≤ length x → get_or x 0 0 ≡ 0 → 16 < number_at x 4 4 → (start_data x).header ≡ Refused 18 4
+  pub read_many : (x : List ℕ) → 8 ≤ length x → get_or x 0 0 ≡ 0 → 16 < number_at x 4 4 → (start_data x).header ≡ Refused 18 4
   pub read_whole : (x : List ℕ) → 8 ≤ length x → get_or x 0 0 ≡ 0 → number_at x 4 4 ≤ 16 → 8 + 12 * number_at x 4 4 ≤ length x
       → (start_data x).header ≡ Is (get_or x 3 0) (number_at x 4 4)
   -- its writer leaves every byte
   pub write-start : (buffer : List ℕ) (g n : ℕ) (rs : List Range)
       → Answers (refusal (write_tests (length buffer) n)) (write_tests (length buffer) n) (start_written buffer g n rs ≡ buffer)
-  pub write-many : (size n : ℕ) → 16 < n → refusal (write_tests size n) ≡ 18
-  pub write-whole : (size n : ℕ) → n ≤ 16 → 8 + 12 * n ≤ size → refusal (write_tests size n) ≡ 0
+  pub write_many : (size n : ℕ) → 16 < n → refusal (write_tests size n) ≡ 18
+  pub write_whole : (size n : ℕ) → n ≤ 16 → 8 + 12 * n ≤ size → refusal (write_tests size n) ≡ 0
   -- W1: of a refused report, and of a refused index, every other answer is 0
-  pub read-report : (x : List ℕ)
+  pub read_report : (x : List ℕ)
       → Answers (report_refusal x) (report_tests x)
       ((report_bad_index x ≡ place_in (report_tests x)) × (report_suspended x ≡ 0) × (report_more x ≡ 0) × (report_identifier x ≡ 0) × (report_granularity x ≡ 0) × (report_count x ≡ 0))
   -- W3: "W1's use of 9 is unchanged"
   pub read_none : (x : List ℕ) → 16 ≤ length x → get_or x 0 0 ≡ 0 → number_at x 8 2 ≤ 20 → get_or x 1 0 % 2 ≡ 1 → number_at x 4 4 ≡ 0 → report_refusal x ≡ 9
-  pub read-index : (x : List ℕ) (i : ℕ) → Answers (report_refusal_at x i) (index_tests x i) ((report_address x i ≡ 0) × (report_length x i ≡ 0))
+  pub read_index : (x : List ℕ) (i : ℕ) → Answers (report_refusal_at x i) (index_tests x i) ((report_address x i ≡ 0) × (report_length x i ≡ 0))

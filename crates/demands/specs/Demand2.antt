@@ -199,12 +199,12 @@ pub record Tracked (l : Left) (h : List Did) (a i g : ℕ) (rs : List Range) : T
   -- its share has a bit for each unit
   pub size : size_at l.device i ≡ length (units g rs)
   -- a stop and a receive by the manager that started it are refused for nothing but what document 01 says
-  pub may-stop : suspended_by false h ≡ false → (stop_change l.device l.marks (manager_by h) a).answer.number ≡ 0
-  pub may-receive : (x : List ℕ) → 32 ≤ length x → (receive_receipt l.device l.marks (manager_by h) a x).answer.number ≡ 0
+  pub may_stop : suspended_by false h ≡ false → (stop_change l.device l.marks (manager_by h) a).answer.number ≡ 0
+  pub may_receive : (x : List ℕ) → 32 ≤ length x → (receive_receipt l.device l.marks (manager_by h) a x).answer.number ≡ 0
   -- W12: "A start is refused with 3 if either manager tracks that controller; stop and receive by the other manager get 5", and change nothing
   pub again : (b : ℕ) (x : List ℕ) → IsManager l.device.settings b → suspended_by false h ≡ false → outcome in_words l (record { id = a; op = start b x }) ≡ refused_on l (start b x) 3
-  pub other-stops : (b : ℕ) → IsManager l.device.settings b → b ≢ manager_by h → suspended_by false h ≡ false → outcome in_words l (record { id = a; op = stop b }) ≡ refused_on l (stop b) 5
-  pub other-receives : (b : ℕ) (x : List ℕ) → IsManager l.device.settings b → b ≢ manager_by h → outcome in_words l (record { id = a; op = receive b x }) ≡ refused_on l (receive b x) 5
+  pub other_stops : (b : ℕ) → IsManager l.device.settings b → b ≢ manager_by h → suspended_by false h ≡ false → outcome in_words l (record { id = a; op = stop b }) ≡ refused_on l (stop b) 5
+  pub other_receives : (b : ℕ) (x : List ℕ) → IsManager l.device.settings b → b ≢ manager_by h → outcome in_words l (record { id = a; op = receive b x }) ≡ refused_on l (receive b x) 5
 
 -- the calls that a suspended controller is refused, by managers of these settings
 pub data Moves (s : Settings) : Op → Type 0 where
@@ -228,7 +228,7 @@ pub record Stands (s : Settings) (l : Left) (h : List Did) (held : ℕ) (managed
   -- a write and a start are refused for nothing but what the documents say
   pub may_write : (i : ℕ) (w : Write) → place_of s a ≡ some i → suspended_by false h ≡ false → w.address + w.bytes ≤ 2 ^ 64
       → (write_note l.device l.marks a w).answer.number ≡ 0
-  pub may-start : (b limit i : ℕ) (x : List ℕ) → Manages s b limit → place_of s a ≡ some i → suspended_by false h ≡ false → tracks_by none h ≡ none
+  pub may_start : (b limit i : ℕ) (x : List ℕ) → Manages s b limit → place_of s a ≡ some i → suspended_by false h ≡ false → tracks_by none h ≡ none
       → passes (header_tests x ++ start_listed s x) ≡ true → length (units (granularity_of x) (ranges_of x)) + held ≤ 16384 → count_of x + managed b ≤ limit → count_of x + counts ≤ s.shelf
       → (start_change l.device l.marks b a x).answer.number ≡ 0
   -- "An accepted start clears the controller's [share] and records granularity and ranges"; W7: wherever the others' shares go, their marks go along
@@ -325,7 +325,7 @@ pub record Demand2 : Type 1 where
   -- there too every bit is accounted for
   pub keeps : (l : Left) → Shaped in_words l → (a i : ℕ) → place_of l.device.settings a ≡ some i → Keeps l a i
   -- W8: and so is every field, and every byte of area and buffer, of a call to a queue, whatever its totals
-  pub queue-calls : (l : Left) → Shaped in_words l → (a i : ℕ) → place_of l.device.settings a ≡ some i → QueueCalls l.device (length l.marks) a i
+  pub queue_calls : (l : Left) → Shaped in_words l → (a i : ℕ) → place_of l.device.settings a ≡ some i → QueueCalls l.device (length l.marks) a i
   -- W6: "the same however divided": where the data that two finishing parts complete are the same, in any two sessions and of any two controllers, so is what they
   -- yield
   pub divided : (s s' : Settings) (m m' : Given) (ks ks' : List Call) → Sized s m → Sized s' m'

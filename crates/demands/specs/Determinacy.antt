@@ -17,13 +17,13 @@ use Rattle.migration_send.proofs.resume.Reads as resume
 use Rattle.controller_state.proofs.set_state.Reads as set-state
 use Rattle.queue.proofs.make_queue.Reads as make-queue
 use Rattle.queue.proofs.post.Reads as post
-use Rattle.queue.proofs.take.Reads as take-queue
+use Rattle.queue.proofs.take.Reads as take_queue
 use Rattle.start_data.proofs.read_header.Reads as read-header
 use Rattle.start_data.proofs.read_ranges.Reads as read-ranges
 use Rattle.start_data.proofs.read_start.Reads as read-start
 use Rattle.start_data.proofs.write_start.Reads as write-start
 use Rattle.report_reader.proofs.tmc_report_refusal.Reads as refusal
-use Rattle.report_reader.proofs.tmc_report_bad_index.Reads as bad-index
+use Rattle.report_reader.proofs.tmc_report_bad_index.Reads as bad_index
 use Rattle.report_reader.proofs.tmc_report_suspended.Reads as suspended
 use Rattle.report_reader.proofs.tmc_report_more.Reads as more
 use Rattle.report_reader.proofs.tmc_report_identifier.Reads as identifier
@@ -32,7 +32,7 @@ use Rattle.report_reader.proofs.tmc_report_count.Reads as count
 use Rattle.report_reader.proofs.tmc_report_refusal_at.Reads as refusal-at
 use Rattle.report_reader.proofs.tmc_report_address.Reads as address
 use Rattle.report_reader.proofs.tmc_report_length.Reads as length-of
-use Rattle.report_reader.proofs.tmc_report_run_address.Reads as run-address
+use Rattle.report_reader.proofs.tmc_report_run_address.Reads as run_address
 use Rattle.report_reader.proofs.tmc_report_run_length.Reads as run_length
 use Rattle.listing.proofs.read_line.Reads as read-line
 
@@ -54,7 +54,7 @@ pub record Calls : Type 1 where
   pub make-queue : Determinate make-queue.Post
   pub post : (κs : _) (a : _) (r r' : _) (e e' : _) → post.Post κs a r e → post.Post κs a r' e' → (r ≡ r') × (e.1.1.0.now ≡ e'.1.1.0.now)
   -- and of its buffer
-  pub take-queue : (κs : _) (a : _) (r r' : _) (e e' : _) → take-queue.Post κs a r e → take-queue.Post κs a r' e'
+  pub take_queue : (κs : _) (a : _) (r r' : _) (e e' : _) → take_queue.Post κs a r e → take_queue.Post κs a r' e'
       → (r ≡ r') × (e.1.1.1.1.1.0.now ≡ e'.1.1.1.1.1.0.now)
 
 -- the start structure's readers and its writer, with every byte of the buffer
@@ -67,7 +67,7 @@ pub record Structure : Type 1 where
 -- the report's reader
 pub record ReportReader : Type 1 where
   pub refusal : Determinate refusal.Post
-  pub bad-index : Determinate bad-index.Post
+  pub bad_index : Determinate bad_index.Post
   pub suspended : Determinate suspended.Post
   pub more : Determinate more.Post
   pub identifier : Determinate identifier.Post
@@ -76,7 +76,7 @@ pub record ReportReader : Type 1 where
   pub refusal-at : Determinate refusal-at.Post
   pub address : Determinate address.Post
   pub length : Determinate length-of.Post
-  pub run-address : Determinate run-address.Post
+  pub run_address : Determinate run_address.Post
   pub run_length : Determinate run_length.Post
 
 pub record Determinacy : Type 1 where

@@ -36,17 +36,17 @@ use Rattle.logged.proofs.receive.Reads as receive
 use Rattle.logged.proofs.receive.Kinds as receive-kinds
 use Rattle.logged.proofs.totals.Reads as totals
 use Rattle.logged.proofs.totals.Kinds as totals-kinds
-use Rattle.plain_logged.proofs.fresh.Reads as plain-fresh
+use Rattle.plain_logged.proofs.fresh.Reads as plain_fresh
 use Rattle.plain_logged.proofs.fresh.Kinds as plain-fresh-kinds
-use Rattle.plain_logged.proofs.stop.Reads as plain-stop
+use Rattle.plain_logged.proofs.stop.Reads as plain_stop
 use Rattle.plain_logged.proofs.stop.Kinds as plain-stop-kinds
-use Rattle.plain_logged.proofs.write.Reads as plain-write
+use Rattle.plain_logged.proofs.write.Reads as plain_write
 use Rattle.plain_logged.proofs.write.Kinds as plain-write-kinds
-use Rattle.plain_logged.proofs.batch_of.Reads as plain-batch-of
+use Rattle.plain_logged.proofs.batch_of.Reads as plain_batch_of
 use Rattle.plain_logged.proofs.batch_of.Kinds as plain-batch-of-kinds
-use Rattle.plain_logged.proofs.receive.Reads as plain-receive
+use Rattle.plain_logged.proofs.receive.Reads as plain_receive
 use Rattle.plain_logged.proofs.receive.Kinds as plain-receive-kinds
-use Rattle.plain_logged.proofs.totals.Reads as plain-totals
+use Rattle.plain_logged.proofs.totals.Reads as plain_totals
 use Rattle.plain_logged.proofs.totals.Kinds as plain-totals-kinds
 
 -- what each asks holds of any arguments
@@ -57,12 +57,12 @@ pub record LogAsks : Type 1 where
   pub batch-of : (κs : _) (a : _) → batch-of.Pre κs a
   pub receive : (κs : _) (a : _) → receive.Pre κs a
   pub totals : (κs : _) (a : _) → totals.Pre κs a
-  pub plain-fresh : (κs : _) (a : _) → plain-fresh.Pre κs a
-  pub plain-stop : (κs : _) (a : _) → plain-stop.Pre κs a
-  pub plain-write : (κs : _) (a : _) → plain-write.Pre κs a
-  pub plain-batch-of : (κs : _) (a : _) → plain-batch-of.Pre κs a
-  pub plain-receive : (κs : _) (a : _) → plain-receive.Pre κs a
-  pub plain-totals : (κs : _) (a : _) → plain-totals.Pre κs a
+  pub plain_fresh : (κs : _) (a : _) → plain_fresh.Pre κs a
+  pub plain_stop : (κs : _) (a : _) → plain_stop.Pre κs a
+  pub plain_write : (κs : _) (a : _) → plain_write.Pre κs a
+  pub plain_batch_of : (κs : _) (a : _) → plain_batch_of.Pre κs a
+  pub plain_receive : (κs : _) (a : _) → plain_receive.Pre κs a
+  pub plain_totals : (κs : _) (a : _) → plain_totals.Pre κs a
 
 -- what is lent to a call that is logged: by itself, and as what the last one left
 abbrev pub lending : List ℕ → Given
@@ -94,26 +94,26 @@ pub record LogAre : Type 1 where
       × (r.log ≡ logged_by in_words (leaving a.1.0 a.1.1.0.now) a.0 (one (record { id = a.1.1.1.1.0; op = order.receive a.1.1.1.0 a.1.1.1.1.1.0.now })))
   pub totals : (κs : _) (a : _) (r : _) (e : _) → totals.Post κs a r e
       → r ≡ read_on in_words (leaving a.1.0 a.1.1.0.now) a.0 a.1.1.1.0
-  pub plain-fresh : (κs : _) (a : _) (r : _) (e : _) → plain-fresh.Post κs a r e
+  pub plain_fresh : (κs : _) (a : _) (r : _) (e : _) → plain_fresh.Post κs a r e
       → let c = fresh_by in_bytes a.1.0 a.1.1.0.now in
       (r.answer ≡ c.answer) × (e.1.1.0.now ≡ c.marks) × (r.log ≡ log_in in_bytes a.1.0 (lending a.1.1.0.now) a.0 [])
-  pub plain-stop : (κs : _) (a : _) (r : _) (e : _) → plain-stop.Post κs a r e
+  pub plain_stop : (κs : _) (a : _) (r : _) (e : _) → plain_stop.Post κs a r e
       → let c = stop_by in_bytes a.1.0 a.1.1.0.now a.1.1.1.0 a.1.1.1.1.0 in
       (r.answer ≡ c.answer) × (e.1.1.0.now ≡ c.marks) × (r.log ≡ logged_by in_bytes (leaving a.1.0 a.1.1.0.now) a.0 (one (record { id = a.1.1.1.1.0; op = order.stop a.1.1.1.0 })))
-  pub plain-write : (κs : _) (a : _) (r : _) (e : _) → plain-write.Post κs a r e
+  pub plain_write : (κs : _) (a : _) (r : _) (e : _) → plain_write.Post κs a r e
       → let bytes : Bytes = a.1.1.1.1.1.0 in
       let w : Write = record { address = a.1.1.1.1.0; bytes = bytes.0 } in
       let c = write_by in_bytes a.1.0 a.1.1.0.now a.1.1.1.0 w in
       (r.answer ≡ c.answer) × (e.1.1.0.now ≡ c.marks) × (r.log ≡ logged_by in_bytes (leaving a.1.0 a.1.1.0.now) a.0 (one (record { id = a.1.1.1.0; op = order.write w })))
-  pub plain-batch-of : (κs : _) (a : _) (r : _) (e : _) → plain-batch-of.Post κs a r e
+  pub plain_batch_of : (κs : _) (a : _) (r : _) (e : _) → plain_batch_of.Post κs a r e
       → let rs = take a.1.1.1.1.0 a.1.1.1.0 in
       let c = batch_by in_bytes a.1.0 a.1.1.0.now rs in
       (r.answer ≡ c.answer) × (e.1.1.0.now ≡ c.marks) × (r.log ≡ logged_by in_bytes (leaving a.1.0 a.1.1.0.now) a.0 (batch rs))
-  pub plain-receive : (κs : _) (a : _) (r : _) (e : _) → plain-receive.Post κs a r e
+  pub plain_receive : (κs : _) (a : _) (r : _) (e : _) → plain_receive.Post κs a r e
       → let c = receive_by in_bytes a.1.0 a.1.1.0.now a.1.1.1.0 a.1.1.1.1.0 a.1.1.1.1.1.0.now in
       (r.answer ≡ c.answer) × (e.1.1.0.now ≡ c.marks) × (e.1.1.1.1.1.0.now ≡ c.buffer)
       × (r.log ≡ logged_by in_bytes (leaving a.1.0 a.1.1.0.now) a.0 (one (record { id = a.1.1.1.1.0; op = order.receive a.1.1.1.0 a.1.1.1.1.1.0.now })))
-  pub plain-totals : (κs : _) (a : _) (r : _) (e : _) → plain-totals.Post κs a r e
+  pub plain_totals : (κs : _) (a : _) (r : _) (e : _) → plain_totals.Post κs a r e
       → r ≡ read_on in_bytes (leaving a.1.0 a.1.1.0.now) a.0 a.1.1.1.0
 
 -- how each call's arguments behind the log and the record (fresh: the settings) are lent: to be changed (`p_mut_s`) or to be read (`p_shr_s`), and its numbers' bits
@@ -128,16 +128,16 @@ pub record LogLent : Type 3 where
       ∷ []
   pub receive : drop 2 receive-kinds.ps ≡ p_mut_s (rt_f (f_int w64)) 0 tt ∷ p_num w16 ∷ p_num w16 ∷ p_mut_s (rt_f (f_int w8)) 1 tt ∷ []
   pub totals : drop 2 totals-kinds.ps ≡ p_shr_s (rt_f (f_int w64)) 0 tt ∷ p_num w16 ∷ []
-  pub plain-fresh : drop 2 plain-fresh-kinds.ps ≡ p_mut_s (rt_f (f_int w8)) 0 tt ∷ []
-  pub plain-stop : drop 2 plain-stop-kinds.ps ≡ p_mut_s (rt_f (f_int w8)) 0 tt ∷ p_num w16 ∷ p_num w16 ∷ []
-  pub plain-write : take 3 (drop 2 plain-write-kinds.ps) ≡ p_mut_s (rt_f (f_int w8)) 0 tt ∷ p_num w16 ∷ p_num w64 ∷ []
-  pub plain-batch-of : drop 2 plain-batch-of-kinds.ps
+  pub plain_fresh : drop 2 plain-fresh-kinds.ps ≡ p_mut_s (rt_f (f_int w8)) 0 tt ∷ []
+  pub plain_stop : drop 2 plain-stop-kinds.ps ≡ p_mut_s (rt_f (f_int w8)) 0 tt ∷ p_num w16 ∷ p_num w16 ∷ []
+  pub plain_write : take 3 (drop 2 plain-write-kinds.ps) ≡ p_mut_s (rt_f (f_int w8)) 0 tt ∷ p_num w16 ∷ p_num w64 ∷ []
+  pub plain_batch_of : drop 2 plain-batch-of-kinds.ps
       ≡ p_mut_s (rt_f (f_int w8)) 0 tt
       ∷ p_arr (e_struct record-type.the_type record-laws.the_laws record-laws.the_copy) (e_struct_laws record-type.the_type record-laws.the_laws record-laws.the_copy record-laws.the_plain) 1025
       ∷ p_num w64
       ∷ []
-  pub plain-receive : drop 2 plain-receive-kinds.ps ≡ p_mut_s (rt_f (f_int w8)) 0 tt ∷ p_num w16 ∷ p_num w16 ∷ p_mut_s (rt_f (f_int w8)) 1 tt ∷ []
-  pub plain-totals : drop 2 plain-totals-kinds.ps ≡ p_shr_s (rt_f (f_int w8)) 0 tt ∷ p_num w16 ∷ []
+  pub plain_receive : drop 2 plain-receive-kinds.ps ≡ p_mut_s (rt_f (f_int w8)) 0 tt ∷ p_num w16 ∷ p_num w16 ∷ p_mut_s (rt_f (f_int w8)) 1 tt ∷ []
+  pub plain_totals : drop 2 plain-totals-kinds.ps ≡ p_shr_s (rt_f (f_int w8)) 0 tt ∷ p_num w16 ∷ []
 
 -- any two results that a promise allows are equal
 pub record LogDeterminate : Type 1 where
@@ -148,13 +148,13 @@ pub record LogDeterminate : Type 1 where
   pub receive : (κs : _) (a : _) (r r' : _) (e e' : _) → receive.Post κs a r e → receive.Post κs a r' e'
       → (r ≡ r') × (e.1.1.0.now ≡ e'.1.1.0.now) × (e.1.1.1.1.1.0.now ≡ e'.1.1.1.1.1.0.now)
   pub totals : Determinate totals.Post
-  pub plain-fresh : (κs : _) (a : _) (r r' : _) (e e' : _) → plain-fresh.Post κs a r e → plain-fresh.Post κs a r' e' → (r ≡ r') × (e.1.1.0.now ≡ e'.1.1.0.now)
-  pub plain-stop : (κs : _) (a : _) (r r' : _) (e e' : _) → plain-stop.Post κs a r e → plain-stop.Post κs a r' e' → (r ≡ r') × (e.1.1.0.now ≡ e'.1.1.0.now)
-  pub plain-write : (κs : _) (a : _) (r r' : _) (e e' : _) → plain-write.Post κs a r e → plain-write.Post κs a r' e' → (r ≡ r') × (e.1.1.0.now ≡ e'.1.1.0.now)
-  pub plain-batch-of : (κs : _) (a : _) (r r' : _) (e e' : _) → plain-batch-of.Post κs a r e → plain-batch-of.Post κs a r' e' → (r ≡ r') × (e.1.1.0.now ≡ e'.1.1.0.now)
-  pub plain-receive : (κs : _) (a : _) (r r' : _) (e e' : _) → plain-receive.Post κs a r e → plain-receive.Post κs a r' e'
+  pub plain_fresh : (κs : _) (a : _) (r r' : _) (e e' : _) → plain_fresh.Post κs a r e → plain_fresh.Post κs a r' e' → (r ≡ r') × (e.1.1.0.now ≡ e'.1.1.0.now)
+  pub plain_stop : (κs : _) (a : _) (r r' : _) (e e' : _) → plain_stop.Post κs a r e → plain_stop.Post κs a r' e' → (r ≡ r') × (e.1.1.0.now ≡ e'.1.1.0.now)
+  pub plain_write : (κs : _) (a : _) (r r' : _) (e e' : _) → plain_write.Post κs a r e → plain_write.Post κs a r' e' → (r ≡ r') × (e.1.1.0.now ≡ e'.1.1.0.now)
+  pub plain_batch_of : (κs : _) (a : _) (r r' : _) (e e' : _) → plain_batch_of.Post κs a r e → plain_batch_of.Post κs a r' e' → (r ≡ r') × (e.1.1.0.now ≡ e'.1.1.0.now)
+  pub plain_receive : (κs : _) (a : _) (r r' : _) (e e' : _) → plain_receive.Post κs a r e → plain_receive.Post κs a r' e'
       → (r ≡ r') × (e.1.1.0.now ≡ e'.1.1.0.now) × (e.1.1.1.1.1.0.now ≡ e'.1.1.1.1.1.0.now)
-  pub plain-totals : Determinate plain-totals.Post
+  pub plain_totals : Determinate plain_totals.Post
 
 -- the log's own functions, which the calls and the log's program use: what each answers, of any arguments
 pub record LogFunctions : Type 1 where

@@ -81,7 +81,7 @@ pub record Shows (en : Engine) (s : Settings) (m : Given) (g : Log) (xs : List S
   -- a controller that is not in the settings
   pub nobody : place_of s a ≡ none → read_in en s m g xs a ≡ record { number = 2; totals = Known 0 0 0 }
   -- "unknown from then on"
-  pub from-then-on : (ys : List Step) → read_in en s m g xs a ≡ record { number = 0; totals = Unknown } → read_in en s m g (xs ++ ys) a ≡ record { number = 0; totals = Unknown }
+  pub from_then_on : (ys : List Step) → read_in en s m g xs a ≡ record { number = 0; totals = Unknown } → read_in en s m g (xs ++ ys) a ≡ record { number = 0; totals = Unknown }
 
 pub record MigrationLog (en : Engine) : Type 1 where
   pub shows : (s : Settings) (m : Given) (g : Log) (xs : List Step) → Sized s m → (fresh_by en s m.marks).answer.number ≡ 0 → (a : ℕ) → Shows en s m g xs a
@@ -94,7 +94,7 @@ pub record MigrationLog (en : Engine) : Type 1 where
   pub closed : (s : Settings) (m : Given) (g : Log) (xs : List Step) → (fresh_by en s m.marks).answer.number ≢ 0 → log_in en s m g xs ≡ g
   -- nor does any refused call or batch, on any record
   pub refused : (l : Left) (g : Log) (k : Call) → number_of (outcome en l k).answer ≢ 0 → logged_by en l g (one k) ≡ g
-  pub refused-batch : (l : Left) (g : Log) (rs : List WriteRecord) → (batch_by en l.device l.marks rs).answer.number ≢ 0 → logged_by en l g (batch rs) ≡ g
+  pub refused_batch : (l : Left) (g : Log) (rs : List WriteRecord) → (batch_by en l.device l.marks rs).answer.number ≢ 0 → logged_by en l g (batch rs) ≡ g
   -- demand 3: what others do alters no total of a controller
   pub apart : (s : Settings) (a i : ℕ) (m m' : Given) (g g' : Log) (xs xs' : List Step) → Sized s m → Sized s m' → en.words m.marks ≡ en.words m'.marks
       → (fresh_by en s m.marks).answer.number ≡ 0 → (fresh_by en s m'.marks).answer.number ≡ 0 → place_of s a ≡ some i

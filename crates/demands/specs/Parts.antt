@@ -59,7 +59,7 @@ arriving d q = record { settings = d.settings; controllers = d.controllers; sequ
 -- of a controller a, after a session that left l and in which its calls and answers were h
 pub record Arrives (l : Left) (h : List Did) (a : ℕ) : Type 0 where
   -- the record says that a sequence of its own is open exactly if its calls and answers do, and where it ends; the area has its bytes so far
-  pub under-way : (open_by h ≡ true) ↔ (l.device.sequence ≡ Open a (length (joined_by h)))
+  pub under_way : (open_by h ≡ true) ↔ (l.device.sequence ≡ Open a (length (joined_by h)))
   pub bytes : open_by h ≡ true → take (length (joined_by h)) l.area ≡ joined_by h
   -- a part is accepted exactly if a manager sends it, the controller is suspended, no sequence of another is open, and the part is fitting
   pub accepted : (m : ℕ) (p : Part)

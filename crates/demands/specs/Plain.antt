@@ -28,12 +28,12 @@ use Rattle.demands.specs.Soundness.{base_at}
 
 -- what a step answers: number, row, count, report, state, entries; of a batch the number, how many notes were done, how many units, and the refusal
 pub data Said : Type 0 where
-  to-call : Answer → Said
-  to-batch : Batched → Said
+  to_call : Answer → Said
+  to_batch : Batched → Said
 
 abbrev pub said_of : Engine → Left → Step → Said
-said_of en l (one k) = to-call (outcome en l k).answer
-said_of en l (batch rs) = to-batch (batch_by en l.device l.marks rs).answer
+said_of en l (one k) = to_call (outcome en l k).answer
+said_of en l (batch rs) = to_batch (batch_by en l.device l.marks rs).answer
 
 -- the bytes that are lent with it, as they are afterwards. (A batch's records are only read.)
 abbrev pub lent_of : Engine → Left → Step → List ℕ
@@ -101,16 +101,16 @@ pub record BytesKept : Type 0 where
       c.answer.number ≡ 0 → (j m : ℕ) → j < 8 → j ≢ i → m < size_at l.device j
       → get_or c.marks (base_at c.answer.device j + m) 0 ≡ get_or l.marks (base_at l.device j + m) 0
   -- none changes how many bytes there are
-  pub fresh-bytes : (s : Settings) (bs : List ℕ) → length (fresh_by in_bytes s bs).marks ≡ length bs
-  pub written-bytes : (d : Device) (bs : List ℕ) (id : ℕ) (w : Write) → length (write_by in_bytes d bs id w).marks ≡ length bs
-  pub received-bytes : (d : Device) (bs : List ℕ) (b id : ℕ) (x : List ℕ) → length (receive_by in_bytes d bs b id x).marks ≡ length bs
+  pub fresh_bytes : (s : Settings) (bs : List ℕ) → length (fresh_by in_bytes s bs).marks ≡ length bs
+  pub written_bytes : (d : Device) (bs : List ℕ) (id : ℕ) (w : Write) → length (write_by in_bytes d bs id w).marks ≡ length bs
+  pub received_bytes : (d : Device) (bs : List ℕ) (b id : ℕ) (x : List ℕ) → length (receive_by in_bytes d bs b id x).marks ≡ length bs
 
 -- ---- the demands, of the plain engine
 
 pub record Plain : Type 1 where
   -- demand 1: "1 speaks of each engine's own record and area"; every other refusal is as for the other engine (`Demand1`)
   pub area : (bs : List ℕ) → (in_bytes.words bs ≡ 256) ↔ (length bs ≡ 16384)
-  pub mark-calls : MarkCalls in_bytes
+  pub mark_calls : MarkCalls in_bytes
   -- demand 2: any session comes for each controller to what the rules give for the same calls, and so does each call on a record that no session made
   pub rules : (s : Settings) (a : ℕ) (m : Given) (ks : List Call) → Sized s m → Equals in_bytes s a m ks ks
   pub steps : (l : Left) → Shaped in_bytes l → (k : Call) → Steps in_bytes l k

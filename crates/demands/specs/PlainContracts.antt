@@ -48,7 +48,7 @@ use Rattle.plain.proofs.make_queue.Reads as make-queue
 use Rattle.plain.proofs.make_queue.Kinds as make-kinds
 use Rattle.plain.proofs.post.Reads as post
 use Rattle.plain.proofs.post.Kinds as post-kinds
-use Rattle.plain.proofs.take.Reads as take-queue
+use Rattle.plain.proofs.take.Reads as take_queue
 use Rattle.plain.proofs.take.Kinds as take-kinds
 
 -- what each asks holds of any arguments
@@ -64,7 +64,7 @@ pub record PlainAsks : Type 1 where
   pub set-state : (κs : _) (a : _) → set-state.Pre κs a
   pub make-queue : (κs : _) (a : _) → make-queue.Pre κs a
   pub post : (κs : _) (a : _) → post.Pre κs a
-  pub take-queue : (κs : _) (a : _) → take-queue.Pre κs a
+  pub take_queue : (κs : _) (a : _) → take_queue.Pre κs a
 
 -- the answer, every byte of the area that was lent to be changed, and every byte of the buffer. A call that touches no mark is the other engine's, of as many words as the area
 -- stands for
@@ -100,7 +100,7 @@ pub record PlainAre : Type 1 where
   pub post : (κs : _) (a : _) (r : _) (e : _) → post.Post κs a r e
       → let c = post_change a.0 (in_bytes.words a.1.0.now) a.1.1.0.now a.1.1.1.0 a.1.1.1.1.0.now in
       (r ≡ c.answer) × (e.1.1.0.now ≡ c.area)
-  pub take-queue : (κs : _) (a : _) (r : _) (e : _) → take-queue.Post κs a r e
+  pub take_queue : (κs : _) (a : _) (r : _) (e : _) → take_queue.Post κs a r e
       → let c = take_change a.0 (in_bytes.words a.1.0.now) a.1.1.0.now a.1.1.1.0 a.1.1.1.1.0 a.1.1.1.1.1.0.now in
       (r ≡ c.answer) × (e.1.1.1.1.1.0.now ≡ c.buffer)
 
@@ -134,7 +134,7 @@ pub record PlainLent : Type 3 where
       ≡ p_shr_s (rt_f (f_int w8)) 0 tt ∷ p_mut_s (rt_f (f_int w8)) 1 tt ∷ p_num w16 ∷ p_num w16 ∷ p_num w8 ∷ p_num w32 ∷ p_num w32 ∷ p_num w32 ∷ p_shr_s (rt_f (f_int w8)) 2 tt ∷ []
   pub make-queue : drop 1 make-kinds.ps ≡ p_shr_s (rt_f (f_int w8)) 0 tt ∷ p_num w16 ∷ p_shr_s (rt_f (f_int w8)) 1 tt ∷ []
   pub post : drop 1 post-kinds.ps ≡ p_shr_s (rt_f (f_int w8)) 0 tt ∷ p_mut_s (rt_f (f_int w8)) 1 tt ∷ p_num w16 ∷ p_shr_s (rt_f (f_int w8)) 2 tt ∷ []
-  pub take-queue : drop 1 take-kinds.ps ≡ p_shr_s (rt_f (f_int w8)) 0 tt ∷ p_shr_s (rt_f (f_int w8)) 1 tt ∷ p_num w16 ∷ p_num w32 ∷ p_mut_s (rt_f (f_int w8)) 2 tt ∷ []
+  pub take_queue : drop 1 take-kinds.ps ≡ p_shr_s (rt_f (f_int w8)) 0 tt ∷ p_shr_s (rt_f (f_int w8)) 1 tt ∷ p_num w16 ∷ p_num w32 ∷ p_mut_s (rt_f (f_int w8)) 2 tt ∷ []
 
 -- any two results that a promise allows are equal
 pub record PlainDeterminate : Type 1 where
@@ -151,7 +151,7 @@ pub record PlainDeterminate : Type 1 where
   pub set-state : (κs : _) (a : _) (r r' : _) (e e' : _) → set-state.Post κs a r e → set-state.Post κs a r' e' → (r ≡ r') × (e.1.1.0.now ≡ e'.1.1.0.now)
   pub make-queue : Determinate make-queue.Post
   pub post : (κs : _) (a : _) (r r' : _) (e e' : _) → post.Post κs a r e → post.Post κs a r' e' → (r ≡ r') × (e.1.1.0.now ≡ e'.1.1.0.now)
-  pub take-queue : (κs : _) (a : _) (r r' : _) (e e' : _) → take-queue.Post κs a r e → take-queue.Post κs a r' e'
+  pub take_queue : (κs : _) (a : _) (r r' : _) (e e' : _) → take_queue.Post κs a r e → take_queue.Post κs a r' e'
       → (r ≡ r') × (e.1.1.1.1.1.0.now ≡ e'.1.1.1.1.1.0.now)
 
 pub record PlainContracts : Type 3 where

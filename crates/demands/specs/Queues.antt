@@ -50,9 +50,9 @@ pub record PostedTo (d : Device) (i : ℕ) (r : Ring) (area e : List ℕ) (p : P
 -- a take of so many entries as are asked for, from a queue r in an area, into a buffer x
 pub record TakenFrom (d : Device) (i : ℕ) (r : Ring) (area : List ℕ) (asked : ℕ) (x : List ℕ) (t : Taking) : Type 0 where
   -- "the least of those asked for, those queued and those that fit whole in its buffer"
-  pub most-asked : t.answer.count ≤ asked
-  pub most-queued : t.answer.count ≤ fill_by r
-  pub most-fit : 32 * t.answer.count ≤ length x
+  pub most_asked : t.answer.count ≤ asked
+  pub most_queued : t.answer.count ≤ fill_by r
+  pub most_fit : 32 * t.answer.count ≤ length x
   pub least : (t.answer.count ≡ asked) ⊎ ((t.answer.count ≡ fill_by r) ⊎ (length x < 32 * (t.answer.count + 1)))
   -- the oldest come first; "the rest of its buffer is unchanged"
   pub entries : (k : ℕ) → k < t.answer.count → entry_in t.buffer k ≡ entry_in area (place_behind r k)
@@ -97,10 +97,10 @@ pub record Logs (l : Left) (h : List Did) (a i : ℕ) : Type 0 where
   pub is : (n : ℕ) → size_by h ≡ some n → (r : Ring) × ((controller_at l.device (some i)).queue ≡ Is r) × Logged l h i n r
   pub none : size_by h ≡ none → (r : Ring) → (controller_at l.device (some i)).queue ≡ Is r → ⊥
   -- what is not refused: an area of 2 to 1,024 places; entries of 32 bytes until it has stopped; and every take
-  pub may-make : (n : ℕ) → 2 ≤ n → n ≤ 1024 → (make_change l.device (length l.marks) a (32 * n)).number ≡ 0
-  pub may-post : (n : ℕ) (e : List ℕ) → size_by h ≡ some n → stopped_by h ≡ false → length e ≡ 32
+  pub may_make : (n : ℕ) → 2 ≤ n → n ≤ 1024 → (make_change l.device (length l.marks) a (32 * n)).number ≡ 0
+  pub may_post : (n : ℕ) (e : List ℕ) → size_by h ≡ some n → stopped_by h ≡ false → length e ≡ 32
       → (post_change l.device (length l.marks) (front_of (32 * n) (l.queues i)) a e).answer.number ≡ 0
-  pub may-take : (n asked : ℕ) (x : List ℕ) → size_by h ≡ some n
+  pub may_take : (n asked : ℕ) (x : List ℕ) → size_by h ≡ some n
       → (take_change l.device (length l.marks) (front_of (32 * n) (l.queues i)) a asked x).answer.number ≡ 0
   -- a take says closing exactly if "its last entry is the closing one": some post was marked stopped, and all that was stored is taken with it
   pub closing : (bytes asked : ℕ) (x : List ℕ)

@@ -19,7 +19,7 @@ use Rattle.settings_file.proofs.read_file.Reads as read-file
 use Rattle.settings_file.proofs.read_file.Kinds as read-file-kinds
 use Rattle.settings_file.proofs.write_file.Reads as write-file
 use Rattle.settings_file.proofs.write_file.Kinds as write-file-kinds
-use Rattle.settings_updater.proofs.trk_settings_v1_refusal.Reads as v1-refusal
+use Rattle.settings_updater.proofs.trk_settings_v1_refusal.Reads as v1_refusal
 use Rattle.settings_updater.proofs.trk_settings_v1_refusal.Kinds as v1-refusal-kinds
 use Rattle.settings_updater.proofs.trk_settings_refusal.Reads as refusal-of
 use Rattle.settings_updater.proofs.trk_settings_refusal.Kinds as refusal-kinds
@@ -53,7 +53,7 @@ pub record FileAsksNothing : Type 1 where
   pub read-v1 : (κs : _) (a : _) → read-v1.Pre κs a
   pub read-file : (κs : _) (a : _) → read-file.Pre κs a
   pub write-file : (κs : _) (a : _) → write-file.Pre κs a
-  pub v1-refusal : (κs : _) (a : _) → v1-refusal.Pre κs a
+  pub v1_refusal : (κs : _) (a : _) → v1_refusal.Pre κs a
   pub refusal : (κs : _) (a : _) → refusal-of.Pre κs a
   pub version : (κs : _) (a : _) → version.Pre κs a
   pub manager : (κs : _) (a : _) → manager.Pre κs a
@@ -77,7 +77,7 @@ pub record FilesAre : Type 1 where
 
 -- an updater's functions: the new reader's numbers, and the file at another version
 pub record UpdaterIs : Type 1 where
-  pub v1-refusal : (κs : _) (a : _) (r : _) (e : _) → v1-refusal.Post κs a r e → r ≡ (old_read a.0.now).number
+  pub v1_refusal : (κs : _) (a : _) (r : _) (e : _) → v1_refusal.Post κs a r e → r ≡ (old_read a.0.now).number
   pub refusal : (κs : _) (a : _) (r : _) (e : _) → refusal-of.Post κs a r e → r ≡ (new_read a.0.now).number
   pub version : (κs : _) (a : _) (r : _) (e : _) → version.Post κs a r e → r ≡ file_version a.0.now
   pub manager : (κs : _) (a : _) (r : _) (e : _) → manager.Post κs a r e → r ≡ (new_read a.0.now).settings.manager
@@ -98,7 +98,7 @@ pub record FileLent : Type 3 where
   pub read-v1 : read-v1-kinds.ps ≡ p_shr_s (rt_f (f_int w8)) 0 tt ∷ []
   pub read-file : read-file-kinds.ps ≡ p_shr_s (rt_f (f_int w8)) 0 tt ∷ []
   pub write-file : (take 2 write-file-kinds.ps ≡ p_mut_s (rt_f (f_int w8)) 0 tt ∷ p_num w16 ∷ []) × (length write-file-kinds.ps ≡ 3)
-  pub v1-refusal : v1-refusal-kinds.ps ≡ p_shr_s (rt_f (f_int w8)) 0 tt ∷ []
+  pub v1_refusal : v1-refusal-kinds.ps ≡ p_shr_s (rt_f (f_int w8)) 0 tt ∷ []
   pub refusal : refusal-kinds.ps ≡ p_shr_s (rt_f (f_int w8)) 0 tt ∷ []
   pub version : version-kinds.ps ≡ p_shr_s (rt_f (f_int w8)) 0 tt ∷ []
   pub manager : manager-kinds.ps ≡ p_shr_s (rt_f (f_int w8)) 0 tt ∷ []
@@ -118,7 +118,7 @@ pub record FileDeterminacy : Type 1 where
   pub read-v1 : Determinate read-v1.Post
   pub read-file : Determinate read-file.Post
   pub write-file : (κs : _) (a : _) (r r' : _) (e e' : _) → write-file.Post κs a r e → write-file.Post κs a r' e' → (r ≡ r') × (e.0.now ≡ e'.0.now)
-  pub v1-refusal : Determinate v1-refusal.Post
+  pub v1_refusal : Determinate v1_refusal.Post
   pub refusal : Determinate refusal-of.Post
   pub version : Determinate version.Post
   pub manager : Determinate manager.Post

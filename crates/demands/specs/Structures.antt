@@ -10,7 +10,7 @@ use Rattle.start_data.proofs.read_start.Reads as read-start
 
 pub record WithoutLoss : Type 1 where
   -- reading what was written gives the same values
-  pub read-written : (κs : _) (a : _) (number : _) (e : _) → write-start.Post κs a number e → (κs' : _) (a' : _) (r : _) (e' : _) → read-start.Post κs' a' r e'
+  pub read_written : (κs : _) (a : _) (number : _) (e : _) → write-start.Post κs a number e → (κs' : _) (a' : _) (r : _) (e' : _) → read-start.Post κs' a' r e'
       → let g = a.1.0 in
       let n = a.1.1.0 in
       let ranges = a.1.1.1.0 in

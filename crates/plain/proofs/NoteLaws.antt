@@ -28,7 +28,7 @@ write-to at bytes h =
 
 module _ (c : Controller) (area : List ℕ) (base : ℕ) (w : Write) (k : ℕ) (e : k ≡ refusal (note_tests c.suspended w)) (z : k ≡ 0) where
   pub bytes-done : (g n : ℕ) → c.tracking ≡ On g n → (area' : List ℕ) (count : ℕ) → Marked w (units g (take n c.ranges)) area base count area' → note_by in_bytes c area base w ≡ noted 0 count area'
-  bytes-done g n t area' count m = on-marks in_bytes c area base w k e z g n t ∙ ap₂ (noted 0) (sym m.count-is) (sym m.bytes-are)
+  bytes-done g n t area' count m = on-marks in_bytes c area base w k e z g n t ∙ ap₂ (noted 0) (sym m.count_is) (sym m.bytes_are)
 
   pub bytes-empty : w.bytes ≡ 0 → note_by in_bytes c area base w ≡ noted 0 0 area
   bytes-empty y = go c.tracking refl

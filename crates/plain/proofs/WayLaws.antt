@@ -61,4 +61,4 @@ module _ (d : Device) (area : List ℕ) (id i : ℕ) (e : where_is d (words_for 
 -- no more runs are listed than there are units
 pub lists-few : (us : List Unit) (area : List ℕ) (base : ℕ) (x : List ℕ) (room count : ℕ) (more : Bool) (groups : ℕ) (area' x' : List ℕ)
     → Lists us area base x room count more groups area' x' → count ≤ length us
-lists-few us area base x room count more groups area' x' s = reported-few room us (marks_of area base (length us)) count s.count-is
+lists-few us area base x room count more groups area' x' s = reported-few room us (marks_of area base (length us)) count s.count_is

@@ -61,13 +61,13 @@ module _ (area bs area' : List ℕ) (base : ℕ) (h : base ≤ length area) (e :
 
 module _ (w : Write) (us : List Unit) (area : List ℕ) (base count : ℕ) (area' : List ℕ) (m : Marked w us area base count area') (h : base ≤ length area) where
   pub marked-before : take base area' ≡ take base area
-  marked-before = anew-before area (mark_bytes w us (drop base area)) area' base h m.bytes-are
+  marked-before = anew-before area (mark_bytes w us (drop base area)) area' base h m.bytes_are
 
   pub marked-after : drop (base + length us) area' ≡ drop (base + length us) area
-  marked-after = anew-after area (mark_bytes w us (drop base area)) area' base h m.bytes-are (length us) (mark_bytes-after w us (drop base area))
+  marked-after = anew-after area (mark_bytes w us (drop base area)) area' base h m.bytes_are (length us) (mark_bytes-after w us (drop base area))
 
   pub marked-length : length area' ≡ length area
-  marked-length = anew-length area (mark_bytes w us (drop base area)) area' base h m.bytes-are (mark_bytes-length w us (drop base area))
+  marked-length = anew-length area (mark_bytes w us (drop base area)) area' base h m.bytes_are (mark_bytes-length w us (drop base area))
 
 -- ---- a report
 
@@ -81,10 +81,10 @@ module _ (us : List Unit) (area : List ℕ) (base : ℕ) (x : List ℕ) (room co
       omega (arith, length-append (join (take room (runs p))) (join (drop room (runs p))), ap length (join-take-drop room (runs p)), ap length (runs-join p))
 
   pub listed-before : take base area' ≡ take base area
-  listed-before = anew-before area (clear_bytes listed (drop base area)) area' base h s.area-is
+  listed-before = anew-before area (clear_bytes listed (drop base area)) area' base h s.area_is
 
   pub listed-after : drop (base + length us) area' ≡ drop (base + length us) area
-  listed-after = anew-after area (clear_bytes listed (drop base area)) area' base h s.area-is (length us) (clear_bytes-after listed us (drop base area) few)
+  listed-after = anew-after area (clear_bytes listed (drop base area)) area' base h s.area_is (length us) (clear_bytes-after listed us (drop base area) few)
 
   pub listed-length : length area' ≡ length area
-  listed-length = anew-length area (clear_bytes listed (drop base area)) area' base h s.area-is (clear_bytes-length listed (drop base area))
+  listed-length = anew-length area (clear_bytes listed (drop base area)) area' base h s.area_is (clear_bytes-length listed (drop base area))

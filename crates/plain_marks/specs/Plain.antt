@@ -44,9 +44,9 @@ mark_bytes w (u ∷ us) (b ∷ bs) = cond (touches w u && eqb b 0) 1 b ∷ mark_
 
 -- what a write answers and leaves, of the marks of units that stand in an area from `base` on
 pub record Marked (w : Write) (us : List Unit) (area : List ℕ) (base count : ℕ) (area' : List ℕ) : Type 0 where
-  pub count-is : count ≡ newly w us (marks_of area base (length us))
-  pub marks-are : marks_of area' base (length us) ≡ mark w us (marks_of area base (length us))
-  pub bytes-are : area' ≡ take base area ++ mark_bytes w us (drop base area)
+  pub count_is : count ≡ newly w us (marks_of area base (length us))
+  pub marks_are : marks_of area' base (length us) ≡ mark w us (marks_of area base (length us))
+  pub bytes_are : area' ≡ take base area ++ mark_bytes w us (drop base area)
 
 -- ---- a report
 
@@ -60,9 +60,9 @@ clear_bytes (suc m) (suc b ∷ bs) = 0 ∷ clear_bytes m bs
 -- what a report with room for so many runs lists, examines and leaves, of the marks of units that stand in an area from `base` on and of a buffer x. The
 -- bytes made clear are the units' own: they are as many as the listed units, which are the first pending ones (`listed-after` in proofs/Outside.antt)
 pub record Lists (us : List Unit) (area : List ℕ) (base : ℕ) (x : List ℕ) (room count : ℕ) (more : Bool) (groups : ℕ) (area' x' : List ℕ) : Type 0 where
-  pub count-is : count ≡ length (reported_runs room us (marks_of area base (length us)))
-  pub more-is : more ≡ non_empty (later_runs room us (marks_of area base (length us)))
-  pub groups-is : groups ≡ groups_on room us (marks_of area base (length us))
-  pub marks-are : marks_of area' base (length us) ≡ marks_left room us (marks_of area base (length us))
-  pub area-is : area' ≡ take base area ++ clear_bytes (length (join (reported_runs room us (marks_of area base (length us))))) (drop base area)
-  pub buffer-is : x' ≡ put x 16 (records descriptor_bytes (map descriptor (reported_runs room us (marks_of area base (length us)))))
+  pub count_is : count ≡ length (reported_runs room us (marks_of area base (length us)))
+  pub more_is : more ≡ non_empty (later_runs room us (marks_of area base (length us)))
+  pub groups_is : groups ≡ groups_on room us (marks_of area base (length us))
+  pub marks_are : marks_of area' base (length us) ≡ marks_left room us (marks_of area base (length us))
+  pub area_is : area' ≡ take base area ++ clear_bytes (length (join (reported_runs room us (marks_of area base (length us))))) (drop base area)
+  pub buffer_is : x' ≡ put x 16 (records descriptor_bytes (map descriptor (reported_runs room us (marks_of area base (length us)))))

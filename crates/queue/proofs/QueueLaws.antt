@@ -28,7 +28,7 @@ use Rattle.record.proofs.QueueLaws.{ring-facts, ring-room}
 use Rattle.calls.specs.declared.Changed.{Changed}
 use Rattle.calls.specs.declared.Posted.{Posted}
 use Rattle.calls.specs.declared.Taken.{Taken}
-use Rattle.calls.specs.Calls.{with_queue, made_ring, make_done, make_change, fill_in, queued_in, ring_posted, ring_taken, Posting, posting, post_done, post_change, Taking, taking, take_done, take_change}
+use Rattle.calls.specs.Calls.{with_queue, made_ring, make_done, make_change, fill_in, queued_in, ring_posted, ring_taken, Posting, posting, post_done, post_change, Taking, taking, take_told, take_change}
 
 -- ---- 28
 
@@ -206,7 +206,7 @@ module _ (d : Device) (words id : ℕ) where
     pub take-refused : (n : ℕ) → where_is d words id ≡ Refused n → take_change d words area id asked buffer ≡ taking n 0 false d buffer
     unfolding take_change
     take-refused n e =
-        where_is-refused d words id n e (tests (length area) (order.take asked buffer)) (take_done d area asked buffer (place_of d.settings id)) (λ n i. taking n 0 false d buffer)
+        where_is-refused d words id n e (tests (length area) (order.take asked buffer)) (take_told d area asked buffer (place_of d.settings id)) (λ n i. taking n 0 false d buffer)
 
     module _ (i : ℕ) (e : where_is d words id ≡ At i) where
       module _ (q : Queue) (k : (get_or d.controllers i no_controller).queue ≡ q) where

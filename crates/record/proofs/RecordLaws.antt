@@ -3,7 +3,7 @@
 use Prim.Native.Nat.{ℕ, zero, suc, ◌+◌, ◌-◌, ◌%◌, ◌<◌, ◌≤◌}
 use mathlib.Core.Path.{◌≡◌, refl, ap, sym, ◌∙◌}
 use mathlib.Core.Logic.{◌≢◌, ◌⊎◌}
-use mathlib.Core.Bool.{Bool, true, false, ◌&&◌, cond, and-true, and-false, true≢false}
+use mathlib.Core.Bool.{Bool, true, false, ◌&&◌, cond, and-true, and-false}
 use mathlib.Core.List.{List, [], ◌∷◌, ◌++◌, map}
 use mathlib.Core.Option.{Option, none, some}
 use native.Mathlib.Numerals.{add-one}
@@ -18,7 +18,7 @@ use Rattle.rules.specs.Settings.{mark_words, most_units, identifiers_of, setting
 use Rattle.rules.specs.Units.{units}
 use Rattle.rules.specs.Ranges.{list_tests}
 use Rattle.rules.specs.Queue.{queue_ok}
-use Rattle.rules.specs.Device.{Held, held_count, held_units, held_in, held_of, held_ok, no_share, shares_ok, share_in, share_of, shares_of, fresh_controller, controllers_of, suspended_at, front_ok, sequence_ok, queues_ok, is_within, sound_rules, sound, sound_device}
+use Rattle.rules.specs.Device.{Held, held_units, held_in, held_of, held_ok, no_share, shares_ok, share_in, share_of, shares_of, fresh_controller, controllers_of, suspended_at, front_ok, sequence_ok, queues_ok, is_within, sound_rules, sound, sound_device}
 use Rattle.rules.specs.declared.Range.{Range}
 use Rattle.rules.specs.declared.Tracking.{Tracking}
 use Rattle.rules.specs.declared.Tracking.TheVariants.{Off, On}
@@ -33,7 +33,7 @@ use Rattle.rules.proofs.ListLaws.{every-not, get_d_any, all_map, and_left, and_r
 use Rattle.rules.proofs.RefusalLaws.{passes-Passed}
 use Rattle.rules.proofs.SoundLaws.{sound-settings, sound-held, sound-shelf, sound-units, sound-rest}
 use Rattle.rules.proofs.HeldLaws.{lie}
-use Rattle.record.specs.Record.{no_controller, managed_of, counts_of, units_of, weight_of, first_of, weights_of, sound_with, place_at, where_is, where_by, seen_in, front_of}
+use Rattle.record.specs.Record.{no_controller, managed_of, counts_of, units_of, first_of, weights_of, sound_with, place_at, where_is, where_by, seen_in, front_of}
 use Rattle.record.specs.Inner.{kept_in, nothing_walked, walk_of, within_limits, Countable}
 use Rattle.settings.specs.Found.{found_at}
 use Rattle.settings.specs.declared.Found.TheVariants as found

@@ -1,6 +1,6 @@
 -- The device record as a call meets it: where its controller stands, and what it sees (rules' `Seen`). All of it is the library's interface.
 -- What makes a record sound, and which refusals follow, is defined in `rules`.
-use Rattle.std.specs.Prelude.{ℕ, Bool, true, false, ◌&&◌, not, cond, List, [], ◌++◌, map, eqb, length, take, get_or, set, replicate}
+use Rattle.std.specs.Prelude.{ℕ, Bool, false, ◌&&◌, not, cond, List, [], ◌++◌, map, eqb, length, take, get_or, set, replicate}
 use Rattle.std.proofs.Math.Option.{Option, none, some}
 use Rattle.rules.specs.Lists.{sum, is_some}
 use Rattle.rules.specs.Settings.{mark_words, is_manager, place_of}

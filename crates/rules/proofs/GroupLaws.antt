@@ -4,7 +4,7 @@ use mathlib.Core.Logic.{◌↔◌}
 use mathlib.Core.Bool.{Bool, true, false, cond, true≢false}
 use mathlib.Core.List.{List, [], ◌∷◌, ◌++◌}
 use mathlib.Core.Option.{none, some}
-use Prim.Native.Nat.{ℕ, zero, suc, ◌+◌, ◌-◌, ◌*◌, ◌/◌, ◌≤◌, ◌<◌}
+use Prim.Native.Nat.{ℕ, zero, suc, ◌+◌, ◌*◌, ◌/◌, ◌≤◌, ◌<◌}
 use native.Mathlib.Omega.{arith}
 use lib.ListN.{length, take, drop, get_elem?, length-append}
 use lib.Seq.{take_all, drop_at}
@@ -212,9 +212,9 @@ same-to b g k us p q n l l' more inside e =
     let stays : non_empty (later_runs k us q) ≡ true = ap (λ x. non_empty (drop k (runs x))) split-q ∙ t.1 in
     rw (reported, stays, more, pending_at-same p q (length (join (reported_runs k us p))) n l' e inside)
 
-pub no-further : (b : Bool) (g k : ℕ) (us : List Unit) (p q : List Bool) → length p ≡ length us → length q ≡ length p
+pub no_further : (b : Bool) (g k : ℕ) (us : List Unit) (p q : List Bool) → length p ≡ length us → length q ≡ length p
     → take (64 * groups_on k us p) q ≡ take (64 * groups_on k us p) p → report_on b g k us q ≡ report_on b g k us p
-no-further b g k us p q l l' e = go (non_empty (later_runs k us p)) refl
+no_further b g k us p q l l' e = go (non_empty (later_runs k us p)) refl
   where
     go : (c : Bool) → non_empty (later_runs k us p) ≡ c → report_on b g k us q ≡ report_on b g k us p
     go false e' =

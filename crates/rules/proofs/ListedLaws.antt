@@ -4,13 +4,12 @@ use mathlib.Core.Path.{◌≡◌, refl, sym, ap, subst, ◌∙◌}
 use mathlib.Core.Logic.{◌⊎◌, inl, inr}
 use mathlib.Core.Bool.{Bool, true, false, ◌||◌, not, cond, true≢false}
 use mathlib.Core.List.{List, [], ◌∷◌, ◌++◌, append_assoc}
-use mathlib.Core.Option.{none, some}
 use Prim.Native.Nat.{ℕ, zero, suc, ◌+◌, ◌*◌, ◌%◌, ◌≤◌, ◌<◌}
 use native.Mathlib.Omega.{arith}
 use native.Mathlib.Nat.{suc-mul, zero-mul, add-mod_right}
 use native.Mathlib.Decide.{dec_lt}
 use lib.Dec.{leb, ltb, eqb}
-use lib.ListN.{length, take, get_or, get_elem?, length-append}
+use lib.ListN.{length, take, get_or, length-append}
 use lib.Seq.{get_or_at, take_at}
 use borrow.Author.Tests.{le-leb, lt-ltb, leb-true, ltb-true, eq-eqb, eqb-true, not-true}
 use Rattle.rules.specs.Lists.{any, keep}
@@ -20,9 +19,9 @@ use Rattle.rules.specs.Ranges.{row_ok, rows_ok}
 use Rattle.rules.specs.StartData.{no_range}
 use Rattle.rules.specs.Demands.{InRange, UnitsListed}
 use Rattle.rules.specs.declared.Range.{Range}
-use Rattle.rules.proofs.ListLaws.{All, All-map, All-both, All-append, All-keep, All-kept, All-at, Pairwise, Pairwise-append, Pairwise-keep, Pairwise-at, and_left, and_right, and_intro, or-intro-left, or-intro-right, or-neither, any_snoc, any-none-at, any-from, any_where, some_inj}
+use Rattle.rules.proofs.ListLaws.{All, All-map, All-both, All-append, All-keep, All-kept, All-at, Pairwise, Pairwise-append, Pairwise-keep, Pairwise-at, and_left, and_right, and_intro, or-intro-left, or-intro-right, or-neither, any_snoc, any-none-at, any-from, any_where}
 use Rattle.rules.proofs.RowLaws.{row_ok-facts}
-use Rattle.rules.proofs.UnitLaws.{In, Free, Apart, Apart-at, Aligned, aligned-gap, unit_size-pos, units_of_row-row, units_of_row-within, units_from-sized, units_from-aligned, units_from-apart}
+use Rattle.rules.proofs.UnitLaws.{Apart-at, Aligned, aligned-gap, unit_size-pos, units_of_row-row, units_of_row-within, units_from-sized, units_from-aligned, units_from-apart}
 
 -- ---- a unit stands in the row of the earliest range that covers it
 

@@ -16,7 +16,7 @@ use Rattle.rules.specs.Report.{follows, with_first, runs, reported_runs, marks_l
 use Rattle.rules.specs.Demands.{is_row, are_cut, becomes, set_in, Runs, Reports, Writes}
 use Rattle.rules.proofs.ListLaws.{All, All-map, All-left, All-at, map_at, join-take-drop, and_left, and_right, and_intro, not-intro}
 use Rattle.rules.proofs.UnitLaws.{Free, Apart, Sized, All-pending, Apart-pending, newly-is, unit_size-pos}
-use Rattle.rules.proofs.GroupLaws.{run_none, groups-run, groups-all, groups-most, no-further}
+use Rattle.rules.proofs.GroupLaws.{run_none, groups-run, groups-all, groups-most, no_further}
 use Rattle.rules.proofs.RunLaws.{listed, runs-join, runs-unlisted, first_runs, marks_left-map, more-exactly}
 
 -- ---- runs are cut where the next unit does not follow, and nowhere else
@@ -135,23 +135,23 @@ sized-some g (u ∷ us) h = (omega (arith, h.0, unit_size-pos g), sized-some g u
 pub reports-map : (b : Bool) (f : Unit → Bool) (g k : ℕ) (us : List Unit) → Sized (unit_size g) us → Apart us → Reports b g k us (map f us)
 reports-map b f g k us sized separate =
     record {
-      are-pending = record { each = pending-each us (map f us); no_more = pending-no-more us (map f us) };
+      are_pending = record { each = pending-each us (map f us); no_more = pending-no-more us (map f us) };
       in_order = runs-join (pending us (map f us));
       rows = (runs-cut (pending us (map f us))).0;
       longest = (runs-cut (pending us (map f us))).1;
       earliest = refl;
-      was-pending = λ n u at e. listed-pending f g k us sized separate n u at e;
-      clear-afterwards = λ n u at e. listed-clear f g k us sized separate n u at e;
-      else-unchanged = λ n u at e. unlisted-same f g k us sized separate n u at e;
+      was_pending = λ n u at e. listed-pending f g k us sized separate n u at e;
+      clear_afterwards = λ n u at e. listed-clear f g k us sized separate n u at e;
+      else_unchanged = λ n u at e. unlisted-same f g k us sized separate n u at e;
       more = (
         (λ e. (non_empty-not (pending us (marks_left k us (map f us)))).0 (sym (more-exactly b g k us (map f us)) ∙ e)),
         (λ e. more-exactly b g k us (map f us) ∙ (non_empty-not (pending us (marks_left k us (map f us)))).1 e),
       );
       examined = λ n u vs e h. groups-run k us (map f us) separate (sized-some g us sized) n u vs e h;
-      examined-all = λ e. groups-all k us (map f us) ((run_none k (runs (pending us (map f us)))).1 e);
+      examined_all = λ e. groups-all k us (map f us) ((run_none k (runs (pending us (map f us)))).1 e);
       stays = run_none k (runs (pending us (map f us)));
-      examined-most = λ few. groups-most k us (map f us) (length-map us f) few;
-      no-further = λ q l e. no-further b g k us (map f us) q (length-map us f) l e;
+      examined_most = λ few. groups-most k us (map f us) (length-map us f) few;
+      no_further = λ q l e. no_further b g k us (map f us) q (length-map us f) l e;
     }
 
 -- ---- the count of a write

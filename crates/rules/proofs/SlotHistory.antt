@@ -16,7 +16,7 @@ use Rattle.rules.specs.Report.{room, report_on, marks_left}
 use Rattle.rules.specs.Order.{Op, start, stop, write, receive, suspend, resume, part, queue, QueueCall, make, post, take, Part, offset_of, is_first, is_last, follows_on, follows, so_far, joined_with, Seen, Arriving, order}
 use Rattle.rules.specs.Machine.{Answer, refused, done, wrote, reported, assembled, Marks, off, on, Slot, fresh_slot, tracker_in, pending_on, places_in, wrote_in, reported_in, queue_in, accepted, slot_step}
 use Rattle.rules.specs.Queue.{Queued}
-use Rattle.rules.specs.History.{Did, is_accepted, touched_by, started_by, reported_by, quiet_since, pending_by, PendingBy, told_by, tracks_after, tracks_by, suspends_after, suspended_by, manages_after, manager_by, opens_after, open_by, joins_with, joins_after, joined_by, front_by, queue_by, marks_by, slot_by}
+use Rattle.rules.specs.History.{Did, is_accepted, touched_by, started_by, reported_by, quiet_since, pending_by, PendingBy, told_by, tracks_after, tracks_by, suspends_after, suspended_by, manages_after, manager_by, opens_after, open_by, joins_with, joins_after, joined_by, front_by, marks_by, slot_by}
 use Rattle.rules.specs.Totals.{units_pending}
 use Rattle.rules.specs.declared.Range.{Range}
 use Rattle.rules.specs.declared.Settings.{Settings}
@@ -101,18 +101,18 @@ told_is : (h : List Did) (t : Marks) → Told h t → t ≡ marks_by h (tracking
 told_is h off k = refl
 told_is h (on g rs p) k = ap (on g rs) k.0
 
-marks-are : (h : List Did) (c : Slot) → Known h c → c.marks ≡ marks_by h (tracks_by none h)
-marks-are h c k = told_is h c.marks k.marks ∙ ap (marks_by h) k.tracked
+marks_are : (h : List Did) (c : Slot) → Known h c → c.marks ≡ marks_by h (tracks_by none h)
+marks_are h c k = told_is h c.marks k.marks ∙ ap (marks_by h) k.tracked
 
 pub known_is : (h : List Did) (c : Slot) → Known h c → c ≡ slot_by h
 known_is h c k =
-    ap₂ (λ b t. record { suspended = b; manager = c.manager; marks = t; front = c.front; queue = c.queue }) k.suspended (marks-are h c k)
+    ap₂ (λ b t. record { suspended = b; manager = c.manager; marks = t; front = c.front; queue = c.queue }) k.suspended (marks_are h c k)
     ∙ ap (λ m. record { suspended = suspended_by false h; manager = m; marks = marks_by h (tracks_by none h); front = c.front; queue = c.queue }) k.manager
     ∙ ap₂ (λ (f : Option (List ℕ)) (q : Option Queued). record { suspended = suspended_by false h; manager = manager_by h; marks = marks_by h (tracks_by none h); front = f; queue = q }) k.front (logged-is h c.queue k.queue)
 
 -- W13: as many units are pending by the history as in the slot
 pub known-pending : (h : List Did) (c : Slot) → Known h c → units_pending h ≡ length (pending_on c.marks)
-known-pending h c k = sym (ap (λ t. length (pending_on t)) (marks-are h c k) ∙ pending_among-is h (tracks_by none h))
+known-pending h c k = sym (ap (λ t. length (pending_on t)) (marks_are h c k) ∙ pending_among-is h (tracks_by none h))
 
 pub known-fresh : Known [] fresh_slot
 known-fresh = record { marks = tt; tracked = refl; manager = refl; suspended = refl; front = refl; queue = logged-fresh; accounts = refl }

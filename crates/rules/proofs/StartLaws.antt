@@ -1,7 +1,7 @@
 -- Laws of the start structure, and both round trips: its reader and its writer rest on one description of a range's record. Assumes nothing.
 use mathlib.Core.Path.{◌≡◌, refl, sym, ap, ◌∙◌}
 use mathlib.Core.List.{List, [], ◌∷◌, ◌++◌, append_assoc}
-use Prim.Native.Nat.{ℕ, ◌+◌, ◌-◌, ◌*◌, ◌%◌, ◌≤◌, ◌<◌}
+use Prim.Native.Nat.{ℕ, ◌+◌, ◌*◌, ◌%◌, ◌≤◌, ◌<◌}
 use native.Mathlib.Nat.{zero-add}
 use native.Mathlib.Omega.{arith}
 use lib.ListN.{length, get_or, take, drop, replicate, length-append}
@@ -80,9 +80,9 @@ module _ (buffer : List ℕ) (g : ℕ) (rs : List Range) (fits : (i : ℕ) → i
       rw count-back
       (records_at-here range_bytes range_at 12 range_bytes-length Fits range_at-here (start_bytes g rs ++ rest) rest 8 (length rs) rs no_range refl fits after-header)
 
-  read-written : g < 256 → start_data (start_written buffer g (length rs) rs) ≡ record { header = Is g (length rs); ranges = placed rs }
+  read_written : g < 256 → start_data (start_written buffer g (length rs) rs) ≡ record { header = Is g (length rs); ranges = placed rs }
   unfolding start_bytes number_bytes
-  read-written small =
+  read_written small =
       let long : start_size (length rs) ≤ length (start_bytes g rs ++ rest) = omega (arith, length-append (start_bytes g rs) rest, start_bytes-length g rs) in
       rw written_is
       (start_data-whole (start_bytes g rs ++ rest) g (length rs) refl (omega arith) count-back few long ∙ rw ranges-back)
@@ -172,7 +172,7 @@ rest-unchanged buffer g n rs =
 pub without-loss : WithoutLoss
 without-loss =
     record {
-      read-written = λ buffer g rs small fits few room. read-written buffer g rs fits few room small;
+      read_written = λ buffer g rs small fits few room. read_written buffer g rs fits few room small;
       written_read = written_read;
       rest = rest-unchanged;
     }

@@ -3,7 +3,7 @@ use mathlib.Core.Path.{◌≡◌, refl, sym, ap, subst, ◌∙◌}
 use mathlib.Core.Logic.{◌↔◌, ◌≢◌}
 use mathlib.Core.Bool.{Bool, true, false, cond, and-false, true≢false}
 use mathlib.Core.List.{List, [], ◌∷◌, ◌++◌}
-use mathlib.Core.Option.{Option, none, some}
+use mathlib.Core.Option.{Option, some}
 use Prim.Native.Nat.{ℕ, ◌+◌, ◌-◌, ◌%◌, ◌^◌, ◌≤◌, ◌<◌}
 use native.Mathlib.Omega.{arith}
 use native.Mathlib.Nat.{lt_of_lt_of_le, mul-mod_right}
@@ -190,11 +190,11 @@ totals =
         (λ e. shown_of-passed (units_marked h) (units_reported h) (units_dropped h) e),
         (λ p. shown_of-unknown (units_marked h) (units_reported h) (units_dropped h) p),
       );
-      marked-grows = units_marked-grows;
-      reported-grows = units_reported-grows;
-      dropped-grows = units_dropped-grows;
+      marked_grows = units_marked-grows;
+      reported_grows = units_reported-grows;
+      dropped_grows = units_dropped-grows;
       stays = shown_by-stays;
-      from-then-on = λ s words ks ks' a e.
+      from_then_on = λ s words ks ks' a e.
           subst (λ h. shown_by h ≡ unknown) (sym (history-append a ks ks' (fresh s words))) (shown_by-stays (session_history s words ks a) _ e);
     }
 
@@ -246,7 +246,7 @@ layouts =
       reserved = λ id r. refl;
       behind = λ id r. refl;
       spare = λ d. refl;
-      no-groups = λ id n r. refl;
+      no_groups = λ id n r. refl;
     }
   where
     bits : (b m : Bool) → (flag b 2 + flag m 1) % 256 ≡ cond b 2 0 + cond m 1 0

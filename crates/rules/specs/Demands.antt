@@ -169,7 +169,7 @@ pub record Runs : Type 0 where
 -- left with marks p on the units us of its ranges, and a report with room for k runs
 pub record Reports (b : Bool) (g k : ℕ) (us : List Unit) (p : List Bool) : Type 0 where
   -- the pending units, each once and in the order of the units
-  pub are-pending : PendingAre us p
+  pub are_pending : PendingAre us p
   -- the runs are the pending units in their order, cut where the next unit does not follow in the same range, and nowhere else
   pub in_order : join (runs (pending us p)) ≡ pending us p
   pub rows : all is_row (runs (pending us p)) ≡ true
@@ -177,21 +177,21 @@ pub record Reports (b : Bool) (g k : ℕ) (us : List Unit) (p : List Bool) : Typ
   -- the first k are listed
   pub earliest : (report_on b g k us p).descriptors ≡ map descriptor (take k (runs (pending us p)))
   -- what is reported was pending and is clear afterwards; all else is unchanged
-  pub was-pending : (n : ℕ) (u : Unit) → get_elem? us n ≡ some u
+  pub was_pending : (n : ℕ) (u : Unit) → get_elem? us n ≡ some u
       → any (λ (d : Descriptor). lists g d u) (report_on b g k us p).descriptors ≡ true → get_elem? p n ≡ some true
-  pub clear-afterwards : (n : ℕ) (u : Unit) → get_elem? us n ≡ some u
+  pub clear_afterwards : (n : ℕ) (u : Unit) → get_elem? us n ≡ some u
       → any (λ (d : Descriptor). lists g d u) (report_on b g k us p).descriptors ≡ true → get_elem? (marks_left k us p) n ≡ some false
-  pub else-unchanged : (n : ℕ) (u : Unit) → get_elem? us n ≡ some u
+  pub else_unchanged : (n : ℕ) (u : Unit) → get_elem? us n ≡ some u
       → any (λ (d : Descriptor). lists g d u) (report_on b g k us p).descriptors ≡ false → get_elem? (marks_left k us p) n ≡ get_elem? p n
   -- More is clear exactly when nothing stays pending
   pub more : ((report_on b g k us p).more ≡ false) ↔ (pending us (marks_left k us p) ≡ [])
   -- W10: "up to and including the one where run k + 1 begins", which is unit n, "or, if there is none, all"; there is one exactly if More is set
   pub examined : (n : ℕ) (u : Unit) (vs : List Unit) → get_elem? (runs (pending us p)) k ≡ some (u ∷ vs) → get_elem? us n ≡ some u → (report_on b g k us p).groups ≡ n / 64 + 1
-  pub examined-all : get_elem? (runs (pending us p)) k ≡ none → (report_on b g k us p).groups ≡ (length us + 63) / 64
+  pub examined_all : get_elem? (runs (pending us p)) k ≡ none → (report_on b g k us p).groups ≡ (length us + 63) / 64
   pub stays : ((report_on b g k us p).more ≡ false) ↔ (get_elem? (runs (pending us p)) k ≡ none)
-  pub examined-most : length us ≤ 16384 → (report_on b g k us p).groups ≤ 256
+  pub examined_most : length us ≤ 16384 → (report_on b g k us p).groups ≤ 256
   -- and nothing behind these groups is asked: with other marks there the report is the same
-  pub no-further : (q : List Bool) → length q ≡ length p
+  pub no_further : (q : List Bool) → length q ≡ length p
       → let n = 64 * (report_on b g k us p).groups in
       take n q ≡ take n p → report_on b g k us q ≡ report_on b g k us p
 
@@ -246,7 +246,7 @@ Bytes x = (i : ℕ) → get_or x i 0 < 256
 
 pub record WithoutLoss : Type 0 where
   -- reading what was written gives the same values
-  pub read-written : (buffer : List ℕ) (g : ℕ) (rs : List Range) → g < 256 → ((i : ℕ) → i < length rs → Fits (get_or rs i (record { start = 0; length = 0 })))
+  pub read_written : (buffer : List ℕ) (g : ℕ) (rs : List Range) → g < 256 → ((i : ℕ) → i < length rs → Fits (get_or rs i (record { start = 0; length = 0 })))
       → length rs ≤ 16 → start_size (length rs) ≤ length buffer
       → start_data (start_written buffer g (length rs) rs) ≡ record { header = Is g (length rs); ranges = placed rs }
   -- writing what was read gives the same bytes where the reserved bytes were zero
@@ -338,12 +338,12 @@ pub record Totals : Type 0 where
       → shown_by h ≡ known (units_marked h) (units_reported h) (units_dropped h)
   pub passed : (h : List Did) → (shown_by h ≡ unknown) ↔ Passes (units_marked h) (units_reported h) (units_dropped h)
   -- they never fall as a history grows
-  pub marked-grows : (h h' : List Did) → units_marked h ≤ units_marked (h ++ h')
-  pub reported-grows : (h h' : List Did) → units_reported h ≤ units_reported (h ++ h')
-  pub dropped-grows : (h h' : List Did) → units_dropped h ≤ units_dropped (h ++ h')
+  pub marked_grows : (h h' : List Did) → units_marked h ≤ units_marked (h ++ h')
+  pub reported_grows : (h h' : List Did) → units_reported h ≤ units_reported (h ++ h')
+  pub dropped_grows : (h h' : List Did) → units_dropped h ≤ units_dropped (h ++ h')
   -- so they read "unknown from then on": of any history, and of a session that goes on
   pub stays : (h h' : List Did) → shown_by h ≡ unknown → shown_by (h ++ h') ≡ unknown
-  pub from-then-on : (s : Settings) (words : ℕ) (ks ks' : List Call) (a : ℕ)
+  pub from_then_on : (s : Settings) (words : ℕ) (ks ks' : List Call) (a : ℕ)
       → shown_by (session_history s words ks a) ≡ unknown → shown_by (session_history s words (ks ++ ks') a) ≡ unknown
 
 -- ---- granularities

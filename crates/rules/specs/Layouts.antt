@@ -1,6 +1,6 @@
 -- The bytes of a start structure and of a report, written out once: where each field stands, and its lowest byte first. That the rules give these bytes is
 -- proved by computing (proofs/Theorems.antt).
-use Rattle.std.specs.Prelude.{ℕ, ◌+◌, ◌≡◌, true, false, cond, List, [], ◌∷◌, take, drop, get_or}
+use Rattle.std.specs.Prelude.{ℕ, ◌+◌, ◌≡◌, true, false, cond, [], ◌∷◌, take, drop, get_or}
 use Rattle.rules.specs.StartData.{start_bytes}
 use Rattle.little.specs.Little.{records}
 use Rattle.rules.specs.Report.{Report, Descriptor, descriptor_bytes, report_bytes}
@@ -21,5 +21,5 @@ pub record Layouts : Type 0 where
   pub behind : (id : ℕ) (r : Report) → drop 16 (report_bytes id r) ≡ records descriptor_bytes r.descriptors
   pub spare : (d : Descriptor) → drop 12 (descriptor_bytes d) ≡ 0 ∷ 0 ∷ 0 ∷ 0 ∷ []
   -- W10: no byte tells of the groups that were examined
-  pub no-groups : (id n : ℕ) (r : Report)
+  pub no_groups : (id n : ℕ) (r : Report)
       → report_bytes id (record { suspended = r.suspended; more = r.more; granularity = r.granularity; descriptors = r.descriptors; groups = n }) ≡ report_bytes id r

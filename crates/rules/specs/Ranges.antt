@@ -1,6 +1,6 @@
 -- Document 01, "The start structure", range rules, and rule 10 of the same ranges. W3: each of the range rules has a number of its own, 18 to 21,
 -- and names the row that it is about, counted from 0, the earliest row first.
-use Rattle.std.specs.Prelude.{ℕ, suc, ◌%◌, ◌^◌, Bool, ◌||◌, not, List, [], ◌∷◌, ◌++◌, leb, eqb, length}
+use Rattle.std.specs.Prelude.{ℕ, suc, ◌%◌, ◌^◌, Bool, ◌||◌, not, List, [], ◌∷◌, ◌++◌, leb, eqb}
 use Rattle.rules.specs.Lists.{all, some_below}
 use Rattle.rules.specs.Refusals.{Test, ◌else◌, ◌place◌, passes}
 use Rattle.rules.specs.Settings.{unit_size}

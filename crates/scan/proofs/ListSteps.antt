@@ -171,11 +171,11 @@ module _ (g : ℕ) (rs : List Range) (l : List Bool) (base : ℕ) (x : List ℕ)
         → Lists g rs l base x room j false (n / 64 + (n % 64 + 63) / 64) l' x'
     listing-done n e =
         record {
-          count-is = sym (ap length whole ∙ exact);
-          more-is = sym none_stays;
-          groups-is = up ∙ sym (groups-all room us p none_stays);
+          count_is = sym (ap length whole ∙ exact);
+          more_is = sym none_stays;
+          groups_is = up ∙ sym (groups-all room us p none_stays);
           bits_are = sym (left_is (ap₂ (λ a b. length (join a) + length b) whole none ∙ all_first));
-          bytes-are = s.bytes ∙ ap (λ r. put x 16 (records descriptor_bytes (map descriptor r))) (first ∙ sym whole);
+          bytes_are = s.bytes ∙ ap (λ r. put x 16 (records descriptor_bytes (map descriptor r))) (first ∙ sym whole);
         }
       where
         none : pending (drop pos us) (drop pos p) ≡ []
@@ -242,11 +242,11 @@ module _ (g : ℕ) (rs : List Range) (l : List Bool) (base : ℕ) (x : List ℕ)
       pub listing_full : j ≡ room → Lists g rs l base x room j true (from / 64 + 1) l' x'
       listing_full e =
           record {
-            count-is = sym (ap (λ k. length (take k every)) (sym e) ∙ omega (arith, length-take j every, s.there));
-            more-is = sym stays;
-            groups-is = sym (groups-to room us p from p-length stays (set_at p from set) before);
+            count_is = sym (ap (λ k. length (take k every)) (sym e) ∙ omega (arith, length-take j every, s.there));
+            more_is = sym stays;
+            groups_is = sym (groups-to room us p from p-length stays (set_at p from set) before);
             bits_are = sym (left_is left);
-            bytes-are = s.bytes ∙ ap (λ k. put x 16 (records descriptor_bytes (map descriptor (take k every)))) e;
+            bytes_are = s.bytes ∙ ap (λ k. put x 16 (records descriptor_bytes (map descriptor (take k every)))) e;
           }
         where
           stays : non_empty (later_runs room us p) ≡ true

@@ -72,8 +72,8 @@ units_in (Nothing n) = n
 
 -- what a report with room for so many runs lists and leaves, of the marks that stand in bits l from `base` on and of a buffer x
 pub record Lists (g : ℕ) (rs : List Range) (l : List Bool) (base : ℕ) (x : List ℕ) (room count : ℕ) (more : Bool) (groups : ℕ) (l' : List Bool) (x' : List ℕ) : Type 0 where
-  pub count-is : count ≡ length (reported_runs room (units g rs) (get_share l base (length (units g rs))))
-  pub more-is : more ≡ non_empty (later_runs room (units g rs) (get_share l base (length (units g rs))))
-  pub groups-is : groups ≡ groups_on room (units g rs) (get_share l base (length (units g rs)))
+  pub count_is : count ≡ length (reported_runs room (units g rs) (get_share l base (length (units g rs))))
+  pub more_is : more ≡ non_empty (later_runs room (units g rs) (get_share l base (length (units g rs))))
+  pub groups_is : groups ≡ groups_on room (units g rs) (get_share l base (length (units g rs)))
   pub bits_are : l' ≡ put_share l base (marks_left room (units g rs) (get_share l base (length (units g rs))))
-  pub bytes-are : x' ≡ put x 16 (records descriptor_bytes (map descriptor (reported_runs room (units g rs) (get_share l base (length (units g rs))))))
+  pub bytes_are : x' ≡ put x 16 (records descriptor_bytes (map descriptor (reported_runs room (units g rs) (get_share l base (length (units g rs))))))

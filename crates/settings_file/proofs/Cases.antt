@@ -115,6 +115,6 @@ module _ (l : List ℕ) (v : ℕ) (s : Settings) (b : Bool) (e : b ≡ settings_
         unfolding file_written
         write-short h = (rw (ok, can, ← en, lt-leb n (length l) h), rw (ok, can, ← en, lt-leb n (length l) h))
 
-        pub write-whole : n ≤ length l → (l' : List ℕ) → l' ≡ put l 0 (file_bytes v s) → Wrote l v s 0 l'
+        pub write_whole : n ≤ length l → (l' : List ℕ) → l' ≡ put l 0 (file_bytes v s) → Wrote l v s 0 l'
         unfolding file_written
-        write-whole room l' el = (rw (ok, can, ← en, le-leb n (length l) room), el ∙ rw (ok, can, ← en, le-leb n (length l) room))
+        write_whole room l' el = (rw (ok, can, ← en, le-leb n (length l) room), el ∙ rw (ok, can, ← en, le-leb n (length l) room))

@@ -112,9 +112,9 @@ one : (x : List ℕ) → version_in x ≡ 1 → (new_read x).number ≡ 0 → ((
 unfolding second_in shelf_in
 one x e h = rw ((accepted x h).read, e) (refl, refl)
 
-version-two : (x : List ℕ) → 5 ≤ length x → take 3 x ≡ mark → version_in x ≡ 2 → old_read x ≡ record { number = 32; settings = closed_settings }
+version_two : (x : List ℕ) → 5 ≤ length x → take 3 x ≡ mark → version_in x ≡ 2 → old_read x ≡ record { number = 32; settings = closed_settings }
 unfolding read_up_to
-version-two x long begins two = rw (le-leb 5 (length x) long, mark-is x long begins, two)
+version_two x long begins two = rw (le-leb 5 (length x) long, mark-is x long begins, two)
 
 pub both-readers : BothReaders
-both-readers = record { same = same; one = one; version-two = version-two }
+both-readers = record { same = same; one = one; version_two = version_two }

@@ -96,8 +96,8 @@ readers =
     record {
       old = refuses 1 (λ v. eqb v 1) known-old;
       new = refuses 2 (λ v. eqb v 1 || eqb v 2) known-new;
-      old-zeros = zeros 1;
-      new-zeros = zeros 2;
+      old_zeros = zeros 1;
+      new_zeros = zeros 2;
     }
 
 -- ---- the writer

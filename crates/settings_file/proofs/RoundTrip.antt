@@ -16,13 +16,12 @@ use Rattle.little.proofs.Numbers.{number_at-here, number_at-next, number_at-boun
 use Rattle.little.proofs.Records.{records_at-here, records_at-at, records_at-length, records-records_at}
 use Rattle.rules.specs.Lists.{all}
 use Rattle.rules.specs.Refusals.{refusal}
-use Rattle.rules.specs.Settings.{second_rules, settings_ok, second_limit}
+use Rattle.rules.specs.Settings.{settings_ok, second_limit}
 use Rattle.rules.specs.Device.{cleaned}
 use Rattle.rules.specs.Demands.{Bytes}
 use Rattle.rules.specs.declared.Second.{Second}
 use Rattle.rules.specs.declared.Second.TheVariants.{Nothing, Is}
 use Rattle.rules.specs.declared.Settings.{Settings}
-use Rattle.rules.proofs.StateLaws.{cleaned-identifiers}
 use Rattle.rules.proofs.SoundLaws.{cleaned-ok}
 use Rattle.rules.proofs.RefusalLaws.{Passed, passes-Passed, refusal-none}
 use Rattle.settings.proofs.SettingsLaws.{settings_ok-at, settings_ok-count, settings_ok-greatest, settings_ok-limit, settings_ok-shelf, settings_ok-other}
@@ -424,10 +423,10 @@ writable size v s e =
     passes-Passed (write_tests size v s)
     (sym (refusal-none (write_tests size v s) (omega arith, (omega arith, (omega arith, tt)))) ∙ eq-eqb (refusal (write_tests size v s)) 0 e)
 
-read-written : (buffer : List ℕ) (v : ℕ) (s : Settings) → Fits s → refusal (write_tests (length buffer) v s) ≡ 0
+read_written : (buffer : List ℕ) (v : ℕ) (s : Settings) → Fits s → refusal (write_tests (length buffer) v s) ≡ 0
     → new_read (take (file_size v) (file_written buffer v s)) ≡ record { number = 0; settings = cleaned s }
 unfolding file_written
-read-written buffer v s fit e =
+read_written buffer v s fit e =
     let h = writable (length buffer) v s e in
     let room : file_size v ≤ length buffer = leb-true (file_size v) (length buffer) h.1.1.0 in
     rw (h.0, h.1.0, h.1.1.0, put-take-front buffer (file_size v) (file_bytes v s) (file_bytes-length v s fit.places) room) (read-file v s fit h.0 h.1.0)
@@ -465,7 +464,7 @@ survives : (buffer x : List ℕ) (v : ℕ) → Bytes x → (new_read x).number �
     → new_read (take (file_size v) (file_written buffer v (new_read x).settings)) ≡ new_read x
 survives buffer x v b e =
     let a = accepted x e in
-    rw a.read (λ w. read-written buffer v (settings_in (version_in x) x) (read_fits (version_in x) x b) w
+    rw a.read (λ w. read_written buffer v (settings_in (version_in x) x) (read_fits (version_in x) x b) w
     ∙ ap (λ (s : Settings). record { number = 0; settings = s }) (clean_back (settings_in (version_in x) x) a.spare))
 
 -- ---- where the fields stand
@@ -503,4 +502,4 @@ pub layout : Layout
 layout x e = let a = accepted x e in rw a.read (laid-at (version_in x) x refl a)
 
 pub one-encoding : OneEncoding
-one-encoding = record { survives = survives; read-written = read-written; written_read = written_read; one = one }
+one-encoding = record { survives = survives; read_written = read_written; written_read = written_read; one = one }

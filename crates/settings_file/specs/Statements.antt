@@ -54,8 +54,8 @@ pub record Readers : Type 0 where
   pub old : Refuses (λ x. (old_read x).number) (λ v. eqb v 1)
   pub new : Refuses (λ x. (new_read x).number) (λ v. eqb v 1 || eqb v 2)
   -- a refusal comes with zeros
-  pub old-zeros : (x : List ℕ) → (old_read x).number ≢ 0 → (old_read x).settings ≡ closed_settings
-  pub new-zeros : (x : List ℕ) → (new_read x).number ≢ 0 → (new_read x).settings ≡ closed_settings
+  pub old_zeros : (x : List ℕ) → (old_read x).number ≢ 0 → (old_read x).settings ≡ closed_settings
+  pub new_zeros : (x : List ℕ) → (new_read x).number ≢ 0 → (new_read x).settings ≡ closed_settings
 
 -- the writer: 16, 32, 8, and otherwise it is done; which version can hold which settings
 pub record Writer : Type 0 where
@@ -76,7 +76,7 @@ pub record OneEncoding : Type 0 where
   pub survives : (buffer x : List ℕ) (v : ℕ) → Bytes x → (new_read x).number ≡ 0 → refusal (write_tests (length buffer) v (new_read x).settings) ≡ 0
       → new_read (take (file_size v) (file_written buffer v (new_read x).settings)) ≡ new_read x
   -- reading what was written gives the settings, with zeros in the places that are not in use
-  pub read-written : (buffer : List ℕ) (v : ℕ) (s : Settings) → Fits s → refusal (write_tests (length buffer) v s) ≡ 0
+  pub read_written : (buffer : List ℕ) (v : ℕ) (s : Settings) → Fits s → refusal (write_tests (length buffer) v s) ≡ 0
       → new_read (take (file_size v) (file_written buffer v s)) ≡ record { number = 0; settings = cleaned s }
   -- writing what was read, at its version, is done where there is room, and gives the file's bytes
   pub written_read : (buffer x : List ℕ) → Bytes x → (new_read x).number ≡ 0 → length x ≤ length buffer
@@ -91,4 +91,4 @@ pub record BothReaders : Type 0 where
   pub same : (x : List ℕ) → version_in x ≡ 1 → new_read x ≡ old_read x
   pub one : (x : List ℕ) → version_in x ≡ 1 → (new_read x).number ≡ 0 → ((new_read x).settings.second ≡ Nothing) × ((new_read x).settings.shelf ≡ 128)
   -- every file of version 2, and all else that begins like one, is refused by the old reader with 32
-  pub version-two : (x : List ℕ) → 5 ≤ length x → take 3 x ≡ mark → version_in x ≡ 2 → old_read x ≡ record { number = 32; settings = closed_settings }
+  pub version_two : (x : List ℕ) → 5 ≤ length x → take 3 x ≡ mark → version_in x ≡ 2 → old_read x ≡ record { number = 32; settings = closed_settings }

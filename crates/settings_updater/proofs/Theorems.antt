@@ -13,7 +13,7 @@ use Rattle.settings_updater.proofs.AnswerLaws.{version-refused, save-refused, sa
 numbers : (x : List ℕ) → Numbers x
 numbers x =
     record {
-      no-version = λ h. sym (version-refused x (new_read x).number refl h);
+      no_version = λ h. sym (version-refused x (new_read x).number refl h);
       version = λ h. sym (version-accepted x (new_read x).number refl h);
       on = λ h. rw h;
       off = λ h. rw h;

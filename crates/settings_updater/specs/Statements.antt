@@ -6,9 +6,9 @@ use Rattle.rules.specs.declared.Second.TheVariants.{Nothing, Is}
 use Rattle.settings_file.specs.File.{file_size, version_in, new_read, write_tests, file_written}
 use Rattle.settings_updater.specs.Answers.{file_version, file_rule, file_identifier, file_second, file_second_limit, save_number, saved}
 
--- its numbers: a refused file's version is 0, and its settings are zeros (`Readers`, `new-zeros`)
+-- its numbers: a refused file's version is 0, and its settings are zeros (`Readers`, `new_zeros`)
 pub record Numbers (x : List ℕ) : Type 0 where
-  pub no-version : (new_read x).number ≢ 0 → file_version x ≡ 0
+  pub no_version : (new_read x).number ≢ 0 → file_version x ≡ 0
   pub version : (new_read x).number ≡ 0 → file_version x ≡ version_in x
   pub on : (new_read x).settings.powers ≡ true → file_rule x ≡ 1
   pub off : (new_read x).settings.powers ≡ false → file_rule x ≡ 0

@@ -47,7 +47,7 @@ reported-few room us p count e = omega (arith, length-take room (runs (pending u
 
 pub lists-few : (g : ℕ) (rs : List Range) (l : List Bool) (base : ℕ) (x : List ℕ) (room count : ℕ) (more : Bool) (groups : ℕ) (l' : List Bool) (x' : List ℕ)
     → Lists g rs l base x room count more groups l' x' → count ≤ length (units g rs)
-lists-few g rs l base x room count more groups l' x' s = reported-few room (units g rs) (get_share l base (length (units g rs))) count s.count-is
+lists-few g rs l base x room count more groups l' x' s = reported-few room (units g rs) (get_share l base (length (units g rs))) count s.count_is
 
 -- ---- the cases
 
@@ -107,13 +107,13 @@ module _ (en : Engine) (d : Device) (ws : List ℕ) (m id : ℕ) (x : List ℕ) 
           → runs ≡ length (reported_runs k us p) → more ≡ non_empty (later_runs k us p) → groups ≡ groups_on k us p → ws' ≡ en.reported ws it.base k us
           → x' ≡ put x 16 (records descriptor_bytes (map descriptor (reported_runs k us p))) → x'' ≡ put x' 0 (report_header id b more runs g)
           → Receives (receive_by en d ws m id x) (record { number = 0; suspended = b; more = more; granularity = g; runs = runs; groups = groups }) ws' x''
-      receive-done h ws' x' x'' runs more groups count-is more-is groups-are marks-are bytes-are q =
+      receive-done h ws' x' x'' runs more groups count_is more_is groups-are marks_are bytes_are q =
           let r : Report = report_on b g k us p in
-          let c : runs ≡ length r.descriptors = count-is ∙ sym (length-map (reported_runs k us p) descriptor) in (
-            ap₂ (λ a z. record { number = 0; suspended = b; more = a; granularity = g; runs = z; groups = groups }) more-is c
+          let c : runs ≡ length r.descriptors = count_is ∙ sym (length-map (reported_runs k us p) descriptor) in (
+            ap₂ (λ a z. record { number = 0; suspended = b; more = a; granularity = g; runs = z; groups = groups }) more_is c
                 ∙ ap (λ n. record { number = 0; suspended = b; more = r.more; granularity = g; runs = length r.descriptors; groups = n }) groups-are ∙ sym (ap (λ (y : Receipt). y.answer) (receive-on h)),
-            marks-are ∙ sym (ap (λ (y : Receipt). y.marks) (receive-on h)),
-            report-done id r x x' x'' runs c bytes-are (q ∙ ap (λ a. put x' 0 (report_header id b a runs g)) more-is) ∙ sym (ap (λ (y : Receipt). y.buffer) (receive-on h)),
+            marks_are ∙ sym (ap (λ (y : Receipt). y.marks) (receive-on h)),
+            report-done id r x x' x'' runs c bytes_are (q ∙ ap (λ a. put x' 0 (report_header id b a runs g)) more_is) ∙ sym (ap (λ (y : Receipt). y.buffer) (receive-on h)),
           )
 
 -- ---- in words

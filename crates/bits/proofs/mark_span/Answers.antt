@@ -37,7 +37,7 @@ loop-k-init c = (refl, omega arith, refl)
 pub returns-then-words-i : goal.returns-then-words-i
 returns-then-words-i c =
     let l = c.loop-k in
-    let n = c.args.to - l.k in record { bits = sym (fill-past true (flat l.words) l.k n (omega (arith, flat-length l.words))) ∙ l.invariant.0; count = omega (arith, clears-past (flat l.words) l.k n (omega (arith, flat-length l.words))); }
+    let n = c.args.to - l.k in record { bits = sym (fill-past true (flat l.words) l.k n (omega (arith, flat-length l.words))) ∙ l.invariant.0; count = omega (arith, clears-past (flat l.words) l.k n (omega (arith, flat-length l.words))) }
 
 pub overflow_cast-n : goal.overflow_cast-n
 overflow_cast-n c = omega (arith, counted c, within c)
@@ -55,4 +55,4 @@ loop-k-preserved c =
 
 pub returns : goal.returns
 returns c =
-    let l = c.loop-k in record { bits = sym (fill-empty true (flat l.words) l.k _ (omega arith)) ∙ l.invariant.0; count = omega (arith, clears-empty (flat l.words) l.k c.args.to (omega arith)); }
+    let l = c.loop-k in record { bits = sym (fill-empty true (flat l.words) l.k _ (omega arith)) ∙ l.invariant.0; count = omega (arith, clears-empty (flat l.words) l.k c.args.to (omega arith)) }

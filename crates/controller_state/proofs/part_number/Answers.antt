@@ -10,7 +10,7 @@ use Rattle.rules.specs.Refusals.{refusal}
 use Rattle.rules.specs.Order.{Part, is_offset, are_counted, part_tests}
 use Rattle.record.specs.Record.{others_in, arriving_in}
 use Rattle.controller_state.specs.Inner.{is_next}
-use Rattle.controller_state.proofs.ArrivalLaws.{offset-is, offset-within, part-others, part-offset, part-data, part-next, part-long, part-more, part-state}
+use Rattle.controller_state.proofs.ArrivalLaws.{offset-is, offset-within, part_others, part-offset, part-data, part_next, part-long, part-more, part-state}
 use Rattle.controller_state.proofs.part_number.Goals as goal
 use Rattle.controller_state.proofs.part_number.Goals.{After-judge, Else-is_others, Else-not-data_ok, Else-not-is_next, Else-not-offset_ok, Start}
 
@@ -67,7 +67,7 @@ last c =
 pub returns-then-is_others : goal.returns-then-is_others
 returns-then-is_others c =
     let a = c.args in
-    part-others a.q a.area.now a.id (record { indicator = a.indicator; low = a.low; high = a.high; count = a.count; bytes = a.«data».now }) (sym c.is_others.ensures ∙ c.if-is_others.true)
+    part_others a.q a.area.now a.id (record { indicator = a.indicator; low = a.low; high = a.high; count = a.count; bytes = a.«data».now }) (sym c.is_others.ensures ∙ c.if-is_others.true)
 
 pub returns-then-not-offset_ok : goal.returns-then-not-offset_ok
 returns-then-not-offset_ok c =
@@ -79,7 +79,7 @@ returns-then-not-data_ok c =
 
 pub returns-then-not-is_next : goal.returns-then-not-is_next
 returns-then-not-is_next c =
-    part-next c.args.q c.args.area.now c.args.id (part (goal.at.returns-then-not-is_next c).Start) (alone (goal.at.returns-then-not-is_next c).Else-is_others) (placed (goal.at.returns-then-not-is_next c).Else-not-offset_ok) (counted (goal.at.returns-then-not-is_next c).Else-not-data_ok) (rw (low (goal.at.returns-then-not-is_next c).Else-not-offset_ok) (sym c.is_next.ensures ∙ not-true _ c.if-not-is_next.true-raw))
+    part_next c.args.q c.args.area.now c.args.id (part (goal.at.returns-then-not-is_next c).Start) (alone (goal.at.returns-then-not-is_next c).Else-is_others) (placed (goal.at.returns-then-not-is_next c).Else-not-offset_ok) (counted (goal.at.returns-then-not-is_next c).Else-not-data_ok) (rw (low (goal.at.returns-then-not-is_next c).Else-not-offset_ok) (sym c.is_next.ensures ∙ not-true _ c.if-not-is_next.true-raw))
 
 pub overflow_sub-offset : goal.overflow_sub-offset
 overflow_sub-offset c = omega (arith, within (goal.at.overflow_sub-offset c).Else-not-offset_ok)

@@ -2,7 +2,7 @@ use mathlib.Core.Path.{refl, sym, subst, ◌∙◌}
 use mathlib.Core.Bool.{true, false}
 use Prim.Native.Nat.{◌+◌, ◌-◌, ◌≤◌}
 use native.Mathlib.Omega.{arith}
-use lib.ListN.{length, take, length-take}
+use lib.ListN.{take, length-take}
 use lib.Seq.{get_or-take}
 use borrow.Author.Rules.{rules}
 use Rattle.rules.specs.Settings.{unit_size, bytes_of}

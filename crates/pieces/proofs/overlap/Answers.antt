@@ -1,5 +1,4 @@
 -- `pieces::overlap` is right because both ranges begin at multiples of the unit, so that units can be counted from address 0.
-use Prim.Native.Nat.{◌^◌, ◌<◌}
 use native.Mathlib.Omega.{arith}
 use Rattle.rules.specs.Settings.{unit_size}
 use Rattle.rules.proofs.RowLaws.{row_ok-facts}

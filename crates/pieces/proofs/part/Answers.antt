@@ -1,7 +1,6 @@
 -- `pieces::part` is right because a unit of a range that ends at most at 2^64 begins below it.
-use Prim.Native.Nat.{◌+◌, ◌^◌, ◌<◌}
 use native.Mathlib.Omega.{arith}
-use Rattle.rules.specs.Settings.{unit_size, bytes_of}
+use Rattle.rules.specs.Settings.{unit_size}
 use Rattle.rules.proofs.UnitLaws.{unit_size-pos}
 use Rattle.pieces.proofs.PieceLaws.{unit-below}
 use Rattle.pieces.proofs.part.Goals as goal

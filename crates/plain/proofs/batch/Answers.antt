@@ -5,7 +5,7 @@ use native.Mathlib.Omega.{arith}
 use lib.ListN.{length}
 use Rattle.calls.specs.declared.Batched.{Batched}
 use Rattle.writes.specs.Inner.{is_due}
-use Rattle.writes.proofs.Turns.{Facts, starts, inside, sound-now, fits_in, turned, nearer, stopped}
+use Rattle.writes.proofs.Turns.{Facts, starts, inside, fits_in, turned, nearer, stopped}
 use Rattle.plain.specs.Bytes.{in_bytes}
 use Rattle.plain.proofs.BatchLaws.{bytes-sized}
 use Rattle.plain.proofs.batch.Goals as goal
@@ -28,11 +28,6 @@ pub bounds-list-b : goal.bounds-list-b
 bounds-list-b c =
     let i = c.loop-d.invariant in
     inside in_bytes bytes-sized c.args.d c.args.area.now c.args.list.now _ _ i.1 (on c) i.0
-
-pub write-r-requires : goal.write-r-requires
-write-r-requires c =
-    let i = c.loop-d.invariant in
-    sound-now in_bytes bytes-sized c.args.d c.args.area.now c.args.list.now _ _ i.1 (on (goal.at.write-r-requires c).In-loop-d) i.0
 
 pub tally-b-requires : goal.tally-b-requires
 tally-b-requires c =

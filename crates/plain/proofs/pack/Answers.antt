@@ -50,10 +50,10 @@ loop-unit-preserved c =
     let s = c.requires in
     let h = room (goal.at.loop-unit-preserved c).In-loop-unit in (
       elim c.if-i-new.branch [
-        then-i-new w ↦
+        | then-i-new w ↦
             rw w.packed-is
             (packing-kept _ _ _ _ p (omega (arith, h, s.0)) w.if-i-new.true (omega (arith, s.0, packing-there _ _ _ _ p s.1 (omega arith) c.loop-unit-test.true w.if-i-new.true)))
-      | else-i-new w ↦ rw w.packed-is (packing-clear _ _ _ _ p (omega (arith, h, s.0)) w.if-i-new.false)
+        | else-i-new w ↦ rw w.packed-is (packing-clear _ _ _ _ p (omega (arith, h, s.0)) w.if-i-new.false)
       ],
       omega arith,
     )

@@ -71,8 +71,9 @@ asks : (c : After-bytes_of-unit)
     → Way c.bytes_of-unit.result.0 c.in-On.n c.ranges_of-ranges.result c.args.area.now (get_or c.args.d.controllers c.in-At.i no_controller).base
 asks c =
     let t = get_or c.args.d.controllers c.in-At.i no_controller in
-    let found = rw (sym c.words_for.ensures) (sym c.locate_by-place.ensures ∙ c.in-At.is) in
-    let placed : where_is c.args.d (words_for (length c.args.area.now)) c.args.id ≡ At c.in-At.i = (where_by-at _ _ c.args.manager _ _ found).1 in
+    let found : where_by c.args.d (words_for (length c.args.area.now)) c.args.manager c.args.id ≡ At c.in-At.i =
+    rw (sym c.words_for.ensures) (sym c.locate_by-place.ensures ∙ c.in-At.is) in
+    let placed : where_is c.args.d (words_for (length c.args.area.now)) c.args.id ≡ At c.in-At.i = (where_by-at _ _ _ _ _ found).1 in
     let e : length c.args.d.controllers ≡ 8 = search (length-mapped, rules) in
     way _ _ _ _ placed (omega (arith, (where_is-at _ _ _ _ placed).below)) _ _
     (tracking_by-on _ t.tracking t.manager _ _ (sym c.tracking_by-t.ensures ∙ c.in-On.is)).0
@@ -110,5 +111,5 @@ overflow_cast-listed c = let s = asks (goal.at.overflow_cast-listed c).After-byt
 pub returns : goal.returns
 returns c =
     let s = rw (one_unit _ _ c.bytes_of-unit.ensures, c.ranges_of-ranges.ensures.0) at c.list_units-listed.ensures in
-    receive-done in_bytes _ _ _ _ _ _ (found' (goal.at.returns c).In-On) _ _ (by (goal.at.returns c).In-On) c.if-size-lt32.false _ _ _ _ _ _ s.count-is s.more-is s.groups-is s.area-is s.buffer-is
+    receive-done in_bytes _ _ _ _ _ _ (found' (goal.at.returns c).In-On) _ _ (by (goal.at.returns c).In-On) c.if-size-lt32.false _ _ _ _ _ _ s.count_is s.more_is s.groups_is s.area_is s.buffer_is
     c.put_header.ensures

@@ -24,7 +24,7 @@ use Rattle.track_send.proofs.StartedLaws.{start-refused, start-suspended, start-
 use Rattle.plain.specs.Bytes.{words_for}
 use Rattle.plain.proofs.AreaLaws.{area-whole}
 use Rattle.plain.proofs.start.Goals as goal
-use Rattle.plain.proofs.start.Goals.{After-number_of, After-read_ranges-ranges, After-sizes_with-sizes, After-slice_known-1, Else-refusal-ne0, In-At, In-Is}
+use Rattle.plain.proofs.start.Goals.{After-number_of, After-read_ranges-ranges, After-sizes_with-sizes, After-slice_known-1, In-At}
 
 -- the record has its eight controllers
 eight : (c : After-slice_known-1) → length c.args.d.controllers ≡ 8
@@ -56,32 +56,33 @@ located : (c : In-At)
     Located a.d (words_for (length a.area.now)) a.id c.in-At.i
 located c = where_is-at _ _ _ _ (where_by-at _ _ _ _ _ (found c)).1
 
--- the header that was read
-listed : (c : In-Is) → header_of c.args.«data».now ≡ Is c.in-Is.g c.in-Is.n
-listed c = sym c.read_header-header.ensures.is ∙ c.in-Is.is
-
 -- what is known of its ranges, once they have passed
-known : (c : Else-refusal-ne0)
+known : (c : After-read_ranges-ranges)
     → let a = c.args in
-    Listed a.d.settings a.manager (units_of a.d) (managed_of a.d a.manager) (counts_of a.d) a.«data».now c.in-Is.g c.in-Is.n (listed c.before.before.before)
-known c = listed-known _ _ _ _ _ _ _ _ (listed c.before.before.before) _ c.listed_refusal-refusal.ensures c.if-refusal-ne0.false
+    Listed a.d.settings a.manager (units_of a.d) (managed_of a.d a.manager) (counts_of a.d) a.«data».now c.in-Is.g c.in-Is.n (sym c.read_header-header.ensures.is ∙ c.in-Is.is)
+known c = listed-known _ _ _ _ _ _ _ _ (sym c.read_header-header.ensures.is ∙ c.in-Is.is) _ c.listed_refusal-refusal.ensures c.if-refusal-ne0.false
 
 -- the ranges that were read are those listed
 read : (c : After-read_ranges-ranges) → c.read_ranges-ranges.result ≡ placed (records_at range_at 12 c.args.«data».now 8 c.in-Is.n)
-read c = let k = known c.before in c.read_ranges-ranges.ensures ∙ ranges_read-there _ _ k.few k.there
+read c = let k = known c in c.read_ranges-ranges.ensures ∙ ranges_read-there _ _ k.few k.there
 
 -- what is known of them and of the record
 starts : (c : After-read_ranges-ranges)
     → Starts c.args.d c.in-At.i c.in-Is.g c.in-Is.n c.read_ranges-ranges.result
 starts c =
-    let l = located c.before.before.before.before.before.before.before.before.before.before.before.before in
-    rw (read c) (start-known _ _ _ _ _ _ l.sound l.used c.in-Off.is (listed c.before.before.before.before) (known c.before))
+    let a = c.args in
+    let found : where_by a.d (words_for (length a.area.now)) a.manager a.id ≡ At c.in-At.i =
+    ap (λ w. where_by a.d w a.manager a.id) (sym c.words_for.ensures) ∙ sym c.locate_by-place.ensures ∙ c.in-At.is in
+    let l = where_is-at _ _ _ _ (where_by-at _ _ _ _ _ found).1 in
+    rw (read c) (start-known _ _ _ _ _ _ l.sound l.used c.in-Off.is (sym c.read_header-header.ensures.is ∙ c.in-Is.is) (known c))
 
 -- the sizes are those of the record in which the controller is tracked
 sizes : (c : After-sizes_with-sizes)
+    → Starts c.args.d c.in-At.i c.in-Is.g c.in-Is.n c.read_ranges-ranges.result
     → c.sizes_with-sizes.result ≡ sizes_of (tracking c.args.d c.args.manager c.in-At.i c.in-Is.g c.in-Is.n c.read_ranges-ranges.result)
-sizes c =
-    c.sizes_with-sizes.ensures ∙ rw (c.shares-shares.ensures, c.units_in-units.ensures.0) (starts-sizes c.args.d (eight c.before.before.before.before.before.before.before.before.before.before.before.before.before.before.before.before.before.before.before.before.before) _ _ _ _ (starts c.before.before.before) c.args.manager)
+sizes c s =
+    let eight : length c.args.d.controllers ≡ 8 = search (length-mapped, rules) in
+    c.sizes_with-sizes.ensures ∙ rw (c.shares-shares.ensures, c.units_in-units.ensures.0) (starts-sizes c.args.d eight _ _ _ _ s c.args.manager)
 
 pub returns-in_default : goal.returns-in_default
 returns-in_default c = leaves _ _ _ _ _ (start-refused _ _ _ _ _ _ _ (refused (goal.at.returns-in_default c).After-number_of)) c.refused.ensures refl
@@ -105,10 +106,10 @@ returns-in_default-header c =
     c.refused-in_default-header.ensures refl
 
 pub listed_refusal-refusal-requires : goal.listed_refusal-refusal-requires
-listed_refusal-refusal-requires c = ((located (goal.at.listed_refusal-refusal-requires c).In-At).sound, by (goal.at.listed_refusal-refusal-requires c).In-At, listed c)
+listed_refusal-refusal-requires c = ((located (goal.at.listed_refusal-refusal-requires c).In-At).sound, by (goal.at.listed_refusal-refusal-requires c).In-At, sym c.read_header-header.ensures.is ∙ c.in-Is.is)
 
 pub returns-then-refusal-ne0 : goal.returns-then-refusal-ne0
-returns-then-refusal-ne0 c = leaves _ _ _ _ _ (start-listed _ _ _ _ _ _ _ (found (goal.at.returns-then-refusal-ne0 c).In-At) c.if-c.false c.in-Off.is _ _ (listed (goal.at.returns-then-refusal-ne0 c).In-Is) _ c.listed_refusal-refusal.ensures c.if-refusal-ne0.true) c.refused-then-refusal-ne0.ensures refl
+returns-then-refusal-ne0 c = leaves _ _ _ _ _ (start-listed _ _ _ _ _ _ _ (found (goal.at.returns-then-refusal-ne0 c).In-At) c.if-c.false c.in-Off.is _ _ (sym c.read_header-header.ensures.is ∙ c.in-Is.is) _ c.listed_refusal-refusal.ensures c.if-refusal-ne0.true) c.refused-then-refusal-ne0.ensures refl
 
 pub shares-shares-requires : goal.shares-shares-requires
 shares-shares-requires c =
@@ -126,18 +127,18 @@ pub pack-requires : goal.pack-requires
 pack-requires c =
     let a = c.args in
     let whole = area-whole _ (located (goal.at.pack-requires c).In-At).whole in
-    (whole, rw (sizes (goal.at.pack-requires c).After-sizes_with-sizes, c.bases_of.ensures, c.shares-shares.ensures) (starts-packs a.d (eight (goal.at.pack-requires c).After-slice_known-1) _ _ _ _ (starts (goal.at.pack-requires c).After-read_ranges-ranges) a.manager a.area.now whole))
+    (whole, rw (sizes (goal.at.pack-requires c).After-sizes_with-sizes (starts (goal.at.pack-requires c).After-read_ranges-ranges), c.bases_of.ensures, c.shares-shares.ensures) (starts-packs a.d (eight (goal.at.pack-requires c).After-slice_known-1) _ _ _ _ (starts (goal.at.pack-requires c).After-read_ranges-ranges) a.manager a.area.now whole))
 
 pub overflow_cast-n-3 : goal.overflow_cast-n-3
 overflow_cast-n-3 c = omega (arith, (starts (goal.at.overflow_cast-n-3 c).After-read_ranges-ranges).few)
 
 pub recorded-device-requires : goal.recorded-device-requires
 recorded-device-requires c =
-    let e = sizes (goal.at.recorded-device-requires c).After-sizes_with-sizes in
+    let e = sizes (goal.at.recorded-device-requires c).After-sizes_with-sizes (starts (goal.at.recorded-device-requires c).After-read_ranges-ranges) in
     ((located (goal.at.recorded-device-requires c).In-At).below, e, rw e (starts_fit c.args.d (eight (goal.at.recorded-device-requires c).After-slice_known-1) _ _ _ _ (starts (goal.at.recorded-device-requires c).After-read_ranges-ranges) c.args.manager))
 
 pub returns : goal.returns
 returns c =
     leaves _ _ _ _ _
-    (start-done _ _ _ _ _ _ _ (found (goal.at.returns c).In-At) c.if-c.false c.in-Off.is _ _ (listed (goal.at.returns c).In-Is) _ c.listed_refusal-refusal.ensures c.if-refusal-ne0.false)
-    (rw (c.recorded-device.ensures, read (goal.at.returns c).After-read_ranges-ranges)) (c.pack.ensures ∙ rw (sizes (goal.at.returns c).After-sizes_with-sizes, c.bases_of.ensures, c.shares-shares.ensures, read (goal.at.returns c).After-read_ranges-ranges))
+    (start-done _ _ _ _ _ _ _ (found (goal.at.returns c).In-At) c.if-c.false c.in-Off.is _ _ (sym c.read_header-header.ensures.is ∙ c.in-Is.is) _ c.listed_refusal-refusal.ensures c.if-refusal-ne0.false)
+    (rw (c.recorded-device.ensures, read (goal.at.returns c).After-read_ranges-ranges)) (c.pack.ensures ∙ rw (sizes (goal.at.returns c).After-sizes_with-sizes (starts (goal.at.returns c).After-read_ranges-ranges), c.bases_of.ensures, c.shares-shares.ensures, read (goal.at.returns c).After-read_ranges-ranges))

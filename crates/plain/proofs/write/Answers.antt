@@ -43,7 +43,9 @@ asks : (c : After-bytes_of-size)
     → let a = c.args in
     Way c.bytes_of-size.result.0 c.in-On.n c.ranges_of-ranges.result a.area.now (get_or a.d.controllers c.in-At.i no_controller).base
 asks c =
-    way _ _ _ _ (found c.before.before.before.before.before.before.before.before.before) (there c.before.before.before.before.before.before.before.before.before) _ _ c.in-On.is _ c.bytes_of-size.ensures _ c.ranges_of-ranges.ensures.0 c.ranges_of-ranges.ensures.1
+    let found : where_is c.args.d (words_for (length c.args.area.now)) c.args.id ≡ At c.in-At.i = rw (sym c.words_for.ensures) (sym c.locate-place.ensures ∙ c.in-At.is) in
+    let e : length c.args.d.controllers ≡ 8 = search (length-mapped, rules) in
+    way _ _ _ _ found (omega (arith, (where_is-at _ _ _ _ found).below)) _ _ c.in-On.is _ c.bytes_of-size.ensures _ c.ranges_of-ranges.ensures.0 c.ranges_of-ranges.ensures.1
 
 pub returns-in_default : goal.returns-in_default
 returns-in_default c = leaves-unchanged _ _ _ (write-refused in_bytes _ _ _ _ _ (refused c))

@@ -73,8 +73,8 @@ pub count_units-requires : goal.count_units-requires
 count_units-requires c =
     let r = c.ranges_of-ranges in
     let u = c.units_in-units.ensures.0 in
-    let a = (place (goal.at.count_units-requires c).In-On).before.before.before.before.before.before.args in
-    omega (arith, rw r.ensures.0 at u, area-whole (length a.area.now) (where_is-at _ _ _ _ (found (place (goal.at.count_units-requires c).In-On))).whole, share-within _ _ _ _ (found (place (goal.at.count_units-requires c).In-On)) (there (place (goal.at.count_units-requires c).In-On)) _ _ c.in-On.is (omega (arith, ap length r.ensures.0, r.ensures.1)))
+    let a = c.args in
+    omega (arith, rw r.ensures.0 at u, area-whole (length a.area.now) (where_is-at _ _ _ _ (found' (goal.at.count_units-requires c).In-On)).whole, share-within _ _ _ _ (found' (goal.at.count_units-requires c).In-On) (there' (goal.at.count_units-requires c).In-On) _ _ c.in-On.is (omega (arith, ap length r.ensures.0, r.ensures.1)))
 
 pub returns : goal.returns
 returns c s =

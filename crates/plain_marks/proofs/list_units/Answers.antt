@@ -88,18 +88,18 @@ loop-unit-preserved c =
           let k = c.loop-unit.invariant.2 count more groups a x m in
           elim c.if-covered.branch [
             | then-covered w ↦
-                rw (w.area-is, w.buffer-is, w.runs-is, w.place-is, w.start-is, w.units-is)
+                rw (w.area_is, w.buffer_is, w.runs-is, w.place-is, w.start-is, w.units-is)
                 (listing-covered _ _ _ c.requires.0 _ _ _ (omega arith) _ _ _ _ _ _ _ _ _ _ _ _ k _ _ w.end_run-runs.ensures.0 w.end_run-runs.ensures.1 t (sym c.covered.ensures ∙ w.if-covered.true))
             | else-covered w ↦
                 let q = sym c.covered.ensures ∙ w.if-covered.false in
-                rw (w.area-is, w.buffer-is, w.runs-is, w.place-is, w.start-is, w.units-is)
+                rw (w.area_is, w.buffer_is, w.runs-is, w.place-is, w.start-is, w.units-is)
                 (elim w.if-area-place-eq0.branch [
                   | then-area-place-eq0 v ↦
                       let e = v.end_run-runs-then-area-place-eq0.ensures in
-                      rw (v.area-is, v.buffer-is, v.runs-is, v.start-is, v.units-is)
+                      rw (v.area_is, v.buffer_is, v.runs-is, v.start-is, v.units-is)
                       (listing-clear _ _ _ c.requires.0 _ _ _ (omega arith) _ _ _ _ _ _ _ _ _ _ _ _ k t q v.if-area-place-eq0.true _ _ e.0 e.1)
                   | else-area-place-eq0 v ↦
-                      rw (v.area-is, v.buffer-is, v.runs-is, v.start-is, v.units-is)
+                      rw (v.area_is, v.buffer_is, v.runs-is, v.start-is, v.units-is)
                       (listing-grow _ _ _ c.requires.0 _ _ _ (omega arith) _ _ _ _ _ _ _ _ _ _ _ _ k t q v.if-area-place-eq0.false _
                       (elim v.if-units-eq0.branch [
                         | then-units-eq0+else-runs-room y ↦ inl (y.if-units-eq0.true, y.if-runs-room.false, y.start-is)

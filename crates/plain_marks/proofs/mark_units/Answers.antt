@@ -87,20 +87,20 @@ loop-unit-preserved c =
           elim c.if-not-covered.branch [
             | then-not-covered w ↦
                 let k = own (goal.at.loop-unit-preserved c).After-covered w.if-not-covered.true final total m in
-                rw (w.area-is, w.place-is, w.count-is)
+                rw (w.area_is, w.place-is, w.count_is)
                 (elim w.if-touches.branch [
                   | then-touches+then-area-place-eq0 v ↦
-                      marking-hit _ _ _ _ _ _ _ _ k _ _ (sym w.touches.ensures ∙ v.if-touches.true) v.if-area-place-eq0.true v.area-is v.count-is
+                      marking-hit _ _ _ _ _ _ _ _ k _ _ (sym w.touches.ensures ∙ v.if-touches.true) v.if-area-place-eq0.true v.area_is v.count_is
                   | else-touches v ↦
                       marking-miss _ _ _ _ _ _ _ _ k _ _
                       (elim v.else-touches.branch [
                         | else-touches-via-then-touches+else-area-place-eq0 x ↦ inr (ne_eqb _ _ x.if-area-place-eq0.false)
                         | else-touches-via-else-touches x ↦ inl (sym w.touches.ensures ∙ x.if-touches.false)
                       ])
-                      v.area-is v.count-is
+                      v.area_is v.count_is
                 ])
             | else-not-covered w ↦
-                rw (w.area-is, w.place-is, w.count-is)
+                rw (w.area_is, w.place-is, w.count_is)
                 (marking-of _
                 (left-covered a.size a.ranges a.n c.loop-row.row (omega arith) c.loop-unit.unit c.loop-unit-test.true (sym c.covered.ensures ∙ w.if-not-covered.false))
                 (c.loop-unit.invariant.1 final total m))

@@ -1,9 +1,7 @@
 -- `record::walk` is right because it walks on by one controller after another, and is done where as many are walked as there are controllers in use; each weighs
 -- at most 65,536, so no sum wraps. After each, it has reached so many (`Reached`).
-use mathlib.Core.Path.{◌≡◌}
 use native.Mathlib.Omega.{arith}
 use borrow.Author.Rules.{rules}
-use lib.ListN.{length}
 use Rattle.rules.proofs.LoopLaws.{length-mapped}
 use Rattle.settings.proofs.SettingsLaws.{settings_ok-some, settings_ok-count, settings_ok-greatest}
 use Rattle.record.proofs.WalkLaws.{Reached, reached-none, reached-next, reached-all}

@@ -1,4 +1,4 @@
-use Rattle.std.proofs.Common.{◌-◌, arith, length-set, rules}
+use Rattle.std.proofs.Common.{arith, length-set, rules}
 use Rattle.ring.proofs.Loops.{copy_start, copy-again, copy_done}
 use Rattle.ring.proofs.copy.Goals as goal
 

@@ -1,4 +1,4 @@
-use Rattle.std.proofs.Common.{◌-◌, arith, rules}
+use Rattle.std.proofs.Common.{arith, rules}
 use Rattle.ring.proofs.Loops.{taken_start, taken-again, taken-done}
 use Rattle.ring.proofs.take_entries.Goals as goal
 

@@ -1,4 +1,3 @@
-use Prim.Native.Nat.{◌-◌}
 use Rattle.little.proofs.Records.{records-again}
 use Rattle.settings_file.specs.File.{identifier_bytes}
 use Rattle.settings_file.proofs.FieldLaws.{identifier_bytes-length, places-done}

@@ -1,4 +1,3 @@
-use Prim.Native.Nat.{◌-◌}
 use mathlib.Core.Path.{refl}
 use lib.ListN.{replicate, length-set}
 use Rattle.little.proofs.Records.{records_at-length, records_at-start, records_at-again, records_at-done}

@@ -1,4 +1,3 @@
-use Prim.Native.Nat.{◌-◌}
 use mathlib.Core.Path.{refl, sym, ◌∙◌}
 use Rattle.settings_file.specs.File.{spare_ok}
 use Rattle.settings_file.proofs.FieldLaws.{spare-miss, spare-next, spare-end}

@@ -1,6 +1,6 @@
 -- `settings_file::write_file` is right because it makes the tests of `write_tests` in their order. Assumes nothing.
 use Rattle.settings_file.proofs.FieldLaws.{room_whole}
-use Rattle.settings_file.proofs.Cases.{write-count, write-rules, write-version, write-short, write-whole}
+use Rattle.settings_file.proofs.Cases.{write-count, write-rules, write-version, write-short, write_whole}
 use Rattle.settings_file.proofs.write_file.Goals as goal
 
 pub returns-then-not-settings_ok : goal.returns-then-not-settings_ok
@@ -16,4 +16,4 @@ pub put_file-requires : goal.put_file-requires
 put_file-requires c = (search write-count, search room_whole)
 
 pub returns : goal.returns
-returns c = let all = write-whole _ _ _ _ c.settings_ok.ensures c.if-not-settings_ok.false-raw _ c.can_hold.ensures c.if-not-can_hold.false-raw _ c.file_size.ensures c.if-buffer-file_size.false _ c.put_file.ensures in record { number = all.0; bytes = all.1 }
+returns c = let all = write_whole _ _ _ _ c.settings_ok.ensures c.if-not-settings_ok.false-raw _ c.can_hold.ensures c.if-not-can_hold.false-raw _ c.file_size.ensures c.if-buffer-file_size.false _ c.put_file.ensures in record { number = all.0; bytes = all.1 }

@@ -1,4 +1,3 @@
-use Prim.Native.Nat.{◌-◌}
 use borrow.Author.Rules.{rules}
 use lib.ListN.{length-set}
 use Rattle.little.proofs.Records.{records_at-start, records_at-again, records_at-done}

@@ -1,4 +1,3 @@
-use Prim.Native.Nat.{◌-◌}
 use borrow.Author.Rules.{rules}
 use Rattle.little.proofs.Records.{records-again, records-done}
 use Rattle.rules.specs.StartData.{range_bytes}

@@ -116,6 +116,6 @@ overflow_cast-listed c =
 pub returns : goal.returns
 returns c =
     let s = rw c.ranges_of-ranges.ensures.0 at c.list_runs-listed.ensures in
-    receive-done in_words _ _ _ _ _ _ (found' (goal.at.returns c).In-On) _ _ (by (goal.at.returns c).In-On) c.if-size-lt32.false _ _ _ _ _ _ s.count-is s.more-is s.groups-is
+    receive-done in_words _ _ _ _ _ _ (found' (goal.at.returns c).In-On) _ _ (by (goal.at.returns c).In-On) c.if-size-lt32.false _ _ _ _ _ _ s.count_is s.more_is s.groups_is
     (lists-words _ _ _ _ _ _ _ _ _ _ _ s (λ i. (c.slice_known-3-1.given i).fits) c.list_runs-listed.auto.marks)
-    s.bytes-are c.put_header.ensures
+    s.bytes_are c.put_header.ensures
