@@ -40,15 +40,15 @@ fn put_part(line: &mut [u8], used: usize, part: &[u8]) -> usize
 
 // After a part of some input was taken in: the place behind it, how many bytes of a line are there, and whether they are a whole line.
 #[derive(Clone, Copy)]
-struct Taken {
-    at: usize,
-    used: usize,
-    whole: bool,
+pub struct Taken {
+    pub at: usize,
+    pub used: usize,
+    pub whole: bool,
 }
 
 // Takes in the input from `at` to the next line feed, behind the `used` bytes of a line that are there. With no input left, what is there is the last line; an
 // empty rest is none.
-fn take_in(line: &mut [u8], used: usize, input: &[u8], at: usize) -> Taken
+pub fn take_in(line: &mut [u8], used: usize, input: &[u8], at: usize) -> Taken
     requires { used ≤ length line.old }
     ensures { result.used ≤ length line.old }
 {
@@ -76,7 +76,7 @@ fn take_in(line: &mut [u8], used: usize, input: &[u8], at: usize) -> Taken
 }
 
 // Reads once, and answers how many bytes came: 0 at the end of the input, and where reading fails.
-fn read_some<R: Read>(from: &mut R, input: &mut [u8]) -> usize
+pub fn read_some<R: Read>(from: &mut R, input: &mut [u8]) -> usize
     ensures { (result ≤ length input.new) × (result ≡ length (take result input.new)) }
 {
     match from.read(input) {
