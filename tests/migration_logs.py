@@ -100,7 +100,7 @@ BY_HAND = {
 }
 
 # A name that is no UTF-8: the file is there and the second program plays it, but the library opens names of text alone, so the proved program says `bad`
-# (docs/PORT.md). It is left out of what both are given until the library opens names of any bytes.
+# (docs/PORT.md). So each program has an answer of its own to it.
 NAMED_BY_BYTES = {
     "\xff\xfe\x80\t\x01": File(EXAMPLE, ((5, 2, 2, 0), (6, 0, 0, 0))),
 }
@@ -201,6 +201,16 @@ def cases(files):
     yield LogCase("3,000 names that can't be opened", b"none\n" * 3000 + b"example", printed([None] * 3000 + [example]))
     yield LogCase("3,000 names of a folder", b"folder\n" * 3000 + b"example", printed([FOLDER] * 3000 + [example]))
     yield LogCase("3,000 empty names", b"\n" * 3000 + b"example", printed([None] * 3000 + [example]))
+
+
+def by_bytes(files, is_opened):
+    """Names that are no text, for a program that opens them, or for one that doesn't; in the folder with these files too."""
+    example, dropped = files["example"], files["dropped"]
+    for name, there in NAMED_BY_BYTES.items():
+        file = there if is_opened else None
+        yield LogCase(f"the file {name!r}", encoded(name) + b"\n", printed([file]))
+        yield LogCase(f"the file {name!r} between others", b"example\n" + encoded(name) + b"\ndropped\n", printed([example, file, dropped]))
+        yield LogCase(f"the file {name!r} last, without a line feed", b"dropped\n" + encoded(name), printed([dropped, file]))
 
 
 def fixed_outputs():
