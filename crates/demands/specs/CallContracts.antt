@@ -145,8 +145,7 @@ pub record CallsAre : Type 1 where
       → let c = take_change a.0 (length a.1.0.now) a.1.1.0.now a.1.1.1.0 a.1.1.1.1.0 a.1.1.1.1.1.0.now in
       (r ≡ c.answer) × (e.1.1.1.1.1.0.now ≡ c.buffer)
 
--- W4: `batch` is proved by a walk of its code, so its contract is taken as it stands in the program logic, of any model of it: it asks nothing, and what it promises
--- is this fact
+-- W4: the contract of `batch` is taken as it stands in the program logic, of any model of it: it asks nothing, and what it promises is this fact
 abbrev pub Promised : Device → List ℕ → List WriteRecord → Batched → List ℕ → Type 0
 Promised d ws rs r ws' = let c = batch_change d ws rs in (r ≡ c.answer) × (ws' ≡ c.marks)
 

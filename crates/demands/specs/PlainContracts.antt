@@ -104,7 +104,7 @@ pub record PlainAre : Type 1 where
       → let c = take_change a.0 (in_bytes.words a.1.0.now) a.1.1.0.now a.1.1.1.0 a.1.1.1.1.0 a.1.1.1.1.1.0.now in
       (r ≡ c.answer) × (e.1.1.1.1.1.0.now ≡ c.buffer)
 
--- W4: its `batch` is proved by a walk of its code, as the other engine's is
+-- W4: the contract of its `batch` is taken as the other engine's is
 abbrev pub PlainPromised : Device → List ℕ → List WriteRecord → Batched → List ℕ → Type 0
 PlainPromised d bs rs r bs' = let c = batch_by in_bytes d bs rs in (r ≡ c.answer) × (bs' ≡ c.marks)
 
