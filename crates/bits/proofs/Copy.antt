@@ -161,10 +161,11 @@ module _ (dst src : List Bool) (to from : ℕ) where
       let e : length (get_share src from j) ≡ j = get_share-length src from j g in
       sym (rw get_share-add (put_share-append dst to (get_share src from j) (get_share src (from + j) n) (omega arith) ∙ rw e))
 
--- a turn: n places more
-pub copy-turn : (ws : List ℕ) (dst src : List Bool) (to from j n m v : ℕ) → flat ws ≡ put_share dst to (get_share src from j)
-    → length dst ≡ length (flat ws) → (to + j) / 64 < length ws → (to + j) % 64 + n ≤ 64 → from + (j + n) ≤ length src
-    → m ≡ mask_of ((to + j) % 64) n → v ≡ word_of 64 (drop (from + j) src)
-    → flat (set ws ((to + j) / 64) (blend (get_or ws ((to + j) / 64) 0) (v * 2 ^ ((to + j) % 64) % 2 ^ 64) m)) ≡ put_share dst to (get_share src from (j + n))
-copy-turn ws dst src to from j n m v e l h hn hs em ev =
-    rw (em, ev) (flat-blend ws (to + j) src (from + j) n h hn (omega arith) ∙ rw e (copy_more dst src to from j n (omega (arith, flat-length ws)) (omega arith)))
+-- a turn: n places more, in word i from its bit b on
+pub copy-turn : (ws : List ℕ) (dst src : List Bool) (to from i b j n j' p m v : ℕ) → i ≡ (to + j) / 64 → b ≡ (to + j) % 64 → j' ≡ j + n → p ≡ from + j
+    → flat ws ≡ put_share dst to (get_share src from j) → length dst ≡ length (flat ws) → i < length ws → b + n ≤ 64 → from + j' ≤ length src
+    → m ≡ mask_of b n → v ≡ word_of 64 (drop p src)
+    → flat (set ws i (blend (get_or ws i 0) (v * 2 ^ b % 2 ^ 64) m)) ≡ put_share dst to (get_share src from j')
+copy-turn ws dst src to from i b j n j' p m v ei eb ej ep e l h hn hs em ev =
+    rw (em, ev, ep, ei, eb, ej)
+    (flat-blend ws (to + j) src (from + j) n (omega arith) (omega arith) (omega arith) ∙ rw e (copy_more dst src to from j n (omega (arith, flat-length ws)) (omega arith)))

@@ -3,8 +3,9 @@
 use mathlib.Core.Path.{◌≡◌, refl, sym, ap, ap₂, ◌∙◌}
 use mathlib.Core.Bool.{Bool, true, false, cond}
 use mathlib.Core.List.{List, [], ◌∷◌, ◌++◌}
-use Prim.Native.Nat.{ℕ, suc, ◌+◌, ◌-◌, ◌≤◌, ◌<◌}
+use Prim.Native.Nat.{ℕ, suc, ◌+◌, ◌-◌, ◌≤◌, ◌<◌, min}
 use native.Mathlib.Nat.{zero-add, add_assoc}
+use native.Mathlib.Decide.{dec_lt}
 use native.Mathlib.Omega.{arith}
 use lib.ListN.{length, get_or, take, drop, length-take, length-drop}
 use Rattle.bits.specs.Share.{get_share}
@@ -54,6 +55,13 @@ module _ (l : List Bool) (from : ℕ) where
   pub share-past : (n : ℕ) → length l ≤ from → marks_set (get_share l from n) ≡ 0
   unfolding get_share
   share-past n h = omega (arith, marks_set-le (take n (drop from l)), length-take n (drop from l), length-drop from l)
+
+  pub share-done : (to : ℕ) → min (length l) to ≤ from → marks_set (get_share l from (to - from)) ≡ 0
+  share-done to h = go (dec_lt from to)
+    where
+      go : Dec (from < to) → marks_set (get_share l from (to - from)) ≡ 0
+      go (yes g) = share-past (to - from) (omega arith)
+      go (no g) = share-empty to (omega arith)
 
   -- a turn of a loop: those of the first n places and those of the rest up to `to` are all
   pub share-turn : (n to : ℕ) → n ≤ to - from → marks_set (get_share l from n) + marks_set (get_share l (from + n) (to - (from + n))) ≡ marks_set (get_share l from (to - from))

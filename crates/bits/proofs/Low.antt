@@ -78,7 +78,7 @@ module _ (want : Bool) (ws : List ℕ) (i b z to : ℕ) (h : i < length ws) (l :
       sym (next-cut want (flat ws) (64 * i + b) (64 * i + 64) to (omega (arith, place)) ∙ rw place)
 
   -- there is none, and the search goes on at the next word's bit 0
-  pub low-none : z ≡ 64 → next want (flat ws) (64 * (i + 1) + 0) to ≡ next want (flat ws) (64 * i + b) to
+  pub low-none : z ≡ 64 → next want (flat ws) (64 * (i + 1)) to ≡ next want (flat ws) (64 * i + b) to
   low-none g =
-      let k : 64 * (i + 1) + 0 ≡ 64 * i + 64 = omega arith in
+      let k : 64 * (i + 1) ≡ 64 * i + 64 = omega arith in
       rw k (sym (next-on want (flat ws) (64 * i + b) (64 * i + 64) to (omega arith) (omega (arith, place))))

@@ -147,46 +147,43 @@ module _ (w b n : ℕ) (h : b + n ≤ 64) where
           (λ k p q. at k (omega arith) ∙ ap (λ (y : Bool). bit w k && y) (mask-in b n k p q) ∙ and-true (bit w k) ∙ sym (digits-at 64 w k false (omega arith))))
 
 -- ---- a span within one word of the list
-module _ (ws : List ℕ) (k n : ℕ) (h : k / 64 < length ws) (hn : k % 64 + n ≤ 64) where
-  place : k ≡ 64 * (k / 64) + k % 64
-  place = omega arith
-
-  fits : 64 * (k / 64) + 64 ≤ length (flat ws)
+module _ (ws : List ℕ) (i b n k : ℕ) (place : k ≡ 64 * i + b) (h : i < length ws) (hn : b + n ≤ 64) where
+  fits : 64 * i + 64 ≤ length (flat ws)
   fits = omega (arith, flat-length ws)
 
   -- a word replaced by one with its span filled
-  flat-fill : (v : Bool) (x : ℕ) → digits 64 x ≡ fill v (digits 64 (get_or ws (k / 64) 0)) (k % 64) n → flat (set ws (k / 64) x) ≡ fill v (flat ws) k n
+  flat-fill : (v : Bool) (x : ℕ) → digits 64 x ≡ fill v (digits 64 (get_or ws i 0)) b n → flat (set ws i x) ≡ fill v (flat ws) k n
   flat-fill v x e =
-      flat-set ws (k / 64) x h ∙ ap (put_share (flat ws) (64 * (k / 64))) (e ∙ ap (λ (l : List Bool). fill v l (k % 64) n) (sym (flat_word ws (k / 64) h)))
-      ∙ sym (ap (λ (i : ℕ). fill v (flat ws) i n) place ∙ fill-share (flat ws) (64 * (k / 64)) 64 fits v (k % 64) n hn)
+      flat-set ws i x h ∙ ap (put_share (flat ws) (64 * i)) (e ∙ ap (λ (l : List Bool). fill v l b n) (sym (flat_word ws i h)))
+      ∙ sym (ap (λ (j : ℕ). fill v (flat ws) j n) place ∙ fill-share (flat ws) (64 * i) 64 fits v b n hn)
 
-  flat-or : flat (set ws (k / 64) (bit_or (get_or ws (k / 64) 0) (mask_of (k % 64) n))) ≡ fill true (flat ws) k n
-  flat-or = flat-fill true (bit_or (get_or ws (k / 64) 0) (mask_of (k % 64) n)) (digits-or (get_or ws (k / 64) 0) (k % 64) n hn)
+  flat-or : flat (set ws i (bit_or (get_or ws i 0) (mask_of b n))) ≡ fill true (flat ws) k n
+  flat-or = flat-fill true (bit_or (get_or ws i 0) (mask_of b n)) (digits-or (get_or ws i 0) b n hn)
 
-  flat-and : flat (set ws (k / 64) (bit_and (get_or ws (k / 64) 0) ((2 ^ 64 - 1) - mask_of (k % 64) n))) ≡ fill false (flat ws) k n
-  flat-and = flat-fill false (bit_and (get_or ws (k / 64) 0) ((2 ^ 64 - 1) - mask_of (k % 64) n)) (digits-and (get_or ws (k / 64) 0) (k % 64) n hn)
+  flat-and : flat (set ws i (bit_and (get_or ws i 0) ((2 ^ 64 - 1) - mask_of b n))) ≡ fill false (flat ws) k n
+  flat-and = flat-fill false (bit_and (get_or ws i 0) ((2 ^ 64 - 1) - mask_of b n)) (digits-and (get_or ws i 0) b n hn)
 
-  flat-ones : get_or ws (k / 64) 0 < 2 ^ 64 → ones (bit_and ((2 ^ 64 - 1) - get_or ws (k / 64) 0) (mask_of (k % 64) n)) ≡ clears (flat ws) k n
+  flat-ones : get_or ws i 0 < 2 ^ 64 → ones (bit_and ((2 ^ 64 - 1) - get_or ws i 0) (mask_of b n)) ≡ clears (flat ws) k n
   flat-ones f =
-      ones_and (get_or ws (k / 64) 0) (k % 64) n hn f ∙ ap (λ (l : List Bool). clears l (k % 64) n) (sym (flat_word ws (k / 64) h))
-      ∙ sym (ap (λ (i : ℕ). clears (flat ws) i n) place ∙ clears-share (flat ws) (64 * (k / 64)) 64 fits (k % 64) n hn)
+      ones_and (get_or ws i 0) b n hn f ∙ ap (λ (l : List Bool). clears l b n) (sym (flat_word ws i h))
+      ∙ sym (ap (λ (j : ℕ). clears (flat ws) j n) place ∙ clears-share (flat ws) (64 * i) 64 fits b n hn)
 
-  flat-set-ones : get_or ws (k / 64) 0 < 2 ^ 64 → ones (bit_and (get_or ws (k / 64) 0) (mask_of (k % 64) n)) ≡ marks_set (get_share (flat ws) k n)
+  flat-set-ones : get_or ws i 0 < 2 ^ 64 → ones (bit_and (get_or ws i 0) (mask_of b n)) ≡ marks_set (get_share (flat ws) k n)
   flat-set-ones f =
-      ones-set-and (get_or ws (k / 64) 0) (k % 64) n hn f ∙ ap (λ (l : List Bool). marks_set (get_share l (k % 64) n)) (sym (flat_word ws (k / 64) h))
-      ∙ ap marks_set (get_share-share (flat ws) (64 * (k / 64)) 64 (k % 64) n hn ∙ ap (λ (i : ℕ). get_share (flat ws) i n) (sym place))
+      ones-set-and (get_or ws i 0) b n hn f ∙ ap (λ (l : List Bool). marks_set (get_share l b n)) (sym (flat_word ws i h))
+      ∙ ap marks_set (get_share-share (flat ws) (64 * i) 64 b n hn ∙ ap (λ (j : ℕ). get_share (flat ws) j n) (sym place))
 
   -- ---- a turn of a span's loop: with this word's n places done, the rest up to `to` gives the whole
-  module _ (m to : ℕ) (e : m ≡ mask_of (k % 64) n) (g : n ≤ to - k) where
-    pub mark-turn : fill true (flat (set ws (k / 64) (bit_or (get_or ws (k / 64) 0) m))) (k + n) (to - (k + n)) ≡ fill true (flat ws) k (to - k)
-    mark-turn = rw (e, flat-or) (fill-turn true (flat ws) k n to g)
+  module _ (m to k' : ℕ) (e : m ≡ mask_of b n) (g : n ≤ to - k) (next : k' ≡ k + n) where
+    pub mark-turn : fill true (flat (set ws i (bit_or (get_or ws i 0) m))) k' (to - k') ≡ fill true (flat ws) k (to - k)
+    mark-turn = rw (next, e, flat-or) (fill-turn true (flat ws) k n to g)
 
-    pub clear-turn : fill false (flat (set ws (k / 64) (bit_and (get_or ws (k / 64) 0) ((2 ^ 64 - 1) - m)))) (k + n) (to - (k + n)) ≡ fill false (flat ws) k (to - k)
-    clear-turn = rw (e, flat-and) (fill-turn false (flat ws) k n to g)
+    pub clear-turn : fill false (flat (set ws i (bit_and (get_or ws i 0) ((2 ^ 64 - 1) - m)))) k' (to - k') ≡ fill false (flat ws) k (to - k)
+    clear-turn = rw (next, e, flat-and) (fill-turn false (flat ws) k n to g)
 
-    pub count_turn : get_or ws (k / 64) 0 < 2 ^ 64
-        → ones (bit_and ((2 ^ 64 - 1) - get_or ws (k / 64) 0) m) + clears (flat (set ws (k / 64) (bit_or (get_or ws (k / 64) 0) m))) (k + n) (to - (k + n)) ≡ clears (flat ws) k (to - k)
-    count_turn f = rw (e, flat-or, flat-ones f) (clears-turn true (flat ws) k n to g)
+    pub count_turn : get_or ws i 0 < 2 ^ 64
+        → ones (bit_and ((2 ^ 64 - 1) - get_or ws i 0) m) + clears (flat (set ws i (bit_or (get_or ws i 0) m))) k' (to - k') ≡ clears (flat ws) k (to - k)
+    count_turn f = rw (next, e, flat-or, flat-ones f) (clears-turn true (flat ws) k n to g)
 
-    pub set-turn : get_or ws (k / 64) 0 < 2 ^ 64 → ones (bit_and (get_or ws (k / 64) 0) m) + marks_set (get_share (flat ws) (k + n) (to - (k + n))) ≡ marks_set (get_share (flat ws) k (to - k))
-    set-turn f = rw (e, flat-set-ones f) (share-turn (flat ws) k n to g)
+    pub set-turn : get_or ws i 0 < 2 ^ 64 → ones (bit_and (get_or ws i 0) m) + marks_set (get_share (flat ws) k' (to - k')) ≡ marks_set (get_share (flat ws) k (to - k))
+    set-turn f = rw (next, e, flat-set-ones f) (share-turn (flat ws) k n to g)

@@ -13,13 +13,6 @@ ghost use Rattle.bits.specs.Share.{Holds, get_share, put_share};
 ghost use Rattle.bits.specs.Pack.{word_of};
 ghost use Rattle.bits.specs.Count.{marks_set};
 
-// The lesser of a and b.
-fn least(a: usize, b: usize) -> usize
-    ensures { result ≡ min a b }
-{
-    if a < b { a } else { b }
-}
-
 // A word with n ones from bit b up.
 fn mask(b: usize, n: usize) -> u64
     requires { (0 < n) × (b + n ≤ 64) }
@@ -35,9 +28,9 @@ fn low_from(w: u64, want: bool, b: usize) -> usize
 {
     let m = mask(b, 64 - b);
     if want {
-        return u64::trailing_zeros(w & m) as usize;
+        return (w & m).trailing_zeros() as usize;
     }
-    u64::trailing_zeros(!w & m) as usize
+    (!w & m).trailing_zeros() as usize
 }
 
 // The least place from `from` below `to` whose bit is `want`, or `to` where none is. Past the words all is clear. From the
@@ -49,21 +42,16 @@ fn search(words: &[u64], want: bool, from: usize, to: usize) -> usize
         return to;
     }
     let last = (to - 1) / 64;
-    let n = least(words.len(), last + 1);
-    let mut i = from / 64;
-    let mut b = from % 64;
-    while i < n {
-        let z = low_from(words[i], want, b);
+    for i in from / 64..words.len().min(last + 1) {
+        let z = low_from(words[i], want, from.saturating_sub(64 * i));
         if z != 64 {
-            return least(64 * i + z, to);
+            return to.min(64 * i + z);
         }
-        i += 1;
-        b = 0;
     }
-    if want {
+    if want || last < words.len() {
         return to;
     }
-    if last < i { to } else { 64 * i + b }
+    from.max(64 * words.len())
 }
 
 // The least place from `from` below `to` that is pending, or `to` where none is. Past the words none is.
@@ -87,20 +75,16 @@ pub fn mark_span(words: &mut [u64], from: usize, to: usize) -> usize
     ensures bits { flat words.new ≡ fill true (flat words.old) from (to - from) }
     ensures count { result ≡ clears (flat words.old) from (to - from) }
 {
-    let mut n: usize = 0;
-    let mut k = from;
-    while k < to {
-        let i = k / 64;
-        if words.len() <= i {
-            return n;
-        }
-        let b = k % 64;
-        let e = least(64 - b, to - k);
-        let m = mask(b, e);
+    if to <= from {
+        return 0;
+    }
+    let mut n = 0;
+    for i in from / 64..words.len().min((to - 1) / 64 + 1) {
+        let b = from.saturating_sub(64 * i);
+        let m = mask(b, (to - 64 * i).min(64) - b);
         let w = words[i];
-        n += u64::count_ones(!w & m) as usize;
+        n += (!w & m).count_ones() as usize;
         words[i] = w | m;
-        k += e;
     }
     n
 }
@@ -110,17 +94,13 @@ pub fn mark_span(words: &mut [u64], from: usize, to: usize) -> usize
 pub fn clear_span(words: &mut [u64], from: usize, to: usize)
     ensures { flat words.new ≡ fill false (flat words.old) from (to - from) }
 {
-    let mut k = from;
-    while k < to {
-        let i = k / 64;
-        if words.len() <= i {
-            return;
-        }
-        let b = k % 64;
-        let n = least(64 - b, to - k);
-        let m = mask(b, n);
-        words[i] = words[i] & !m;
-        k += n;
+    if to <= from {
+        return;
+    }
+    for i in from / 64..words.len().min((to - 1) / 64 + 1) {
+        let b = from.saturating_sub(64 * i);
+        let m = mask(b, (to - 64 * i).min(64) - b);
+        words[i] &= !m;
     }
 }
 
@@ -128,18 +108,14 @@ pub fn clear_span(words: &mut [u64], from: usize, to: usize)
 pub fn count_span(words: &[u64], from: usize, to: usize) -> usize
     ensures { result ≡ marks_set (get_share (flat words.now) from (to - from)) }
 {
-    let mut n: usize = 0;
-    let mut k = from;
-    while k < to {
-        let i = k / 64;
-        if words.len() <= i {
-            return n;
-        }
-        let b = k % 64;
-        let e = least(64 - b, to - k);
-        let m = mask(b, e);
-        n += u64::count_ones(words[i] & m) as usize;
-        k += e;
+    if to <= from {
+        return 0;
+    }
+    let mut n = 0;
+    for i in from / 64..words.len().min((to - 1) / 64 + 1) {
+        let b = from.saturating_sub(64 * i);
+        let m = mask(b, (to - 64 * i).min(64) - b);
+        n += (words[i] & m).count_ones() as usize;
     }
     n
 }
@@ -148,7 +124,7 @@ pub fn count_span(words: &[u64], from: usize, to: usize) -> usize
 fn word_at(words: &[u64], i: usize) -> u64
     ensures { result ≡ get_or words.now i 0 }
 {
-    if i < words.len() { words[i] } else { 0 }
+    words.get(i).copied().unwrap_or(0)
 }
 
 // The 64 places from k on as one word, the lowest bit place k. Past the words all is clear.
@@ -171,16 +147,13 @@ pub fn copy_span(dst: &mut [u64], to: usize, src: &[u64], from: usize, n: usize)
     requires { Holds dst.old to n × Holds src.now from n }
     ensures { flat dst.new ≡ put_share (flat dst.old) to (get_share (flat src.now) from n) }
 {
-    let mut j: usize = 0;
-    while j < n {
-        let k = to + j;
-        let i = k / 64;
-        let b = k % 64;
-        let e = least(64 - b, n - j);
-        let m = mask(b, e);
-        let v = window(src, from + j) << b;
-        let w = dst[i];
-        dst[i] = (w & !m) | (v & m);
-        j += e;
+    if n == 0 {
+        return;
+    }
+    for i in to / 64..(to + n - 1) / 64 + 1 {
+        let b = to.saturating_sub(64 * i);
+        let m = mask(b, (to + n - 64 * i).min(64) - b);
+        let v = window(src, from + (64 * i + b - to)) << b;
+        dst[i] = (dst[i] & !m) | (v & m);
     }
 }

@@ -1,10 +1,11 @@
 -- Document 02, W13: the log after each call that is logged, as a total function of what the call is given, on any engine. What the call itself answers and leaves stands in
 -- `calls`; every other call leaves the log as it was.
 use Rattle.std.specs.Prelude.{ℕ, cond, List, [], ◌∷◌, map, eqb, length, take}
-use Rattle.std.proofs.Math.Option.{Option, none, some}
+use Rattle.std.specs.declared.option.Option.{Option}
+use Rattle.std.specs.declared.option.Option.TheVariants.{None, Some}
 use Rattle.little.specs.Little.{records_at}
 use Rattle.rules.specs.Lists.{sum}
-use Rattle.rules.specs.Refusals.{refusal}
+use Rattle.rules.specs.Refusals.{refusal, number_of}
 use Rattle.rules.specs.Settings.{place_of}
 use Rattle.rules.specs.Units.{Write, units, pending}
 use Rattle.rules.specs.Report.{Descriptor}
@@ -14,15 +15,14 @@ use Rattle.rules.specs.Totals.{report_units}
 use Rattle.rules.specs.declared.Range.{Range}
 use Rattle.rules.specs.declared.Tracking.{Tracking}
 use Rattle.rules.specs.declared.Tracking.TheVariants.{Off, On}
-use Rattle.rules.specs.declared.Controller.{Controller}
 use Rattle.rules.specs.declared.Settings.{Settings}
 use Rattle.rules.specs.declared.Device.{Device}
 use Rattle.log_numbers.specs.declared.Log.{Log}
-use Rattle.log_numbers.specs.declared.Totals.TheVariants.{Known}
 use Rattle.log_numbers.specs.Log.{empty_log, totals_at, booked_at}
 use Rattle.record.specs.Record.{sound_with, controller_at}
-use Rattle.record.specs.declared.Place.{Place}
-use Rattle.record.specs.declared.Place.TheVariants.{At, Refused}
+use Rattle.std.specs.declared.result.Result.{Result}
+use Rattle.std.specs.declared.result.Result.TheVariants.{Err, Ok}
+use Rattle.rules.specs.declared.Refusal.{Refusal}
 use Rattle.calls.specs.declared.WriteRecord.{WriteRecord}
 use Rattle.calls.specs.Calls.{Engine, fresh_by, stop_by, write_by, write_in, receive_by}
 use Rattle.booking.specs.declared.Reading.{Reading}
@@ -31,8 +31,8 @@ use Rattle.booking.specs.declared.Reading.{Reading}
 
 -- so many units marked, reported and dropped, in the account of the controller at a place, if there is one; a refusal books nothing
 abbrev pub booked_in : Log → Option ℕ → ℕ → ℕ → ℕ → Log
-booked_in l none marked reported dropped = l
-booked_in l (some i) marked reported dropped = booked_at l i marked reported dropped
+booked_in l None marked reported dropped = l
+booked_in l (Some i) marked reported dropped = booked_at l i marked reported dropped
 
 unfoldable pub booked_by : Log → Option ℕ → ℕ → ℕ → ℕ → ℕ → Log
 booked_by l p number marked reported dropped = cond (eqb number 0) (booked_in l p marked reported dropped) l
@@ -72,8 +72,8 @@ pending_with e ws base (On g n) rs = let us = units g (take n rs) in length (pen
 
 -- and of the one at a place of a record
 abbrev pub pending_for : Engine → Device → List ℕ → Option ℕ → ℕ
-pending_for e d ws none = 0
-pending_for e d ws (some i) = let c = controller_at d (some i) in pending_with e ws c.base c.tracking c.ranges
+pending_for e d ws None = 0
+pending_for e d ws (Some i) = let c = controller_at d (Some i) in pending_with e ws c.base c.tracking c.ranges
 
 unfoldable pub units_held : Engine → Device → List ℕ → ℕ → ℕ
 units_held e d ws id = pending_for e d ws (place_of d.settings id)
@@ -91,6 +91,6 @@ units_listed x n = sum (map (λ (d : Descriptor). d.length) (records_at descript
 -- ---- what is read
 
 -- the totals of the controller at a place, or a refusal's number and zeros
-abbrev pub reading_at : Log → Place → Reading
-reading_at l (At i) = record { number = 0; totals = totals_at l i }
-reading_at l (Refused n) = record { number = n; totals = Known 0 0 0 }
+abbrev pub reading_at : Log → Result ℕ Refusal → Reading
+reading_at l (Ok i) = record { number = 0; totals = totals_at l i }
+reading_at l (Err r) = record { number = number_of r; totals = Some (record { marked = 0; reported = 0; dropped = 0 }) }

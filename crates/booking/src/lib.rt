@@ -7,55 +7,35 @@ ghost use Rattle.rules.specs.Settings.{place_of};
 ghost use Rattle.record.specs.Record.{where_is};
 ghost use Rattle.booking.specs.Booking.{booked_by, begun_by, units_listed, reading_at};
 
-use calls::{Batched, Changed, Received, Written};
+use calls::Received;
 use log_numbers::{Log, Totals};
-use record::Place;
 use rules::{Device, Settings};
-use settings::Found;
 
 // A call's answer, and the log after it.
 #[derive(Clone, Copy)]
-pub struct LoggedChange {
-    pub answer: Changed,
-    pub log: Log,
-}
-
-#[derive(Clone, Copy)]
-pub struct LoggedWrite {
-    pub answer: Written,
-    pub log: Log,
-}
-
-#[derive(Clone, Copy)]
-pub struct LoggedBatch {
-    pub answer: Batched,
-    pub log: Log,
-}
-
-#[derive(Clone, Copy)]
-pub struct LoggedReport {
-    pub answer: Received,
+pub struct Logged<A> {
+    pub answer: A,
     pub log: Log,
 }
 
 // A controller's totals as they are read: a refusal's number, or 0 and the totals. Refused, they are zeros.
+// No Result, as the theorems of crates/demands/specs/MigrationLog.antt speak of these fields.
 #[derive(Clone, Copy)]
 pub struct Reading {
     pub number: u8,
-    pub totals: Totals,
+    pub totals: Option<Totals>,
 }
 
 // The log after a fresh that was answered with a number: that of a new device, or refused the log that there was.
+#[tactic(auto, unfolding(crate::specs::Booking::begun_by))]
 pub fn begun(l: Log, number: u8) -> Log
     ensures { result ≡ begun_by l number }
 {
-    if number != 0 {
-        return l;
-    }
-    log_numbers::empty()
+    if number == 0 { log_numbers::empty() } else { l }
 }
 
 // The log after a call to a controller that was answered with a number and tells so many units marked, reported and dropped.
+#[tactic(auto, unfolding(crate::specs::Booking::booked_by))]
 pub fn book(
     l: Log,
     s: Settings,
@@ -70,7 +50,7 @@ pub fn book(
     if number != 0 {
         return l;
     }
-    let Found::At(i) = settings::find(s, id) else {
+    let Some(i) = settings::find(s, id) else {
         return l;
     };
     log_numbers::booked(l, i, marked as u64, reported as u64, dropped as u64)
@@ -84,7 +64,7 @@ fn units_in(report: &[u8], n: usize) -> usize
 {
     let mut units: usize = 0;
     for i in 0..n {
-        units += little::read_u32(report, 24 + 16 * i) as usize;
+        units += little::read::<u32>(report, 24 + 16 * i) as usize;
     }
     units
 }
@@ -95,23 +75,29 @@ pub fn units_listed(r: Received, report: &[u8]) -> usize
     requires { r.number ≡ 0 → (16 + 16 * r.runs ≤ length report.now) × (units_listed report.now r.runs < 2 ^ 64) }
     ensures { result ≡ cond (eqb r.number 0) (units_listed report.now r.runs) 0 }
 {
-    if r.number != 0 {
-        return 0;
+    if r.number == 0 {
+        units_in(report, r.runs)
+    } else {
+        0
     }
-    units_in(report, r.runs)
 }
 
 // A controller's totals in the log of a device, for a caller that has so many words of marks. Refused, in this order: 1, 2.
 pub fn totals_of(d: Device, words: usize, l: Log, id: u16) -> Reading
     ensures { result ≡ reading_at l (where_is d words id) }
 {
-    let place = record::locate(d, words, id);
-    let Place::At(i) = place else {
-        let number = calls::number_of(place);
-        let totals = Totals::Known(0, 0, 0);
-        return Reading { number, totals };
-    };
-    let account = l.accounts[i];
-    let totals = account.totals;
-    Reading { number: 0, totals }
+    match record::locate(d, words, id) {
+        Ok(i) => Reading {
+            number: 0,
+            totals: l.accounts[i].totals,
+        },
+        Err(refusal) => Reading {
+            number: refusal.number(),
+            totals: Some(Totals {
+                marked: 0,
+                reported: 0,
+                dropped: 0,
+            }),
+        },
+    }
 }

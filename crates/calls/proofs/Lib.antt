@@ -1,4 +1,5 @@
 pub mod Answers
+pub mod OutcomeLaws
 pub mod PlaceLaws
 pub mod ReceiptLaws
 pub mod PoolLaws

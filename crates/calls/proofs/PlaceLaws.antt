@@ -1,47 +1,34 @@
--- The place that a call finds: a refused one, what a manager finds tracked there, and what a tracked controller of a sound record holds there. Assumes nothing.
-use mathlib.Core.Path.{◌≡◌, refl, sym, ap, ◌∙◌}
+-- The place that a call finds: what a manager finds tracked there, and what a tracked controller of a sound record holds there. Assumes nothing.
+use mathlib.Core.Path.{◌≡◌, refl}
 use mathlib.Core.Bool.{Bool, true, false, cond}
 use Prim.Native.Nat.{ℕ, ◌+◌, ◌*◌, ◌≤◌, ◌<◌}
 use native.Mathlib.Omega.{arith}
 use lib.ListN.{length, get_or, take}
 use lib.Dec.{eqb}
-use borrow.Author.Tests.{eq-eqb, ne_eqb}
 use Rattle.rules.specs.Order.{is_tracker}
 use Rattle.rules.specs.Settings.{mark_words}
 use Rattle.rules.specs.Units.{units}
 use Rattle.rules.specs.declared.Device.{Device}
 use Rattle.rules.specs.declared.Tracking.{Tracking}
 use Rattle.rules.specs.declared.Tracking.TheVariants.{Off, On}
-use Rattle.record.specs.Record.{no_controller, tracked_by, where_is}
-use Rattle.record.specs.declared.Place.{Place}
-use Rattle.record.specs.declared.Place.TheVariants.{At, Refused}
-use Rattle.record.proofs.RecordLaws.{where_is-at, sound_device-held, sound_device-inside}
+use Rattle.record.specs.Record.{no_controller, tracked_by, where_is, where_by}
+use Rattle.std.specs.declared.result.Result.TheVariants.{Ok}
+use Rattle.record.proofs.RecordLaws.{where_is-at, where_by-at, sound_device-held, sound_device-inside}
 use Rattle.ranges.proofs.RangeLaws.{HeldFacts}
-use Rattle.calls.specs.Inner.{place_number, tracking_by}
+use Rattle.calls.specs.Inner.{tracking_by}
 
 -- ---- the place
 
--- a place that is none is refused with its number
-pub refused-place : (p : Place) (n m : ℕ) → p ≡ Refused n → m ≡ place_number p → p ≡ Refused m
-refused-place p n m e f = let q : m ≡ n = cc in e ∙ ap Refused (sym q)
+-- there is a controller at a place that was found, whoever asked
+pub placed : (d : Device) (words id i : ℕ) → where_is d words id ≡ Ok i → i < 8
+placed d words id i e = (where_is-at d words id i e).below
+
+pub placed_by : (d : Device) (words m id i : ℕ) → where_by d words m id ≡ Ok i → i < 8
+placed_by d words m id i e = placed d words id i (where_by-at d words m id i e).1
 
 -- ---- W12: a controller that a manager finds tracked
 
 module _ (m : ℕ) (t : Tracking) (who : ℕ) where
-  pub tracking_by-other : (who ≡ m → ⊥) → tracking_by m t who ≡ Off
-  tracking_by-other h = go t
-    where
-      go : (t : Tracking) → tracking_by m t who ≡ Off
-      go Off = refl
-      go (On g n) = rw (ne_eqb who m h)
-
-  pub tracking_by-own : who ≡ m → tracking_by m t who ≡ t
-  tracking_by-own e = go t
-    where
-      go : (t : Tracking) → tracking_by m t who ≡ t
-      go Off = refl
-      go (On g n) = rw (eq-eqb who m e)
-
   -- it is tracked, and by that manager
   pub tracking_by-on : (g n : ℕ) → tracking_by m t who ≡ On g n → (t ≡ On g n) × (is_tracker m (tracked_by t who) ≡ true)
   tracking_by-on g n = go t
@@ -68,7 +55,7 @@ module _ (m : ℕ) (t : Tracking) (who : ℕ) where
 
 -- ---- a tracked controller of a sound record
 
-module _ (d : Device) (words id i : ℕ) (e : where_is d words id ≡ At i) (there : i < length d.controllers) (g n : ℕ) (t : (get_or d.controllers i no_controller).tracking ≡ On g n) where
+module _ (d : Device) (words id i : ℕ) (e : where_is d words id ≡ Ok i) (there : i < length d.controllers) (g n : ℕ) (t : (get_or d.controllers i no_controller).tracking ≡ On g n) where
   -- what it holds
   pub held_at : HeldFacts d.settings g n (take n (get_or d.controllers i no_controller).ranges)
   held_at = let l = where_is-at d words id i e in sound_device-held d i g n l.sound l.used there t

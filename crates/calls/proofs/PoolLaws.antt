@@ -3,7 +3,8 @@ use mathlib.Core.Path.{◌≡◌, refl, sym, ap, ◌∙◌}
 use mathlib.Core.Logic.{◌≢◌, ◌⊎◌, inl, inr}
 use mathlib.Core.Bool.{Bool, true, false, cond}
 use mathlib.Core.List.{List, [], ◌∷◌, ◌++◌, map}
-use mathlib.Core.Option.{Option, none, some}
+use Rattle.std.specs.declared.option.Option.{Option}
+use Rattle.std.specs.declared.option.Option.TheVariants.{None, Some}
 use Prim.Native.Nat.{ℕ, zero, suc, ◌+◌, ◌-◌, ◌≤◌, ◌<◌}
 use native.Mathlib.Omega.{arith}
 use lib.Dec.{leb, eqb}
@@ -65,8 +66,8 @@ pub share-size : (c : Controller) → (share_of c).size ≡ held_units (held_of 
 share-size c = go (held_of c)
   where
     go : (o : Option Held) → (share_in c.base o).size ≡ held_units o
-    go none = refl
-    go (some x) = refl
+    go None = refl
+    go (Some x) = refl
 
 module _ (d : Device) (eight : length d.controllers ≡ 8) (most : d.settings.count ≤ 8) where
   in_use : length (controllers_of d) ≡ d.settings.count
@@ -173,8 +174,8 @@ module _ (d : Device) (eight : length d.controllers ≡ 8) (most : d.settings.co
         where
           based : (o : Option Held) → get_or (sizes_of d) j 0 ≡ held_units o → 1 ≤ (share_in (new_base (sizes_of d) j) o).size
               → ((share_in (new_base (sizes_of d) j) o).size ≡ get_or (sizes_of d) j 0) × ((share_in (new_base (sizes_of d) j) o).base ≡ new_base (sizes_of d) j)
-          based none f k = absurd (omega (arith, k))
-          based (some x) f k = (sym f, refl)
+          based None f k = absurd (omega (arith, k))
+          based (Some x) f k = (sym f, refl)
 
       go : (b : Bool) → leb d.settings.count j ≡ b → 1 ≤ (get_or (shares_of (packed_device d)) j no_share).size
           → ((get_or (shares_of (packed_device d)) j no_share).size ≡ get_or (sizes_of d) j 0) × ((get_or (shares_of (packed_device d)) j no_share).base ≡ new_base (sizes_of d) j)

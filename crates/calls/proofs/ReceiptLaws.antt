@@ -2,7 +2,8 @@
 use mathlib.Core.Path.{◌≡◌}
 use mathlib.Core.Bool.{Bool}
 use mathlib.Core.List.{List, map}
-use mathlib.Core.Option.{Option, none, some}
+use Rattle.std.specs.declared.option.Option.{Option}
+use Rattle.std.specs.declared.option.Option.TheVariants.{None, Some}
 use Prim.Native.Nat.{ℕ, ◌+◌, ◌*◌, ◌≤◌}
 use native.Mathlib.Omega.{arith}
 use borrow.Author.Tests.{leb-true}
@@ -37,8 +38,8 @@ module _ (en : Engine) (ws : List ℕ) (id : ℕ) (x : List ℕ) (long : 32 ≤ 
 
   -- those of a receive that is not refused
   done-fits : (d : Device) (p : Option ℕ) → Fits x (receive_done en d ws id x p)
-  done-fits d none = omega arith
-  done-fits d (some i) = report-fits (controller_at d (some i)).base (controller_at d (some i)).suspended (controller_at d (some i)).tracking (controller_at d (some i)).ranges
+  done-fits d None = omega arith
+  done-fits d (Some i) = report-fits (controller_at d (Some i)).base (controller_at d (Some i)).suspended (controller_at d (Some i)).tracking (controller_at d (Some i)).ranges
 
 module _ (en : Engine) (d : Device) (ws : List ℕ) (m id : ℕ) (x : List ℕ) where
   -- a receive that answers 0 was not refused

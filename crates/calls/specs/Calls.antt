@@ -3,7 +3,8 @@
 -- any engine (W9), which is a way to hold marks in an area; `…Change`, `write_note` and `receive_receipt` are those of the engine that holds them in words. A call of
 -- a manager's names it first, then its controller (W12).
 use Rattle.std.specs.Prelude.{ℕ, suc, ◌+◌, ◌*◌, ◌/◌, Bool, false, ◌||◌, cond, List, [], ◌∷◌, map, eqb, length, take, get_or, replicate}
-use Rattle.std.proofs.Math.Option.{Option, none, some}
+use Rattle.std.specs.declared.option.Option.{Option}
+use Rattle.std.specs.declared.option.Option.TheVariants.{None, Some}
 use Rattle.bits.specs.Flat.{flat}
 use Rattle.bits.specs.Span.{fill}
 use Rattle.bits.specs.Share.{get_share, put_share}
@@ -25,10 +26,7 @@ use Rattle.rules.specs.declared.Tracking.{Tracking}
 use Rattle.rules.specs.declared.Tracking.TheVariants.{Off, On}
 use Rattle.rules.specs.declared.Share.{Share}
 use Rattle.rules.specs.declared.Sequence.{Sequence}
-use Rattle.rules.specs.declared.Sequence.TheVariants.{Nothing, Open}
 use Rattle.rules.specs.declared.Ring.{Ring}
-use Rattle.rules.specs.declared.Queue.{Queue}
-use Rattle.rules.specs.declared.Queue.TheVariants as queue
 use Rattle.rules.specs.declared.Controller.{Controller}
 use Rattle.rules.specs.declared.Settings.{Settings}
 use Rattle.rules.specs.declared.Device.{Device}
@@ -142,9 +140,9 @@ abbrev pub started : Controller → ℕ → List ℕ → Controller
 started c m x = record { tracking = On (granularity_of x) (count_of x); manager = m; base = 0; suspended = c.suspended; ranges = placed (ranges_of x); queue = c.queue }
 
 abbrev pub start_done : Engine → Device → List ℕ → ℕ → List ℕ → Option ℕ → Change Started
-start_done e d ws m x none = started_with 0 0 d ws
-start_done e d ws m x (some i) =
-    let d' = with_controller d i (started (controller_at d (some i)) m x) in
+start_done e d ws m x None = started_with 0 0 d ws
+start_done e d ws m x (Some i) =
+    let d' = with_controller d i (started (controller_at d (Some i)) m x) in
     started_with 0 0 (packed_device d') (e.packed ws (bases_of d) (sizes_of d') i)
 
 abbrev pub start_at : Engine → Device → List ℕ → ℕ → List ℕ → Option ℕ → Change Started
@@ -161,9 +159,9 @@ abbrev pub stopped : Controller → Controller
 stopped c = record { tracking = Off; manager = 0; base = 0; suspended = c.suspended; ranges = placed []; queue = c.queue }
 
 abbrev pub stop_done : Engine → Device → List ℕ → Option ℕ → Change Changed
-stop_done e d ws none = changed 0 d ws
-stop_done e d ws (some i) =
-    let c = controller_at d (some i) in
+stop_done e d ws None = changed 0 d ws
+stop_done e d ws (Some i) =
+    let c = controller_at d (Some i) in
     changed 0 (with_controller d i (stopped c)) (e.cleared ws c.base (held_units (held_of c)))
 
 abbrev pub stop_at : Engine → Device → List ℕ → ℕ → Option ℕ → Change Changed
@@ -180,8 +178,8 @@ abbrev pub flagged : Controller → Bool → Controller
 flagged c b = record { tracking = c.tracking; manager = c.manager; base = c.base; suspended = b; ranges = c.ranges; queue = c.queue }
 
 abbrev pub flag_done : Device → Option ℕ → Bool → Changed
-flag_done d none b = record { number = 0; device = d }
-flag_done d (some i) b = record { number = 0; device = with_controller d i (flagged (controller_at d (some i)) b) }
+flag_done d None b = record { number = 0; device = d }
+flag_done d (Some i) b = record { number = 0; device = with_controller d i (flagged (controller_at d (Some i)) b) }
 
 abbrev pub suspend_at : Device → ℕ → ℕ → ℕ → Option ℕ → Changed
 suspend_at d words m kind p =
@@ -191,12 +189,12 @@ unfoldable pub suspend_change : Device → ℕ → ℕ → ℕ → ℕ → Chang
 suspend_change d words m id kind = suspend_at d words m kind (place_of d.settings id)
 
 -- a resume changes the flag, and drops a state of its own that is under way (W6)
-abbrev pub dropped : ℕ → Sequence → Sequence
-dropped id q = cond (owned_by id q) Nothing q
+abbrev pub dropped : ℕ → Option Sequence → Option Sequence
+dropped id q = cond (owned_by id q) None q
 
 abbrev pub resume_done : Device → ℕ → Option ℕ → Changed
-resume_done d id none = record { number = 0; device = d }
-resume_done d id (some i) = record { number = 0; device = with_sequence (with_controller d i (flagged (controller_at d (some i)) false)) (dropped id d.sequence) }
+resume_done d id None = record { number = 0; device = d }
+resume_done d id (Some i) = record { number = 0; device = with_sequence (with_controller d i (flagged (controller_at d (Some i)) false)) (dropped id d.sequence) }
 
 abbrev pub resume_at : Device → ℕ → ℕ → ℕ → Option ℕ → Changed
 resume_at d words m id p = verdict (resume_order d.settings m (seen_in d words p)) (resume_done d id p) (λ n i. record { number = n; device = d })
@@ -220,8 +218,8 @@ note_in e ws base (On g n) rs w =
     noted 0 (newly w (units g (take n rs)) (e.marks ws base (length (units g (take n rs))))) (e.marked ws base w (units g (take n rs)))
 
 abbrev pub write_done : Engine → Device → List ℕ → Write → Option ℕ → Note
-write_done e d ws w none = noted 0 0 ws
-write_done e d ws w (some i) = note_in e ws (controller_at d (some i)).base (controller_at d (some i)).tracking (controller_at d (some i)).ranges w
+write_done e d ws w None = noted 0 0 ws
+write_done e d ws w (Some i) = note_in e ws (controller_at d (Some i)).base (controller_at d (Some i)).tracking (controller_at d (Some i)).ranges w
 
 abbrev pub write_at : Engine → Device → List ℕ → Write → Option ℕ → Note
 write_at e d ws w p = verdict (write_order (seen_in d (e.words ws) p) w) (write_done e d ws w p) (λ n i. noted n 0 ws)
@@ -291,9 +289,9 @@ receive_in e ws base id b Off rs x = received 0 no_report ws x
 receive_in e ws base id b (On g n) rs x = report_in e ws base id b g (units g (take n rs)) x
 
 abbrev pub receive_done : Engine → Device → List ℕ → ℕ → List ℕ → Option ℕ → Receipt
-receive_done e d ws id x none = received 0 no_report ws x
-receive_done e d ws id x (some i) =
-    receive_in e ws (controller_at d (some i)).base id (controller_at d (some i)).suspended (controller_at d (some i)).tracking (controller_at d (some i)).ranges x
+receive_done e d ws id x None = received 0 no_report ws x
+receive_done e d ws id x (Some i) =
+    receive_in e ws (controller_at d (Some i)).base id (controller_at d (Some i)).suspended (controller_at d (Some i)).tracking (controller_at d (Some i)).ranges x
 
 abbrev pub receive_at : Engine → Device → List ℕ → ℕ → ℕ → List ℕ → Option ℕ → Receipt
 receive_at e d ws m id x p = verdict (receive_order d.settings m (seen_in d (e.words ws) p) x) (receive_done e d ws id x p) (λ n i. received n no_report ws x)
@@ -319,7 +317,7 @@ abbrev pub part_done : Device → List ℕ → ℕ → Part → Arrival
 part_done d area id p =
     let joined = joined_with (front_in id d.sequence area) p in
     let stored = put area (offset_of p) p.bytes in
-    cond (is_last p) (arrival 0 (length joined) (with_sequence d Nothing) stored) (arrival 0 0 (with_sequence d (Open id (length joined))) stored)
+    cond (is_last p) (arrival 0 (length joined) (with_sequence d None) stored) (arrival 0 0 (with_sequence d (Some (record { owner = id; end = length joined }))) stored)
 
 abbrev pub part_at : Device → ℕ → List ℕ → ℕ → ℕ → Part → Option ℕ → Arrival
 part_at d words area m id p i = verdict (part_order d.settings m (seen_in d words i) (arriving_in d.sequence area id) p) (part_done d area id p) (λ n j. arrival n 0 d area)
@@ -330,19 +328,19 @@ part_change d words area m id p = part_at d words area m id p (place_of d.settin
 -- ---- a controller's queue (W8)
 
 -- a record in which the controller at a place has another queue
-abbrev pub queuing : Controller → Queue → Controller
+abbrev pub queuing : Controller → Option Ring → Controller
 queuing c q = record { tracking = c.tracking; manager = c.manager; base = c.base; suspended = c.suspended; ranges = c.ranges; queue = q }
 
-abbrev pub with_queue : Device → ℕ → Queue → Device
-with_queue d i q = with_controller d i (queuing (controller_at d (some i)) q)
+abbrev pub with_queue : Device → ℕ → Option Ring → Device
+with_queue d i q = with_controller d i (queuing (controller_at d (Some i)) q)
 
 -- a make: an empty queue, with totals 0, as large as the area
 abbrev pub made_ring : ℕ → Ring
 made_ring bytes = record { size = bytes / entry_bytes; posted = 0; taken = 0; place = 0; stopped = false }
 
 abbrev pub make_done : Device → ℕ → Option ℕ → Changed
-make_done d bytes none = record { number = 0; device = d }
-make_done d bytes (some i) = record { number = 0; device = with_queue d i (queue.Is (made_ring bytes)) }
+make_done d bytes None = record { number = 0; device = d }
+make_done d bytes (Some i) = record { number = 0; device = with_queue d i (Some (made_ring bytes)) }
 
 abbrev pub make_at : Device → ℕ → ℕ → Option ℕ → Changed
 make_at d words bytes p = verdict (queue_order (seen_in d words p) bytes make) (make_done d bytes p) (λ n i. record { number = n; device = d })
@@ -373,16 +371,16 @@ pub record Posting : Type 0 where
 abbrev pub posting : ℕ → Bool → Device → List ℕ → Posting
 posting n stopped d area = record { answer = record { number = n; stopped = stopped; device = d }; area = area }
 
-abbrev pub post_in : Device → ℕ → List ℕ → List ℕ → Queue → Posting
-post_in d i area e queue.Nothing = posting 0 false d area
-post_in d i area e (queue.Is r) =
+abbrev pub post_in : Device → ℕ → List ℕ → List ℕ → Option Ring → Posting
+post_in d i area e None = posting 0 false d area
+post_in d i area e (Some r) =
     let last = closes_at r.size (fill_in r) in
-    posting 0 last (with_queue d i (queue.Is (ring_posted r last)))
+    posting 0 last (with_queue d i (Some (ring_posted r last)))
     (put area (entry_bytes * place_after r.size r.place (fill_in r)) (cond last closing_entry e))
 
 abbrev pub post_done : Device → List ℕ → List ℕ → Option ℕ → Posting
-post_done d area e none = posting 0 false d area
-post_done d area e (some i) = post_in d i area e (controller_at d (some i)).queue
+post_done d area e None = posting 0 false d area
+post_done d area e (Some i) = post_in d i area e (controller_at d (Some i)).queue
 
 abbrev pub post_at : Device → ℕ → List ℕ → List ℕ → Option ℕ → Posting
 post_at d words area e p = verdict (queue_order (seen_in d words p) (length area) (post e)) (post_done d area e p) (λ n i. posting n false d area)
@@ -398,16 +396,16 @@ pub record Taking : Type 0 where
 abbrev pub taking : ℕ → ℕ → Bool → Device → List ℕ → Taking
 taking n count closing d x = record { answer = record { number = n; count = count; closing = closing; device = d }; buffer = x }
 
-abbrev pub take_in : Device → ℕ → List ℕ → ℕ → List ℕ → Queue → Taking
-take_in d i area asked x queue.Nothing = taking 0 0 false d x
-take_in d i area asked x (queue.Is r) =
+abbrev pub take_in : Device → ℕ → List ℕ → ℕ → List ℕ → Option Ring → Taking
+take_in d i area asked x None = taking 0 0 false d x
+take_in d i area asked x (Some r) =
     let es = taken_of asked (length x) (queued_in area r) in
     let m = length es in
-    taking 0 m (closes_with r.stopped m (fill_in r)) (with_queue d i (queue.Is (ring_taken r m))) (put x 0 (joined es))
+    taking 0 m (closes_with r.stopped m (fill_in r)) (with_queue d i (Some (ring_taken r m))) (put x 0 (joined es))
 
 abbrev pub take_done : Device → List ℕ → ℕ → List ℕ → Option ℕ → Taking
-take_done d area asked x none = taking 0 0 false d x
-take_done d area asked x (some i) = take_in d i area asked x (controller_at d (some i)).queue
+take_done d area asked x None = taking 0 0 false d x
+take_done d area asked x (Some i) = take_in d i area asked x (controller_at d (Some i)).queue
 
 abbrev pub take_at : Device → ℕ → List ℕ → ℕ → List ℕ → Option ℕ → Taking
 take_at d words area asked x p = verdict (queue_order (seen_in d words p) (length area) (order.take asked x)) (take_done d area asked x p) (λ n i. taking n 0 false d x)

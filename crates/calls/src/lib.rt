@@ -4,10 +4,12 @@
 #![tactic(auto)]
 
 ghost use Rattle.std.specs.Prelude.{◌≡◌, length};
-ghost use Rattle.calls.specs.Inner.{place_number, tracking_by};
+ghost use Rattle.calls.specs.Inner.{tracking_by, changed_by, started_by, written_by, received_by, state_set_by, posted_by, taken_by};
 
-use record::Place;
-use rules::{Bytes, Controller, Device, Range, Tracking};
+use rules::{Bytes, Controller, Device, Range, Refusal, RowRefusal, Tracking};
+
+// ---- The answers. Each has its number beside its values and is no Result, as `CallsAre` and `Determinacy` of crates/demands/specs speak of these fields, and document 01 asks for
+// the number with zeros. What a call comes to inside is a Result (`changed_by` and its like, below).
 
 // The answer of a call that may change the record: its number, and the record as it is afterwards.
 #[derive(Clone, Copy)]
@@ -95,22 +97,115 @@ pub fn ranges_of(c: Controller) -> [Range; 16]
 pub fn tracking_by(c: Controller, manager: u16) -> Tracking
     ensures { result ≡ tracking_by manager c.tracking c.manager }
 {
-    let t = c.tracking;
-    let Tracking::On(_, _) = t else {
-        return t;
-    };
-    if c.manager != manager {
-        return Tracking::Off;
+    if c.manager == manager {
+        c.tracking
+    } else {
+        Tracking::Off
     }
-    t
 }
 
-// The number of a refused place.
-pub fn number_of(p: Place) -> u8
-    ensures { result ≡ place_number p }
+// ---- What a call answers, by its outcome: of a refused one its refusal's number, the record as it was, and zeros for everything else.
+
+// Of a call that changes the record.
+pub fn changed_by(d: Device, outcome: Result<Device, Refusal>) -> Changed
+    ensures { result ≡ changed_by d outcome }
 {
-    match p {
-        Place::At(_) => 0,
-        Place::Refused(n) => n,
+    match outcome {
+        Ok(device) => Changed { number: 0, device },
+        Err(refusal) => Changed {
+            number: refusal.number(),
+            device: d,
+        },
+    }
+}
+
+// Of a start.
+pub fn started_by(d: Device, outcome: Result<Device, RowRefusal>) -> Started
+    ensures { result ≡ started_by d outcome }
+{
+    match outcome {
+        Ok(device) => Started {
+            number: 0,
+            row: 0,
+            device,
+        },
+        Err(refused) => Started {
+            number: refused.refusal.number(),
+            row: refused.row,
+            device: d,
+        },
+    }
+}
+
+// Of a noted write, which made so many units pending.
+pub fn written_by(outcome: Result<usize, Refusal>) -> Written
+    ensures { result ≡ written_by outcome }
+{
+    match outcome {
+        Ok(count) => Written { number: 0, count },
+        Err(refusal) => Written {
+            number: refusal.number(),
+            count: 0,
+        },
+    }
+}
+
+// Of a receive.
+pub fn received_by(outcome: Result<Received, Refusal>) -> Received
+    ensures { result ≡ received_by outcome }
+{
+    match outcome {
+        Ok(answer) => answer,
+        Err(refusal) => Received {
+            number: refusal.number(),
+            suspended: false,
+            more: false,
+            granularity: 0,
+            runs: 0,
+            groups: 0,
+        },
+    }
+}
+
+// Of a part of a state.
+pub fn state_set_by(d: Device, outcome: Result<StateSet, Refusal>) -> StateSet
+    ensures { result ≡ state_set_by d outcome }
+{
+    match outcome {
+        Ok(answer) => answer,
+        Err(refusal) => StateSet {
+            number: refusal.number(),
+            whole: 0,
+            device: d,
+        },
+    }
+}
+
+// Of a post.
+pub fn posted_by(d: Device, outcome: Result<Posted, Refusal>) -> Posted
+    ensures { result ≡ posted_by d outcome }
+{
+    match outcome {
+        Ok(answer) => answer,
+        Err(refusal) => Posted {
+            number: refusal.number(),
+            stopped: false,
+            device: d,
+        },
+    }
+}
+
+// Of a take.
+pub fn taken_by(d: Device, outcome: Result<Taken, Refusal>) -> Taken
+    ensures { result ≡ taken_by d outcome }
+{
+    match outcome {
+        Ok(answer) => answer,
+        Err(refusal) => Taken {
+            number: refusal.number(),
+            count: 0,
+            closing: false,
+            device: d,
+        },
     }
 }

@@ -2,25 +2,26 @@
 use mathlib.Core.Path.{◌≡◌, refl, sym, ap, ◌∙◌}
 use mathlib.Core.Logic.{◌≢◌}
 use mathlib.Core.Bool.{Bool, true, false, ◌&&◌, ◌||◌, not, cond, and-true, and-false, true≢false}
-use mathlib.Core.List.{List, [], ◌∷◌, ◌++◌}
-use mathlib.Core.Option.{none, some}
-use Prim.Native.Nat.{ℕ, ◌+◌, ◌-◌, ◌*◌, ◌%◌, ◌^◌, ◌≤◌, ◌<◌}
+use mathlib.Core.List.{List, ◌++◌}
+use Rattle.std.specs.declared.option.Option.TheVariants.{None, Some}
+use Prim.Native.Nat.{ℕ, ◌+◌, ◌*◌, ◌%◌, ◌^◌, ◌≤◌}
 use native.Mathlib.Omega.{arith}
 use lib.Dec.{leb, eqb}
 use lib.ListN.{length, take, drop, get_or}
-use borrow.Author.Tests.{le-leb, lt-leb, leb-true, lt-ltb, eq-eqb, ne_eqb, eqb-true}
+use borrow.Author.Tests.{leb-true, eq-eqb, ne_eqb, eqb-true}
 use Rattle.little.specs.Little.{put}
-use Rattle.rules.specs.Refusals.{verdict, refusal}
+use Rattle.rules.specs.Refusals.{verdict, refusal, number_of}
+use Rattle.rules.specs.declared.Refusal.{Refusal}
 use Rattle.rules.specs.Settings.{is_manager, place_of}
 use Rattle.rules.specs.ControllerState.{state_most, state_ok}
-use Rattle.rules.specs.Order.{Part, offset_of, first_by, last_by, is_first, is_last, is_offset, are_counted, data_ok, follows_on, follows, so_far, joined_with, part_tests, part_order}
+use Rattle.rules.specs.Order.{Part, offset_of, is_first, is_last, is_offset, data_ok, follows_on, follows, so_far, joined_with, part_tests, part_order}
 use Rattle.rules.specs.declared.Sequence.{Sequence}
-use Rattle.rules.specs.declared.Sequence.TheVariants.{Nothing, Open}
+use Rattle.std.specs.declared.option.Option.{Option}
 use Rattle.rules.specs.declared.Device.{Device}
 use Rattle.rules.proofs.ListLaws.{and_left, and_right}
 use Rattle.rules.proofs.RefusalLaws.{Passed, refusal-none, passes-Passed, verdict-refused, verdict-passed}
 use Rattle.record.specs.Record.{no_controller, with_sequence, others_in, front_of, front_in, arriving_in, where_by, seen_in}
-use Rattle.record.specs.declared.Place.TheVariants.{At, Refused}
+use Rattle.std.specs.declared.result.Result.TheVariants.{Err, Ok}
 use Rattle.record.proofs.RecordLaws.{front_of-length, front_of-take, Located, where_is-at, where_by-tests, where_by-at}
 use Rattle.state_bytes.specs.Parts.{assembled}
 use Rattle.state_bytes.proofs.PartLaws.{assembled-length, assembled-put}
@@ -28,36 +29,7 @@ use Rattle.calls.specs.declared.StateSet.{StateSet}
 use Rattle.calls.specs.Calls.{Arrival, arrival, part_done, part_change}
 use Rattle.controller_state.specs.Inner.{goes_on, is_next, ended_at}
 
--- ---- indicators
-
-pub first_one : (i : ℕ) → i ≡ 1 → true ≡ first_by i
-first_one i e = rw e
-
-pub first_rest : (i : ℕ) → i ≢ 1 → eqb i 3 ≡ first_by i
-first_rest i h = rw (ne_eqb i 1 h)
-
-pub last-two : (i : ℕ) → i ≡ 2 → true ≡ last_by i
-last-two i e = rw e
-
-pub last_rest : (i : ℕ) → i ≢ 2 → eqb i 3 ≡ last_by i
-last_rest i h = rw (ne_eqb i 2 h)
-
--- ---- 24
-
-beyond : (n : ℕ) → 4096 < n → false ≡ is_offset n
-beyond n h = rw (lt-leb n 4096 h) (sym (and-false (eqb (n % 4) 0)))
-
-pub offset-high : (low high : ℕ) → high ≢ 0 → false ≡ is_offset (low + 2 ^ 32 * high)
-offset-high low high h = beyond (low + 2 ^ 32 * high) (omega arith)
-
-alike : (low high : ℕ) → high ≡ 0 → low + 2 ^ 32 * high ≡ low
-alike low high z = omega arith
-
-pub offset-low : (low high : ℕ) → high ≡ 0 → 4096 < low → false ≡ is_offset (low + 2 ^ 32 * high)
-offset-low low high z h = beyond low h ∙ ap is_offset (sym (alike low high z))
-
-pub offset-rest : (low high : ℕ) → high ≡ 0 → low ≤ 4096 → eqb (low % 4) 0 ≡ is_offset (low + 2 ^ 32 * high)
-offset-rest low high z h = sym (ap is_offset (alike low high z) ∙ rw (le-leb low 4096 h) (and-true (eqb (low % 4) 0)))
+-- ---- the offset
 
 -- one that passes has its higher word clear
 pub offset-is : (low high : ℕ) → is_offset (low + 2 ^ 32 * high) ≡ true → low + 2 ^ 32 * high ≡ low
@@ -66,85 +38,46 @@ offset-is low high f = let h : low + 2 ^ 32 * high ≤ 4096 = leb-true (low + 2 
 pub offset-within : (low high : ℕ) → is_offset (low + 2 ^ 32 * high) ≡ true → low ≤ 4096
 offset-within low high f = let h : low + 2 ^ 32 * high ≤ 4096 = leb-true (low + 2 ^ 32 * high) 4096 (and_right (eqb ((low + 2 ^ 32 * high) % 4) 0) _ f) in omega arith
 
--- ---- 25
-
-module _ (i count bytes : ℕ) where
-  pub counted-indicator : 3 < i → false ≡ are_counted i count bytes
-  counted-indicator h = rw (lt-leb i 3 h)
-
-  module _ (h : i ≤ 3) where
-    pub counted_none : count ≡ 0 → i ≢ 2 → false ≡ are_counted i count bytes
-    counted_none z e = rw (le-leb i 3 h, z, ne_eqb i 2 e)
-
-    pub counted-last : count ≡ 0 → i ≡ 2 → eqb bytes 0 ≡ are_counted i count bytes
-    counted-last z e = rw (z, e)
-
-    pub counted-rest : count ≢ 0 → eqb bytes (4 * count) ≡ are_counted i count bytes
-    counted-rest z = rw (le-leb i 3 h, lt-ltb 0 count (omega arith))
-
--- ---- 23 and 26
-
-pub others-none : (q : Sequence) (id : ℕ) → q ≡ Nothing → false ≡ others_in id q
-others-none q id e = rw e
-
-pub others-open : (q : Sequence) (id owner end : ℕ) → q ≡ Open owner end → not (eqb owner id) ≡ others_in id q
-others-open q id owner end e = rw e
-
-module _ (q : Sequence) (id i offset : ℕ) where
-  pub next-first : first_by i ≡ true → eqb offset 0 ≡ is_next q id i offset
-  next-first f = rw f
-
-  module _ (f : first_by i ≡ false) where
-    pub next-none : q ≡ Nothing → false ≡ is_next q id i offset
-    next-none e = rw (f, e)
-
-    module _ (owner end : ℕ) (e : q ≡ Open owner end) where
-      pub next-other : owner ≢ id → false ≡ is_next q id i offset
-      next-other s = rw (f, e, ne_eqb owner id s)
-
-      pub next-own : owner ≡ id → eqb offset end ≡ is_next q id i offset
-      next-own s = rw (f, e, eq-eqb owner id s)
-
 -- ---- the bytes so far
 
 -- an open sequence ends within the area
-abbrev pub Within : Sequence → Type 0
-Within q = (owner end : ℕ) → q ≡ Open owner end → end ≤ 4096
+abbrev pub Within : Option Sequence → Type 0
+Within q = (owner end : ℕ) → q ≡ Some (record { owner = owner; end = end }) → end ≤ 4096
 
 module _ (area : List ℕ) (id : ℕ) (p : Part) where
   -- 26 is asked of the end alone
-  follows_next : (q : Sequence) → follows (front_in id q area) p ≡ is_next q id p.indicator (offset_of p)
+  follows_next : (q : Option Sequence) → follows (front_in id q area) p ≡ is_next q id p.indicator (offset_of p)
   follows_next q = ap (λ b. cond (is_first p) (eqb (offset_of p) 0) b) (go q)
     where
-      own : (owner end : ℕ) (b : Bool) → follows_on (cond b (some (front_of end area)) none) p ≡ (b && eqb (offset_of p) end)
+      own : (owner end : ℕ) (b : Bool) → follows_on (cond b (Some (front_of end area)) None) p ≡ (b && eqb (offset_of p) end)
       own owner end true = ap (eqb (offset_of p)) (front_of-length end area)
       own owner end false = refl
 
-      go : (q : Sequence) → follows_on (front_in id q area) p ≡ goes_on q id (offset_of p)
-      go Nothing = refl
-      go (Open owner end) = own owner end (eqb owner id)
+      go : (q : Option Sequence) → follows_on (front_in id q area) p ≡ goes_on q id (offset_of p)
+      go None = refl
+      go (Some seq) = own seq.owner seq.end (eqb seq.owner id)
 
   -- the whole that a part makes which follows: the area's bytes before it, and then its own
-  joined-assembled : length area ≡ 4096 → (q : Sequence) → Within q → is_next q id p.indicator (offset_of p) ≡ true
+  joined-assembled : length area ≡ 4096 → (q : Option Sequence) → Within q → is_next q id p.indicator (offset_of p) ≡ true
       → joined_with (front_in id q area) p ≡ assembled area (offset_of p) p.bytes
   unfolding assembled
   joined-assembled l q w n = go (is_first p) q refl n
     where
-      own : (owner end : ℕ) → q ≡ Open owner end → (b : Bool) → (b && eqb (offset_of p) end) ≡ true
-          → (so_far (cond b (some (front_of end area)) none) ++ p.bytes) ≡ (take (offset_of p) area ++ p.bytes)
+      own : (owner end : ℕ) → q ≡ Some (record { owner = owner; end = end }) → (b : Bool) → (b && eqb (offset_of p) end) ≡ true
+          → (so_far (cond b (Some (front_of end area)) None) ++ p.bytes) ≡ (take (offset_of p) area ++ p.bytes)
       own owner end e true h =
           let z : offset_of p ≡ end = eqb-true (offset_of p) end h in
           ap (λ x. x ++ p.bytes) (front_of-take end area (omega (arith, l, w owner end e)) ∙ ap (λ k. take k area) (sym z))
       own owner end e false h = absurd (true≢false (sym h))
 
-      go : (b : Bool) (r : Sequence) → q ≡ r → cond b (eqb (offset_of p) 0) (goes_on r id (offset_of p)) ≡ true
+      go : (b : Bool) (r : Option Sequence) → q ≡ r → cond b (eqb (offset_of p) 0) (goes_on r id (offset_of p)) ≡ true
           → cond b p.bytes (so_far (front_in id r area) ++ p.bytes) ≡ (take (offset_of p) area ++ p.bytes)
       go true r e h = let z : offset_of p ≡ 0 = eqb-true (offset_of p) 0 h in rw z
-      go false Nothing e h = absurd (true≢false (sym h))
-      go false (Open owner end) e h = own owner end e (eqb owner id) h
+      go false None e h = absurd (true≢false (sym h))
+      go false (Some seq) e h = own seq.owner seq.end e (eqb seq.owner id) h
 
   -- so the area's first bytes, once it is stored, are the bytes so far
-  pub joined-stored : length area ≡ 4096 → (q : Sequence) → Within q → follows (front_in id q area) p ≡ true → offset_of p ≤ 4096
+  pub joined-stored : length area ≡ 4096 → (q : Option Sequence) → Within q → follows (front_in id q area) p ≡ true → offset_of p ≤ 4096
       → length (joined_with (front_in id q area) p) ≤ 4096
       → take (length (joined_with (front_in id q area) p)) (put area (offset_of p) p.bytes) ≡ joined_with (front_in id q area) p
   joined-stored l q w f o n =
@@ -154,60 +87,20 @@ module _ (area : List ℕ) (id : ℕ) (p : Part) where
 
 -- ---- the tests together
 
-module _ (q : Sequence) (area : List ℕ) (id : ℕ) (p : Part) where
-  abbrev number : ℕ
-  number = refusal (part_tests (arriving_in q area id) p)
+module _ (q : Option Sequence) (area : List ℕ) (id : ℕ) (p : Part) (o : others_in id q ≡ false) (f : is_offset (offset_of p) ≡ true) (d : data_ok p ≡ true) where
+  pub part_next : is_next q id p.indicator p.low ≡ false → 26 ≡ refusal (part_tests (arriving_in q area id) p)
+  part_next n = let e = offset-is p.low p.high f in rw (o, f, d, follows_next area id p q, e, n)
 
-  pub part_others : others_in id q ≡ true → 23 ≡ number
-  part_others o = rw o
-
-  module _ (o : others_in id q ≡ false) where
-    pub part-offset : is_offset (offset_of p) ≡ false → 24 ≡ number
-    part-offset f = rw (o, f)
-
-    module _ (f : is_offset (offset_of p) ≡ true) where
-      pub part-data : data_ok p ≡ false → 25 ≡ number
-      part-data d = rw (o, f, d)
-
-      module _ (d : data_ok p ≡ true) where
-        pub part_next : is_next q id p.indicator (offset_of p) ≡ false → 26 ≡ number
-        part_next n = rw (o, f, d, follows_next area id p q, n)
-
-        module _ (l : length area ≡ 4096) (w : Within q) (n : is_next q id p.indicator (offset_of p) ≡ true) where
-          abbrev whole : List ℕ
-          whole = assembled area (offset_of p) p.bytes
-
-          whole_length : length whole ≡ offset_of p + length p.bytes
-          whole_length =
-              let h : offset_of p ≤ 4096 = leb-true (offset_of p) 4096 (and_right (eqb (offset_of p % 4) 0) (leb (offset_of p) 4096) f) in
-              assembled-length area (offset_of p) p.bytes (omega (arith, l, h))
-
-          last_of : number ≡ refusal ((record { ok = leb (length whole) state_most && (not (is_last p) || state_ok whole); number = 27; place = 0 }) ∷ [])
-          last_of =
-              rw (o, f, d, follows_next area id p q, n)
-              (ap (λ (x : List ℕ). refusal ((record { ok = leb (length x) state_most && (not (is_last p) || state_ok x); number = 27; place = 0 }) ∷ [])) (joined-assembled area id p l q w n))
-
-          pub part-long : 4096 - offset_of p < length p.bytes → 27 ≡ number
-          part-long h = sym (last_of ∙ rw (lt-leb (length whole) 4096 (omega (arith, whole_length))))
-
-          module _ (h : length p.bytes ≤ 4096 - offset_of p) (u : offset_of p ≤ 4096) where
-            fits : leb (length whole) state_most ≡ true
-            fits = le-leb (length whole) 4096 (omega (arith, whole_length))
-
-            pub part-more : is_last p ≡ false → 0 ≡ number
-            part-more z = sym (last_of ∙ rw (fits, z))
-
-            pub part-state : is_last p ≡ true → (b : Bool) → b ≡ state_ok whole → cond b 0 27 ≡ number
-            part-state z b e = sym (last_of ∙ rw (fits, z, sym e))
-
--- ---- the answer to an accepted part
-
-module _ (d : Device) (id i end : ℕ) where
-  pub ended-last : last_by i ≡ true → (e : Device) → e ≡ with_sequence d Nothing → record { number = 0; whole = end; device = e } ≡ ended_at d id i end
-  ended-last z e s = rw (z, s)
-
-  pub ended-open : last_by i ≡ false → (e : Device) → e ≡ with_sequence d (Open id end) → record { number = 0; whole = 0; device = e } ≡ ended_at d id i end
-  ended-open z e s = rw (z, s)
+  -- past 26 it is the whole that decides: the area's bytes before the part, and then its own
+  module _ (l : length area ≡ 4096) (w : Within q) (n : is_next q id p.indicator p.low ≡ true) where
+    pub part-whole : cond (leb (p.low + length p.bytes) state_most && (not (is_last p) || state_ok (assembled area p.low p.bytes))) 0 27
+        ≡ refusal (part_tests (arriving_in q area id) p)
+    part-whole =
+        let e = offset-is p.low p.high f in
+        let next : is_next q id p.indicator (offset_of p) ≡ true = rw e n in
+        let size : length (assembled area p.low p.bytes) ≡ p.low + length p.bytes = assembled-length area p.low p.bytes (omega (arith, l, offset-within p.low p.high f)) in
+        let whole : joined_with (front_in id q area) p ≡ assembled area p.low p.bytes = joined-assembled area id p l q w next ∙ ap (λ k. assembled area k p.bytes) e in
+        rw (o, f, d, follows_next area id p q, next, whole, size)
 
 -- ---- the call, case by case
 
@@ -221,14 +114,14 @@ module _ (d : Device) (words : ℕ) (area : List ℕ) (m id : ℕ) (p : Part) wh
   call-area h = rw (ne_eqb (length area) 4096 h, and-false (seen_in d words (place_of d.settings id)).sound)
 
   module _ (l : length area ≡ 4096) where
-    pub call-refused : (n : ℕ) → where_by d words m id ≡ Refused n → part_change d words area m id p ≡ arrival n 0 d area
+    pub call-refused : (r : Refusal) → where_by d words m id ≡ Err r → part_change d words area m id p ≡ arrival (number_of r) 0 d area
     unfolding part_change
     call-refused n e =
         let v = seen_in d words (place_of d.settings id) in
         rw (eq-eqb (length area) 4096 l, and-true v.sound)
         (where_by-tests d words m id n e (drop 3 (part_order d.settings m v (arriving_in d.sequence area id) p)) (part_done d area id p) (λ n j. arrival n 0 d area))
 
-    module _ (i : ℕ) (e : where_by d words m id ≡ At i) where
+    module _ (i : ℕ) (e : where_by d words m id ≡ Ok i) where
       found : Located d words id i
       found = where_is-at d words id i (where_by-at d words m id i e).1
 
@@ -282,9 +175,9 @@ module _ (d : Device) (words : ℕ) (area : List ℕ) (m id : ℕ) (p : Part) wh
               end = p.low + length p.bytes
 
               go : (b : Bool)
-                  → cond b (arrival 0 end (with_sequence d Nothing) (put area p.low p.bytes)) (arrival 0 0 (with_sequence d (Open id end)) (put area p.low p.bytes))
+                  → cond b (arrival 0 end (with_sequence d None) (put area p.low p.bytes)) (arrival 0 0 (with_sequence d (Some (record { owner = id; end = end }))) (put area p.low p.bytes))
                   ≡ record {
-                    answer = cond b (record { number = 0; whole = end; device = with_sequence d Nothing }) (record { number = 0; whole = 0; device = with_sequence d (Open id end) });
+                    answer = cond b (record { number = 0; whole = end; device = with_sequence d None }) (record { number = 0; whole = 0; device = with_sequence d (Some (record { owner = id; end = end })) });
                     area = put area p.low p.bytes;
                   }
               go true = refl

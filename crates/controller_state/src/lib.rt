@@ -3,172 +3,151 @@
 #![tactic(auto)]
 
 ghost use Rattle.std.specs.Prelude.{◌≡◌, ◌+◌, ◌*◌, ◌^◌, ◌≤◌, length};
-ghost use Rattle.rules.specs.Refusals.{refusal};
+ghost use Rattle.rules.specs.Refusals.{refusal, refused_by};
 ghost use Rattle.rules.specs.Order.{first_by, last_by, is_offset, are_counted, part_tests};
-ghost use Rattle.rules.specs.declared.Sequence.TheVariants.{Open};
-ghost use Rattle.record.specs.Record.{with_sequence, others_in, arriving_in};
+ghost use Rattle.std.specs.declared.option.Option.TheVariants.{Some};
+ghost use Rattle.record.specs.Record.{others_in, arriving_in};
 ghost use Rattle.calls.specs.Calls.{part_change};
-ghost use Rattle.controller_state.specs.Inner.{is_next, ended_at};
+ghost use Rattle.calls.specs.Inner.{state_set_by};
+ghost use Rattle.controller_state.specs.Inner.{part_of, is_next, ended_at};
 
 use calls::StateSet;
-use record::Place;
-use rules::{Device, STATE_BYTES, Sequence};
+use rules::{Device, Refusal, STATE_BYTES, Sequence};
 
 // ---- a part by itself
 
-// Whether an indicator is that of a first or only part.
-fn is_first(indicator: u8) -> bool
-    ensures { result ≡ first_by indicator }
-{
-    if indicator == 1 {
-        return true;
-    }
-    indicator == 3
+// A part of a state, as it is sent.
+#[derive(Clone, Copy)]
+pub struct Part<'a> {
+    pub indicator: u8,
+    pub low: u32,
+    pub high: u32,
+    pub count: u32,
+    pub bytes: &'a [u8],
 }
 
-// Whether an indicator is that of a last or only part.
-fn is_last(indicator: u8) -> bool
-    ensures { result ≡ last_by indicator }
-{
-    if indicator == 2 {
-        return true;
+impl Part<'_> {
+    // Whether it is a first or only part.
+    fn is_first(self) -> bool
+        ensures { result ≡ first_by self.entry.indicator }
+    {
+        self.indicator == 1 || self.indicator == 3
     }
-    indicator == 3
-}
 
-// Whether an offset, in two words, is whole dwords and within the area. With its higher word set it is past any area.
-fn offset_ok(low: u32, high: u32) -> bool
-    ensures { result ≡ is_offset (low + 2 ^ 32 * high) }
-{
-    if high != 0 {
-        return false;
+    // Whether it is a last or only part.
+    fn is_last(self) -> bool
+        ensures { result ≡ last_by self.entry.indicator }
+    {
+        self.indicator == 2 || self.indicator == 3
     }
-    if low > 4096 {
-        return false;
-    }
-    low % 4 == 0
-}
 
-// Whether an indicator has two bits, no dwords come with 10b alone, and so many bytes are the dwords that are counted.
-fn data_ok(indicator: u8, count: u32, bytes: usize) -> bool
-    ensures { result ≡ are_counted indicator count bytes }
-{
-    if indicator > 3 {
-        return false;
+    // Whether its offset, in two words, is whole dwords and within the area. With its higher word set it is past any area.
+    fn offset_ok(self) -> bool
+        ensures { result ≡ is_offset (self.entry.low + 2 ^ 32 * self.entry.high) }
+    {
+        self.high == 0 && self.low <= 4096 && self.low % 4 == 0
     }
-    if count == 0 {
-        if indicator != 2 {
-            return false;
-        }
-        return bytes == 0;
+
+    // Whether its indicator has two bits, no dwords come with 10b alone, and its bytes are the dwords that are counted.
+    fn data_ok(self) -> bool
+        ensures { result ≡ are_counted self.entry.indicator self.entry.count (length self.entry.bytes.now) }
+    {
+        self.indicator <= 3
+            && (self.count != 0 || self.indicator == 2)
+            && self.bytes.len() == 4 * (self.count as usize)
     }
-    bytes == 4 * (count as usize)
 }
 
 // ---- a part and the sequence
 
 // Whether a sequence is another controller's.
-fn is_others(q: Sequence, id: u16) -> bool
+fn is_others(q: Option<Sequence>, id: u16) -> bool
     ensures { result ≡ others_in id q }
 {
-    let Sequence::Open(owner, end) = q else {
-        return false;
-    };
-    owner != id
+    q.is_some_and(|open| open.owner != id)
 }
 
 // Whether a part follows: a first or only one begins at 0, any other where the controller's own sequence ends.
-fn is_next(q: Sequence, id: u16, indicator: u8, offset: usize) -> bool
-    ensures { result ≡ is_next q id indicator offset }
+fn is_next(q: Option<Sequence>, id: u16, part: Part<'_>) -> bool
+    ensures { result ≡ is_next q id part.entry.indicator part.entry.low }
 {
-    if is_first(indicator) {
-        return offset == 0;
+    if part.is_first() {
+        part.low == 0
+    } else {
+        q.is_some_and(|open| open.owner == id && part.low == open.end as u32)
     }
-    let Sequence::Open(owner, end) = q else {
-        return false;
-    };
-    if owner != id {
-        return false;
-    }
-    offset == end as usize
 }
 
-// The first of 23 to 27 that a part is refused with, or 0: another's sequence, offset, data, out of sequence, past the area or no finished state.
-fn part_number(
-    q: Sequence,
-    id: u16,
-    area: &[u8],
-    indicator: u8,
-    low: u32,
-    high: u32,
-    count: u32,
-    data: &[u8],
-) -> u8
-    requires { (length area.now ≡ 4096) × ((owner end : _) → q ≡ Open owner end → end ≤ 4096) }
-    ensures { result
-        ≡ refusal (part_tests (arriving_in q area.now id) (record { indicator = indicator; low = low; high = high; count = count; bytes = «data».now })) }
+// Why a part is refused by itself or by the sequence, the first of 23 to 27: another's sequence, offset, data, out of sequence, past the area or no finished state.
+fn part_refusal(q: Option<Sequence>, id: u16, area: &[u8], part: Part<'_>) -> Result<(), Refusal>
+    requires { (length area.now ≡ 4096) × ((owner end : _) → q ≡ Some (record { owner = owner; end = end }) → end ≤ 4096) }
+    ensures { refused_by result ≡ refusal (part_tests (arriving_in q area.now id) (part_of part.entry)) }
 {
     if is_others(q, id) {
-        return 23;
+        return Err(Refusal::Others);
     }
-    if !offset_ok(low, high) {
-        return 24;
+    if !part.offset_ok() {
+        return Err(Refusal::Offset);
     }
-    if !data_ok(indicator, count, data.len()) {
-        return 25;
+    if !part.data_ok() {
+        return Err(Refusal::Data);
     }
-    let offset = low as usize;
-    if !is_next(q, id, indicator, offset) {
-        return 26;
+    if !is_next(q, id, part) {
+        return Err(Refusal::Order);
     }
-    if data.len() > STATE_BYTES - offset {
-        return 27;
+    let offset = part.low as usize;
+    if part.bytes.len() > STATE_BYTES - offset {
+        return Err(Refusal::State);
     }
-    if !is_last(indicator) {
-        return 0;
+    if part.is_last() && !state_bytes::judge(area, offset, part.bytes) {
+        return Err(Refusal::State);
     }
-    if !state_bytes::judge(area, offset, data) {
-        return 27;
-    }
-    0
+    Ok(())
 }
 
 // ---- the call
 
-// The record with another sequence.
-fn with_sequence(d: Device, sequence: Sequence) -> Device
-    ensures { result ≡ with_sequence d sequence }
+// The answer to an accepted part that ends at byte `end`.
+fn accepted(d: Device, id: u16, part: Part<'_>, end: usize) -> StateSet
+    requires { end ≤ 4096 }
+    ensures { result ≡ ended_at d id part.entry.indicator end }
 {
-    let settings = d.settings;
-    let controllers = d.controllers;
-    Device {
-        settings,
-        controllers,
-        sequence,
+    let (whole, sequence) = if part.is_last() {
+        (end, None)
+    } else {
+        let end = end as u16;
+        (0, Some(Sequence { owner: id, end }))
+    };
+    StateSet {
+        number: 0,
+        whole,
+        device: Device { sequence, ..d },
     }
 }
 
-// The answer to an accepted part that ends at byte `end`.
-fn accepted(d: Device, id: u16, indicator: u8, end: usize) -> StateSet
-    requires { end ≤ 4096 }
-    ensures { result ≡ ended_at d id indicator end }
+// What a part comes to.
+fn try_set_state(
+    d: Device,
+    words: usize,
+    area: &mut [u8],
+    manager: u16,
+    id: u16,
+    part: Part<'_>,
+) -> Result<StateSet, Refusal>
+    ensures { (state_set_by d result ≡ (part_change d words area.old manager id (part_of part.entry)).answer)
+        × (area.new ≡ (part_change d words area.old manager id (part_of part.entry)).area) }
 {
-    if is_last(indicator) {
-        let none = Sequence::Nothing;
-        let device = with_sequence(d, none);
-        return StateSet {
-            number: 0,
-            whole: end,
-            device,
-        };
+    if area.len() != STATE_BYTES {
+        return Err(Refusal::Unsound);
     }
-    let open = Sequence::Open(id, end as u16);
-    let device = with_sequence(d, open);
-    StateSet {
-        number: 0,
-        whole: 0,
-        device,
+    let i = record::locate_by(d, words, manager, id)?;
+    if !d.controllers[i].suspended {
+        return Err(Refusal::Running);
     }
+    part_refusal(d.sequence, id, area, part)?;
+    let offset = part.low as usize;
+    state_bytes::store(area, offset, part.bytes);
+    Ok(accepted(d, id, part, offset + part.bytes.len()))
 }
 
 // `set_state` on marks of so many words, however they are held.
@@ -189,42 +168,15 @@ pub fn set_state_on(
         × (area.new
         ≡ (part_change d words area.old manager id (record { indicator = indicator; low = low; high = high; count = count; bytes = «data».now })).area) }
 {
-    if area.len() != STATE_BYTES {
-        return StateSet {
-            number: 1,
-            whole: 0,
-            device: d,
-        };
-    }
-    let place = record::locate_by(d, words, manager, id);
-    let Place::At(i) = place else {
-        let number = calls::number_of(place);
-        return StateSet {
-            number,
-            whole: 0,
-            device: d,
-        };
+    let part = Part {
+        indicator,
+        low,
+        high,
+        count,
+        bytes: data,
     };
-    let c = d.controllers[i];
-    if !c.suspended {
-        return StateSet {
-            number: 13,
-            whole: 0,
-            device: d,
-        };
-    }
-    let q = d.sequence;
-    let number = part_number(q, id, area, indicator, low, high, count, data);
-    if number != 0 {
-        return StateSet {
-            number,
-            whole: 0,
-            device: d,
-        };
-    }
-    let offset = low as usize;
-    state_bytes::store(area, offset, data);
-    accepted(d, id, indicator, offset + data.len())
+    let outcome = try_set_state(d, words, area, manager, id, part);
+    calls::state_set_by(d, outcome)
 }
 
 // Takes a part of a controller's state, whichever manager sends it: its data go into the area at their offset. The last or only part of a sequence ends it, and answers how many bytes the state

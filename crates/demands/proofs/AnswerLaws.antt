@@ -3,7 +3,9 @@ use mathlib.Core.Path.{◌≡◌, refl, ap, ap₂, ◌∙◌}
 use mathlib.Core.Logic.{◌≢◌}
 use mathlib.Core.Bool.{Bool, true, false, cond}
 use mathlib.Core.List.{List, [], ◌∷◌}
-use mathlib.Core.Option.{Option, none, some}
+use Rattle.std.specs.declared.option.Option.{Option}
+use Rattle.rules.specs.declared.Ring.{Ring}
+use Rattle.std.specs.declared.option.Option.TheVariants.{None, Some}
 use Prim.Native.Nat.{ℕ}
 use lib.Dec.{eqb}
 use lib.ListN.{length}
@@ -14,9 +16,6 @@ use Rattle.rules.specs.Units.{Write}
 use Rattle.rules.specs.Machine.{no_report}
 use Rattle.rules.specs.Order.{fresh_order, start_order, receive_order, Part, offset_of, is_last, joined_with}
 use Rattle.rules.specs.Device.{closed_device, fresh_of}
-use Rattle.rules.specs.declared.Sequence.TheVariants.{Nothing, Open}
-use Rattle.rules.specs.declared.Queue.{Queue}
-use Rattle.rules.specs.declared.Queue.TheVariants as made
 use Rattle.rules.specs.declared.Settings.{Settings}
 use Rattle.rules.specs.declared.Device.{Device}
 use Rattle.rules.specs.declared.Range.{Range}
@@ -44,12 +43,12 @@ answers A number was ts end refuse z e w =
 
 -- a done start has zeros in number and row
 pub start-zero : (en : Engine) (d : Device) (ws : List ℕ) (m : ℕ) (x : List ℕ) (p : Option ℕ) → (start_done en d ws m x p).answer.number ≡ 0
-start-zero en d ws m x none = refl
-start-zero en d ws m x (some i) = refl
+start-zero en d ws m x None = refl
+start-zero en d ws m x (Some i) = refl
 
 start-row : (en : Engine) (d : Device) (ws : List ℕ) (m : ℕ) (x : List ℕ) (p : Option ℕ) → (start_done en d ws m x p).answer.row ≡ 0
-start-row en d ws m x none = refl
-start-row en d ws m x (some i) = refl
+start-row en d ws m x None = refl
+start-row en d ws m x (Some i) = refl
 
 -- a start's row is its table's
 pub row_is : (en : Engine) (d : Device) (ws : List ℕ) (m id : ℕ) (x : List ℕ)
@@ -62,52 +61,52 @@ row_is en d ws m id x =
     ∙ ap (λ k. verdict ts k (λ n i. i)) (start-row en d ws m x p)
 
 pub stop-zero : (en : Engine) (d : Device) (ws : List ℕ) (p : Option ℕ) → (stop_done en d ws p).answer.number ≡ 0
-stop-zero en d ws none = refl
-stop-zero en d ws (some i) = refl
+stop-zero en d ws None = refl
+stop-zero en d ws (Some i) = refl
 
 pub flag-zero : (d : Device) (p : Option ℕ) (b : Bool) → (flag_done d p b).number ≡ 0
-flag-zero d none b = refl
-flag-zero d (some i) b = refl
+flag-zero d None b = refl
+flag-zero d (Some i) b = refl
 
 pub resume-zero : (d : Device) (id : ℕ) (p : Option ℕ) → (resume_done d id p).number ≡ 0
-resume-zero d id none = refl
-resume-zero d id (some i) = refl
+resume-zero d id None = refl
+resume-zero d id (Some i) = refl
 
 pub part-zero : (d : Device) (area : List ℕ) (id : ℕ) (p : Part) → (part_done d area id p).answer.number ≡ 0
 part-zero d area id p = go (is_last p) (length (joined_with (front_in id d.sequence area) p)) (put area (offset_of p) p.bytes)
   where
-    go : (b : Bool) (n : ℕ) (x : List ℕ) → (cond b (arrival 0 n (with_sequence d Nothing) x) (arrival 0 0 (with_sequence d (Open id n)) x)).answer.number ≡ 0
+    go : (b : Bool) (n : ℕ) (x : List ℕ) → (cond b (arrival 0 n (with_sequence d None) x) (arrival 0 0 (with_sequence d (Some (record { owner = id; end = n }))) x)).answer.number ≡ 0
     go true n x = refl
     go false n x = refl
 
 -- W8: so has a done call to a queue
 pub make-zero : (d : Device) (bytes : ℕ) (p : Option ℕ) → (make_done d bytes p).number ≡ 0
-make-zero d bytes none = refl
-make-zero d bytes (some i) = refl
+make-zero d bytes None = refl
+make-zero d bytes (Some i) = refl
 
 pub post-zero : (d : Device) (area e : List ℕ) (p : Option ℕ) → (post_done d area e p).answer.number ≡ 0
-post-zero d area e none = refl
-post-zero d area e (some i) = go (controller_at d (some i)).queue
+post-zero d area e None = refl
+post-zero d area e (Some i) = go (controller_at d (Some i)).queue
   where
-    go : (q : Queue) → (post_in d i area e q).answer.number ≡ 0
-    go made.Nothing = refl
-    go (made.Is r) = refl
+    go : (q : Option Ring) → (post_in d i area e q).answer.number ≡ 0
+    go None = refl
+    go (Some r) = refl
 
 pub take-zero : (d : Device) (area : List ℕ) (asked : ℕ) (x : List ℕ) (p : Option ℕ) → (take_done d area asked x p).answer.number ≡ 0
-take-zero d area asked x none = refl
-take-zero d area asked x (some i) = go (controller_at d (some i)).queue
+take-zero d area asked x None = refl
+take-zero d area asked x (Some i) = go (controller_at d (Some i)).queue
   where
-    go : (q : Queue) → (take_in d i area asked x q).answer.number ≡ 0
-    go made.Nothing = refl
-    go (made.Is r) = refl
+    go : (q : Option Ring) → (take_in d i area asked x q).answer.number ≡ 0
+    go None = refl
+    go (Some r) = refl
 
 note-zero : (en : Engine) (ws : List ℕ) (base : ℕ) (t : Tracking) (rs : List Range) (w : Write) → (note_in en ws base t rs w).answer.number ≡ 0
 note-zero en ws base Off rs w = refl
 note-zero en ws base (On g n) rs w = refl
 
 pub write-zero : (en : Engine) (d : Device) (ws : List ℕ) (w : Write) (p : Option ℕ) → (write_done en d ws w p).answer.number ≡ 0
-write-zero en d ws w none = refl
-write-zero en d ws w (some i) = note-zero en ws (controller_at d (some i)).base (controller_at d (some i)).tracking (controller_at d (some i)).ranges w
+write-zero en d ws w None = refl
+write-zero en d ws w (Some i) = note-zero en ws (controller_at d (Some i)).base (controller_at d (Some i)).tracking (controller_at d (Some i)).ranges w
 
 abbrev SaidBy : Receipt → Type 0
 SaidBy r =
@@ -124,16 +123,16 @@ receive-says en d ws m id x =
     go base b (On g n) rs = refl
 
     done : (p : Option ℕ) → SaidBy (receive_done en d ws id x p)
-    done none = refl
-    done (some i) = go (controller_at d (some i)).base (controller_at d (some i)).suspended (controller_at d (some i)).tracking (controller_at d (some i)).ranges
+    done None = refl
+    done (Some i) = go (controller_at d (Some i)).base (controller_at d (Some i)).suspended (controller_at d (Some i)).tracking (controller_at d (Some i)).ranges
 
 report-zero : (en : Engine) (ws : List ℕ) (base id : ℕ) (b : Bool) (t : Tracking) (rs : List Range) (x : List ℕ) → (receive_in en ws base id b t rs x).answer.number ≡ 0
 report-zero en ws base id b Off rs x = refl
 report-zero en ws base id b (On g n) rs x = refl
 
 pub receive-zero : (en : Engine) (d : Device) (ws : List ℕ) (id : ℕ) (x : List ℕ) (p : Option ℕ) → (receive_done en d ws id x p).answer.number ≡ 0
-receive-zero en d ws id x none = refl
-receive-zero en d ws id x (some i) = report-zero en ws (controller_at d (some i)).base id (controller_at d (some i)).suspended (controller_at d (some i)).tracking (controller_at d (some i)).ranges x
+receive-zero en d ws id x None = refl
+receive-zero en d ws id x (Some i) = report-zero en ws (controller_at d (Some i)).base id (controller_at d (Some i)).suspended (controller_at d (Some i)).tracking (controller_at d (Some i)).ranges x
 
 -- a refused fresh makes the closed device
 pub fresh-answers : (en : Engine) (s : Settings) (ws : List ℕ)

@@ -1,7 +1,8 @@
 -- W4: a batch is its tried notes as single calls, and a session with batches the session of its calls. Assumes nothing.
 use mathlib.Core.Path.{◌≡◌, refl, sym, ap, ap₂, subst, ◌∙◌}
 use mathlib.Core.Logic.{◌≢◌, ◌↔◌}
-use mathlib.Core.Option.{Option, none, some}
+use Rattle.std.specs.declared.option.Option.{Option}
+use Rattle.std.specs.declared.option.Option.TheVariants.{None, Some}
 use mathlib.Core.Bool.{Bool, true, false, cond, not}
 use mathlib.Core.List.{List, [], ◌∷◌, map}
 use Prim.Native.Nat.{ℕ, zero, suc, ◌+◌, ◌^◌}
@@ -251,8 +252,8 @@ words-kept d ws id w =
     in-share base (On g n) rs = pack-length (length ws) _
 
     done : (p : Option ℕ) → length (write_done in_words d ws w p).marks ≡ length ws
-    done none = refl
-    done (some i) = in-share (controller_at d (some i)).base (controller_at d (some i)).tracking (controller_at d (some i)).ranges
+    done None = refl
+    done (Some i) = in-share (controller_at d (Some i)).base (controller_at d (Some i)).tracking (controller_at d (Some i)).ranges
 
 pub batches : Batches in_words
 batches = batches-of in_words words-kept demand-2.rules demand-3

@@ -3,7 +3,8 @@ use mathlib.Core.Path.{◌≡◌, refl, sym, ap, ap₂, subst, ◌∙◌}
 use mathlib.Core.Logic.{◌≢◌, ◌⊎◌, inl, inr}
 use mathlib.Core.Bool.{Bool, true, false, ◌&&◌, cond}
 use mathlib.Core.List.{List, [], ◌∷◌, ◌++◌, append_assoc}
-use mathlib.Core.Option.{Option, none, some}
+use Rattle.std.specs.declared.option.Option.{Option}
+use Rattle.std.specs.declared.option.Option.TheVariants.{None, Some}
 use Prim.Native.Nat.{ℕ, zero, suc, ◌+◌, ◌-◌, ◌≤◌, ◌<◌}
 use native.Mathlib.Omega.{arith}
 use lib.Dec.{eqb}
@@ -108,10 +109,10 @@ module _ (d : Device) (bs : List ℕ) (id : ℕ) where
       (stop_done in_bytes d bs (place_of d.settings id)) (λ p. done (place_of d.settings id))
     where
       done : (p : Option ℕ) → Cleared (get_or (stop_done in_bytes d bs p).marks i 0) (get_or bs i 0)
-      done none = inl refl
-      done (some j) =
-          let base = (controller_at d (some j)).base in
-          let n = held_units (held_of (controller_at d (some j))) in
+      done None = inl refl
+      done (Some j) =
+          let base = (controller_at d (Some j)).base in
+          let n = held_units (held_of (controller_at d (Some j))) in
           subst (λ l. Cleared (get_or (take base bs ++ (replicate n 0 ++ l)) i 0) (get_or bs i 0)) (drop-drop n base bs) (anew-at (λ l. replicate n 0 ++ drop n l) Cleared (λ b. inl refl) (zeros-each n) base bs i)
 
   -- a write
@@ -131,8 +132,8 @@ module _ (d : Device) (bs : List ℕ) (id : ℕ) where
         (write_done in_bytes d bs w (place_of d.settings id)) (λ p. done (place_of d.settings id))
       where
         done : (p : Option ℕ) → Marked (get_or (write_done in_bytes d bs w p).marks i 0) (get_or bs i 0)
-        done none = inl refl
-        done (some j) = noted-each i (controller_at d (some j)).base (controller_at d (some j)).tracking (controller_at d (some j)).ranges
+        done None = inl refl
+        done (Some j) = noted-each i (controller_at d (Some j)).base (controller_at d (Some j)).tracking (controller_at d (Some j)).ranges
 
     pub write_bytes : length (write_by in_bytes d bs id w).marks ≡ length bs
     unfolding write_by
@@ -141,8 +142,8 @@ module _ (d : Device) (bs : List ℕ) (id : ℕ) where
         (write_done in_bytes d bs w (place_of d.settings id)) (λ p. done (place_of d.settings id))
       where
         done : (p : Option ℕ) → length (write_done in_bytes d bs w p).marks ≡ length bs
-        done none = refl
-        done (some j) = noted-length (controller_at d (some j)).base (controller_at d (some j)).tracking (controller_at d (some j)).ranges
+        done None = refl
+        done (Some j) = noted-length (controller_at d (Some j)).base (controller_at d (Some j)).tracking (controller_at d (Some j)).ranges
 
   -- a receive
   module _ (m : ℕ) (x : List ℕ) where
@@ -165,8 +166,8 @@ module _ (d : Device) (bs : List ℕ) (id : ℕ) where
         (receive_done in_bytes d bs id x (place_of d.settings id)) (λ p. done (place_of d.settings id))
       where
         done : (p : Option ℕ) → Cleared (get_or (receive_done in_bytes d bs id x p).marks i 0) (get_or bs i 0)
-        done none = inl refl
-        done (some j) = reported-each i (controller_at d (some j)).base (controller_at d (some j)).suspended (controller_at d (some j)).tracking (controller_at d (some j)).ranges
+        done None = inl refl
+        done (Some j) = reported-each i (controller_at d (Some j)).base (controller_at d (Some j)).suspended (controller_at d (Some j)).tracking (controller_at d (Some j)).ranges
 
     pub receive-bytes : length (receive_by in_bytes d bs m id x).marks ≡ length bs
     unfolding receive_by
@@ -175,8 +176,8 @@ module _ (d : Device) (bs : List ℕ) (id : ℕ) where
         (receive_done in_bytes d bs id x (place_of d.settings id)) (λ p. done (place_of d.settings id))
       where
         done : (p : Option ℕ) → length (receive_done in_bytes d bs id x p).marks ≡ length bs
-        done none = refl
-        done (some j) = reported-length (controller_at d (some j)).base (controller_at d (some j)).suspended (controller_at d (some j)).tracking (controller_at d (some j)).ranges
+        done None = refl
+        done (Some j) = reported-length (controller_at d (Some j)).base (controller_at d (Some j)).suspended (controller_at d (Some j)).tracking (controller_at d (Some j)).ranges
 
 -- ---- shares that are packed
 

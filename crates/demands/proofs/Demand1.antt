@@ -3,7 +3,8 @@ use mathlib.Core.Path.{◌≡◌, refl, sym, ap, ◌∙◌}
 use mathlib.Core.Logic.{◌≢◌, ◌⊎◌, inl, inr}
 use mathlib.Core.Bool.{false, not, ◌&&◌, ◌||◌, and-false}
 use mathlib.Core.List.{List, [], ◌∷◌}
-use mathlib.Core.Option.{Option, none, some}
+use Rattle.std.specs.declared.option.Option.{Option}
+use Rattle.std.specs.declared.option.Option.TheVariants.{None, Some}
 use Prim.Native.Nat.{ℕ, ◌+◌, ◌*◌, ◌%◌, ◌≤◌, ◌<◌}
 use Rattle.little.specs.Little.{number_at}
 use lib.Dec.{leb, eqb}
@@ -89,8 +90,8 @@ leaves d words m id kind =
     (suspend_order d.settings m (seen_in d words p) kind) (flag_done d p ((controller_at d p).suspended || eqb kind 1)) (λ q. at p)
   where
     at : (p : Option ℕ) → (flag_done d p ((controller_at d p).suspended || eqb kind 1)).device.sequence ≡ d.sequence
-    at none = refl
-    at (some i) = refl
+    at None = refl
+    at (Some i) = refl
 
 sees-sound : (d : Device) (words : ℕ) → sound_with d words ≡ (sound_device d && eqb words 256)
 unfolding sound_with
@@ -131,8 +132,8 @@ demand-1 =
       fresh-order = λ s words. refl;
       sees = λ d words i. (sees-sound d words, refl, refl);
       sees_nobody = λ d words. (sees-sound d words, refl);
-      sees_off = λ d words i e. ap (λ t. tracked_by t (controller_at d (some i)).manager) e;
-      sees_on = λ d words i g n e. ap (λ t. tracked_by t (controller_at d (some i)).manager) e;
+      sees_off = λ d words i e. ap (λ t. tracked_by t (controller_at d (Some i)).manager) e;
+      sees_on = λ d words i g n e. ap (λ t. tracked_by t (controller_at d (Some i)).manager) e;
       tracks = λ m t. (refl, refl);
       managers = λ s m. (manager-named s m, named-manager s m);
       limits = λ s m limit ok n. limit-named s ok m limit n;

@@ -3,12 +3,14 @@ use mathlib.Core.Path.{◌≡◌, refl, sym, ap, ap₂, subst, ◌∙◌}
 use mathlib.Core.Logic.{◌≢◌, ◌↔◌}
 use mathlib.Core.Bool.{Bool, true, false, ◌||◌, cond, true≢false}
 use mathlib.Core.List.{List, [], ◌∷◌, ◌++◌, map}
-use mathlib.Core.Option.{Option, none, some}
+use Rattle.std.specs.declared.option.Option.{Option}
+use Rattle.std.specs.declared.option.Option.TheVariants.{None, Some}
 use Prim.Native.Nat.{ℕ, zero, suc, ◌+◌, ◌*◌, ◌/◌, ◌%◌, ◌^◌, ◌≤◌, ◌<◌}
 use native.Mathlib.Omega.{arith}
 use lib.Dec.{leb, eqb}
 use lib.Seq.{get_or-take}
-use lib.ListN.{length, take, get_or, get_elem?, replicate, length-map, length-take}
+use lib.ListN.{length, take, get_or, replicate, length-map, length-take}
+use Rattle.std.specs.List.{slice_get}
 use borrow.Author.Tests.{eq-eqb, ne_eqb, le-leb, leb-true, leb-false, not-true}
 use Rattle.bits.specs.Flat.{flat}
 use Rattle.bits.proofs.Flat.{flat-at, flat-length}
@@ -32,11 +34,10 @@ use Rattle.rules.specs.declared.Settings.{Settings}
 use Rattle.rules.specs.declared.Tracking.{Tracking}
 use Rattle.rules.specs.declared.Tracking.TheVariants.{Off, On}
 use Rattle.rules.specs.declared.Sequence.{Sequence}
-use Rattle.rules.specs.declared.Sequence.TheVariants.{Nothing, Open}
 use Rattle.rules.specs.declared.Controller.{Controller}
 use Rattle.rules.specs.declared.Device.{Device}
 use Rattle.rules.proofs.GroupLaws.{groups-most}
-use Rattle.rules.proofs.ListLaws.{All, All-append, not-intro, and_left, get_elem?-at}
+use Rattle.rules.proofs.ListLaws.{All, All-append, not-intro, and_left, slice_get-at}
 use Rattle.rules.proofs.RefusalLaws.{Passed, passes-Passed, verdict-has, verdict-passed, verdict-done}
 use Rattle.rules.proofs.UnitLaws.{mark-length, mark-at}
 use Rattle.rules.proofs.RunLaws.{clear_first-length}
@@ -88,22 +89,22 @@ fresh-is s ws e = let f = fresh-done s ws e in rw (f.0, eq-eqb (length ws) mark_
 bit_at : (ws : List ℕ) (base m : ℕ) → bit_of ws base m ≡ eqb (get_or ws ((base + m) / 64) 0 / 2 ^ ((base + m) % 64) % 2) 1
 bit_at ws base m = flat-at ws (base + m)
 
-is-place : (s : Settings) (a i : ℕ) → length s.identifiers ≡ 8 → place_of s a ≡ some i → (i < s.count) × (get_or s.identifiers i 0 ≡ a)
+is-place : (s : Settings) (a i : ℕ) → length s.identifiers ≡ 8 → place_of s a ≡ Some i → (i < s.count) × (get_or s.identifiers i 0 ≡ a)
 is-place s a i eight e =
     let p = place_of-is s a i e in
     let n : i < s.count = omega (arith, p.0, length-take s.count s.identifiers) in
     (n, sym (get_or-take s.count s.identifiers i 0 n) ∙ p.1)
 
-is_found : (s : Settings) (a i : ℕ) → length s.identifiers ≡ 8 → i < s.count → i < 8 → get_or s.identifiers i 0 ≡ a → place_of s a ≢ none
+is_found : (s : Settings) (a i : ℕ) → length s.identifiers ≡ 8 → i < s.count → i < 8 → get_or s.identifiers i 0 ≡ a → place_of s a ≢ None
 unfolding place_of
 is_found s a i eight h k e = go (identifiers_of s) 0 i (omega (arith, h, k, eight, length-take s.count s.identifiers)) (get_or-take s.count s.identifiers i 0 h ∙ e)
   where
-    go : (xs : List ℕ) (j m : ℕ) → m < length xs → get_or xs m 0 ≡ a → place_from j xs a ≢ none
+    go : (xs : List ℕ) (j m : ℕ) → m < length xs → get_or xs m 0 ≡ a → place_from j xs a ≢ None
     go [] j m h e = absurd (omega (arith, h))
     go (x ∷ xs) j zero h e = rw (eq-eqb x a e) (λ z. let q : ◌≡◌ {A = ℕ} 0 1 = cc in absurd (omega arith))
     go (x ∷ xs) j (suc m) h e = by (eqb x a) (go xs (suc j) m (omega (arith, h)) e)
       where
-        by : (b : Bool) → place_from (suc j) xs a ≢ none → cond b (some j) (place_from (suc j) xs a) ≢ none
+        by : (b : Bool) → place_from (suc j) xs a ≢ None → cond b (Some j) (place_from (suc j) xs a) ≢ None
         by true f z = let q : ◌≡◌ {A = ℕ} 0 1 = cc in absurd (omega arith)
         by false f z = f z
 
@@ -119,13 +120,13 @@ listed-few : (k : ℕ) (us : List Unit) (p : List Bool) → length (map descript
 listed-few k us p = rw (length-map, length-take) (omega arith)
 
 -- dropping a sequence of its own leaves another's
-dropped-other : (a : ℕ) (q : Sequence) → ((end : ℕ) → q ≢ Open a end) → dropped a q ≡ q
-dropped-other a Nothing f = refl
-dropped-other a (Open owner end) f = rw (ne_eqb owner a (λ e. f end (ap (λ x. Open x end) e)))
+dropped-other : (a : ℕ) (q : Option Sequence) → ((end : ℕ) → q ≢ Some (record { owner = a; end = end })) → dropped a q ≡ q
+dropped-other a None f = refl
+dropped-other a (Some seq) f = rw (ne_eqb seq.owner a (λ e. f seq.end (ap (λ x. Some (record { owner = x; end = seq.end })) e)))
 
 -- ---- W7: what the calls of any record leave of the pool
 
-module _ (l : Left) (fits : Fits l.device l.marks l.area) (a i : ℕ) (at : place_of l.device.settings a ≡ some i) where
+module _ (l : Left) (fits : Fits l.device l.marks l.area) (a i : ℕ) (at : place_of l.device.settings a ≡ Some i) where
   abbrev dev : Device
   dev = l.device
 
@@ -133,7 +134,7 @@ module _ (l : Left) (fits : Fits l.device l.marks l.area) (a i : ℕ) (at : plac
   ws = l.marks
 
   abbrev own : Controller
-  own = controller_at dev (some i)
+  own = controller_at dev (Some i)
 
   in_use : i < dev.settings.count
   in_use = place_of-used dev a i at
@@ -147,18 +148,18 @@ module _ (l : Left) (fits : Fits l.device l.marks l.area) (a i : ℕ) (at : plac
       r.answer.number ≡ 0 → Started dev ws b i (granularity_of x) (count_of x) (ranges_of x) r.answer.device r.marks
   unfolding start_by order
   starts-so b x e =
-      let r = verdict-done (λ (k : Change StartAnswer). k.answer.number) (start_order dev.settings b (seen_in dev (length ws) (some i)) x) (start_done in_words dev ws b x (some i)) (λ n j. started_with n j dev ws)
-      (λ n j. refl) (order-numbers dev.settings (seen_in dev (length ws) (some i)) (arriving_in dev.sequence l.area a) (start b x)) (rw at at e) in
+      let r = verdict-done (λ (k : Change StartAnswer). k.answer.number) (start_order dev.settings b (seen_in dev (length ws) (Some i)) x) (start_done in_words dev ws b x (Some i)) (λ n j. started_with n j dev ws)
+      (λ n j. refl) (order-numbers dev.settings (seen_in dev (length ws) (Some i)) (arriving_in dev.sequence l.area a) (start b x)) (rw at at e) in
       let running : own.suspended ≡ false = not-true own.suspended r.1.1.1.1.0 in
-      let p = start_order-passed dev.settings b (seen_in dev (length ws) (some i)) x r.1 in
+      let p = start_order-passed dev.settings b (seen_in dev (length ws) (Some i)) x r.1 in
       rw at (subst (λ (k : Change StartAnswer). Started dev ws b i (granularity_of x) (count_of x) (ranges_of x) k.answer.device k.marks) (sym r.0)
       (packs-start dev ws l.area fits (sound-from r.1.0) i in_use b x running (not_on own.tracking own.manager p.untracked) p))
 
   stops_so : (b : ℕ) → let r = stop_change dev ws b a in r.answer.number ≡ 0 → Stopped dev ws i r.answer.device r.marks
   unfolding stop_by order
   stops_so b e =
-      let r = verdict-done (λ (k : Change Changed). k.answer.number) (stop_order dev.settings b (seen_in dev (length ws) (some i))) (stop_done in_words dev ws (some i)) (λ n j. changed n dev ws)
-      (λ n j. refl) (order-numbers dev.settings (seen_in dev (length ws) (some i)) (arriving_in dev.sequence l.area a) (stop b)) (rw at at e) in
+      let r = verdict-done (λ (k : Change Changed). k.answer.number) (stop_order dev.settings b (seen_in dev (length ws) (Some i))) (stop_done in_words dev ws (Some i)) (λ n j. changed n dev ws)
+      (λ n j. refl) (order-numbers dev.settings (seen_in dev (length ws) (Some i)) (arriving_in dev.sequence l.area a) (stop b)) (rw at at e) in
       let running : own.suspended ≡ false = not-true own.suspended r.1.1.1.1.0 in
       let o = is-on own.tracking own.manager b r.1.1.1.1.1.0 in
       let sure = sound-from r.1.0 in
@@ -196,7 +197,7 @@ module _ (l : Left) (fits : Fits l.device l.marks l.area) (a i : ℕ) (at : plac
   unfolding write_by
   writes-so w =
       rw at (verdict-has (λ (k : Note). Elsewhere (base_at dev i) (size_at dev i) ws k.marks) (λ n j. noted n 0 ws) (λ n j. as-were)
-      (write_order (seen_in dev (length ws) (some i)) w) (write_done in_words dev ws w (some i)) (λ p. go (sound-from p.0) own.tracking refl))
+      (write_order (seen_in dev (length ws) (Some i)) w) (write_done in_words dev ws w (Some i)) (λ p. go (sound-from p.0) own.tracking refl))
     where
       go : sound_device dev ≡ true → (t : Tracking) → own.tracking ≡ t → Elsewhere (base_at dev i) (size_at dev i) ws (note_in in_words ws own.base t own.ranges w).marks
       go sure Off e = as-were
@@ -206,7 +207,7 @@ module _ (l : Left) (fits : Fits l.device l.marks l.area) (a i : ℕ) (at : plac
   unfolding receive_by
   receives-so b x =
       rw at (verdict-has (λ (k : Receipt). Elsewhere (base_at dev i) (size_at dev i) ws k.marks) (λ n j. received n no_report ws x) (λ n j. as-were)
-      (receive_order dev.settings b (seen_in dev (length ws) (some i)) x) (receive_done in_words dev ws a x (some i)) (λ p. go (sound-from p.0) own.tracking refl))
+      (receive_order dev.settings b (seen_in dev (length ws) (Some i)) x) (receive_done in_words dev ws a x (Some i)) (λ p. go (sound-from p.0) own.tracking refl))
     where
       go : sound_device dev ≡ true → (t : Tracking) → own.tracking ≡ t → Elsewhere (base_at dev i) (size_at dev i) ws (receive_in in_words ws own.base a own.suspended t own.ranges x).marks
       go sure Off e = as-were
@@ -282,11 +283,11 @@ module _ (s : Settings) (m : Given) (ks : List Call) (sizes : Sized s m) (made :
 
     -- ---- a controller at a place
 
-    module _ (i : ℕ) (at : place_of s a ≡ some i) where
+    module _ (i : ℕ) (at : place_of s a ≡ Some i) where
       abbrev c : Controller
-      c = controller_at d (some i)
+      c = controller_at d (Some i)
 
-      place : place_of d.settings a ≡ some i
+      place : place_of d.settings a ≡ Some i
       place = place-of ∙ at
 
       used : i < d.settings.count
@@ -304,7 +305,7 @@ module _ (s : Settings) (m : Given) (ks : List Call) (sizes : Sized s m) (made :
       manager-is : manager_in c.tracking c.manager ≡ manager_by h
       manager-is = ap (λ (z : Slot). z.manager) is-slot
 
-      marks_are : marks_of in_words l c.base c.tracking c.ranges ≡ marks_by h (tracks_by none h)
+      marks_are : marks_of in_words l c.base c.tracking c.ranges ≡ marks_by h (tracks_by None h)
       marks_are = ap (λ (z : Slot). z.marks) is-slot
 
       most : d.settings.count ≤ 8
@@ -316,7 +317,7 @@ module _ (s : Settings) (m : Given) (ks : List Call) (sizes : Sized s m) (made :
 
       -- ---- not tracked, as its calls and answers tell
 
-      is-off : tracks_by none h ≡ none → c.tracking ≡ Off
+      is-off : tracks_by None h ≡ None → c.tracking ≡ Off
       is-off e = go c.tracking (marks_are ∙ ap (marks_by h) e)
         where
           go : (t : Tracking) → marks_of in_words l c.base t c.ranges ≡ off → t ≡ Off
@@ -332,7 +333,7 @@ module _ (s : Settings) (m : Given) (ks : List Call) (sizes : Sized s m) (made :
       is-suspend b kind known = rw (place, sure, known_from b known) (go (leb kind 1) refl)
         where
           go : (b : Bool) → leb kind 1 ≡ b
-              → let r = cond b (flag_done d (some i) (c.suspended || eqb kind 1)) (record { number = 15; device = d }) in
+              → let r = cond b (flag_done d (Some i) (c.suspended || eqb kind 1)) (record { number = 15; device = d }) in
               ((r.number ≡ 0) ↔ (kind ≤ 1)) × (r.number ≡ 0 → r.device ≡ flagged_at d i (suspended_by false h || eqb kind 1))
           go true e = (((λ z. leb-true kind 1 e), (λ z. refl)), (λ z. rw flag_is))
           go false e = (((λ z. absurd (omega (arith, z))), (λ k. absurd (omega (arith, leb-false kind 1 e)))), (λ z. absurd (omega (arith, z))))
@@ -341,11 +342,11 @@ module _ (s : Settings) (m : Given) (ks : List Call) (sizes : Sized s m) (made :
       unfolding resume_change
       is-resume b known = rw (place, sure, known_from b known) (go c.suspended flag_is)
         where
-          resumed : Resumed d a i (resume_done d a (some i)).device
+          resumed : Resumed d a i (resume_done d a (Some i)).device
           resumed = record { flag = refl; drops = λ end e. rw (e, eq-eqb a a refl); keeps = dropped-other a d.sequence }
 
           go : (b : Bool) → b ≡ suspended_by false h
-              → let r = cond b (resume_done d a (some i)) (record { number = 13; device = d }) in
+              → let r = cond b (resume_done d a (Some i)) (record { number = 13; device = d }) in
               ((r.number ≡ 0) ↔ (suspended_by false h ≡ true)) × (r.number ≡ 0 → Resumed d a i r.device)
           go true e = (((λ z. sym e), (λ z. refl)), (λ z. resumed))
           go false e = (((λ z. absurd (omega (arith, z))), (λ k. absurd (true≢false (sym k ∙ sym e)))), (λ z. absurd (omega (arith, z))))
@@ -369,19 +370,19 @@ module _ (s : Settings) (m : Given) (ks : List Call) (sizes : Sized s m) (made :
 
       may_write : (w : Write) → suspended_by false h ≡ false → w.address + w.bytes ≤ 2 ^ 64 → (write_note d l a w).answer.number ≡ 0
       unfolding write_by
-      may_write w e k = rw (place, sure, flag_is, e, le-leb (w.address + w.bytes) (2 ^ 64) k) (write-zero in_words d l w (some i))
+      may_write w e k = rw (place, sure, flag_is, e, le-leb (w.address + w.bytes) (2 ^ 64) k) (write-zero in_words d l w (Some i))
 
       -- the settings say the same of a structure once unused places are zeros
       listed_same : (x : List ℕ) → start_listed d.settings x ≡ start_listed s x
       unfolding granularity_ok powers_ok
       listed_same x = ap (λ (t : Settings). start_listed t x) settings-are
 
-      may_start : (b limit : ℕ) (x : List ℕ) → Manages s b limit → suspended_by false h ≡ false → tracks_by none h ≡ none → passes (header_tests x ++ start_listed s x) ≡ true
+      may_start : (b limit : ℕ) (x : List ℕ) → Manages s b limit → suspended_by false h ≡ false → tracks_by None h ≡ None → passes (header_tests x ++ start_listed s x) ≡ true
           → length (units (granularity_of x) (ranges_of x)) + units_in (session_end s (length m.marks) ks) ≤ 16384
           → count_of x + managed_in (session_end s (length m.marks) ks) b ≤ limit → count_of x + counts_in (session_end s (length m.marks) ks) ≤ s.shelf → (start_change d l b a x).answer.number ≡ 0
       unfolding start_by
       may_start b limit x named e idle ok fit few all =
-          let v = seen_in d (length l) (some i) in
+          let v = seen_in d (length l) (Some i) in
           let seen = subst (λ q. seen_in d (length l) q ≡ seen_at (view in_words d l area qs) q) place (seen_same d l area qs fits a) in
           let managed : v.managed b ≡ managed_in (session_end s (length m.marks) ks) b = ap (λ (z : Seen). z.managed b) seen ∙ ap (λ (st : State). managed_in st b) (session s m ks sizes).state in
           let counts : v.counts ≡ counts_in (session_end s (length m.marks) ks) = ap (λ (z : Seen). z.counts) seen ∙ ap counts_in (session s m ks sizes).state in
@@ -399,7 +400,7 @@ module _ (s : Settings) (m : Given) (ks : List Call) (sizes : Sized s m) (made :
           ) in
           rw place
           (ap (λ (k : Change StartAnswer). k.answer.number)
-          (verdict-passed (start_order d.settings b v x) (start_done in_words d l b x (some i)) (λ n j. started_with n j d l)
+          (verdict-passed (start_order d.settings b v x) (start_done in_words d l b x (Some i)) (λ n j. started_with n j d l)
           (All-append (λ (t : Test). t.ok ≡ true) (start_own d.settings b v x) (start_shared d.settings b v.units (v.managed b) v.counts x)
           (All-append (λ (t : Test). t.ok ≡ true) (start_who d.settings b v) (header_tests x ++ start_listed d.settings x) who structure) shared)))
 
@@ -413,7 +414,7 @@ module _ (s : Settings) (m : Given) (ks : List Call) (sizes : Sized s m) (made :
 
       -- ---- tracked, as its calls and answers tell
 
-      module _ (g : ℕ) (rs : List Range) (by : tracks_by none h ≡ some (g, rs)) where
+      module _ (g : ℕ) (rs : List Range) (by : tracks_by None h ≡ Some (g, rs)) where
         abbrev us : List Unit
         us = units g rs
 
@@ -462,9 +463,9 @@ module _ (s : Settings) (m : Given) (ks : List Call) (sizes : Sized s m) (made :
         is-listed : UnitsListed g rs
         is-listed = (rules.demand-2).listed g rs facts.rows
 
-        is-pending : (m : ℕ) (u : Unit) → get_elem? us m ≡ some u → (bit_of l c.base m ≡ true) ↔ PendingBy h u
+        is-pending : (m : ℕ) (u : Unit) → slice_get us m ≡ Some u → (bit_of l c.base m ≡ true) ↔ PendingBy h u
         is-pending m u k =
-            let q = get_elem?-at us m u u k in
+            let q = slice_get-at us m u u k in
             let e : bit_of l c.base m ≡ pending_by h u = bit_is m q.0 ∙ get_d_map (pending_by h) us m u q in (
               (λ t. (pending_by-iff h u).0 (sym e ∙ t)),
               (λ w. e ∙ (pending_by-iff h u).1 w),
@@ -478,7 +479,7 @@ module _ (s : Settings) (m : Given) (ks : List Call) (sizes : Sized s m) (made :
             let fit : c.base + length (mark w us p) ≤ 64 * mark_words = omega (arith, n, within) in
             record {
               marked = λ m u k.
-                  let q = get_elem?-at us m u u k in
+                  let q = slice_get-at us m u u k in
                   put-bit l fits.words c.base (mark w us p) fit m (omega (arith, q.0, n))
                   ∙ mark-at w us p m u sized q.0
                   ∙ ap₂ (λ (x : Bool) (v : Unit). x || touches w v) (sym (bit_is m q.0)) q.1;
@@ -490,9 +491,9 @@ module _ (s : Settings) (m : Given) (ks : List Call) (sizes : Sized s m) (made :
         is-written : (w : Write) → (write_note d l a w).answer.number ≡ 0 → Wrote h c.base us w l (write_note d l a w).answer.count (write_note d l a w).marks
         unfolding write_by order
         is-written w e =
-            let r = verdict-done (λ (k : Note). k.answer.number) (write_order (seen_in d (length l) (some i)) w) (write_done in_words d l w (some i)) (λ n j. noted n 0 l)
-            (λ n j. refl) (order-numbers d.settings (seen_in d (length l) (some i)) (arriving_in d.sequence area a) (write w)) (rw place at e) in
-            let is : write_done in_words d l w (some i) ≡ noted 0 (newly w us p) (with_marks l c.base (mark w us p)) = rw (held.tracking, held.ranges, held.marks) in
+            let r = verdict-done (λ (k : Note). k.answer.number) (write_order (seen_in d (length l) (Some i)) w) (write_done in_words d l w (Some i)) (λ n j. noted n 0 l)
+            (λ n j. refl) (order-numbers d.settings (seen_in d (length l) (Some i)) (arriving_in d.sequence area a) (write w)) (rw place at e) in
+            let is : write_done in_words d l w (Some i) ≡ noted 0 (newly w us p) (with_marks l c.base (mark w us p)) = rw (held.tracking, held.ranges, held.marks) in
             rw place (subst (λ (k : Note). Wrote h c.base us w l k.answer.count k.marks) (sym (r.0 ∙ is)) (written w))
 
         -- ---- an accepted receive
@@ -522,15 +523,15 @@ module _ (s : Settings) (m : Given) (ks : List Call) (sizes : Sized s m) (made :
               front = put-take-front x (16 + 16 * length r.descriptors) (report_bytes a r) (report_bytes-length a r) fit;
               rest = report-rest a r x;
               read_back = λ small. reads-back a g (suspended_by false h) rs p x small facts.small facts.rows (omega (arith, within)) long;
-              left = λ m u e. put-bit l fits.words c.base q share m (omega (arith, n, (get_elem?-at us m u u e).0));
+              left = λ m u e. put-bit l fits.words c.base q share m (omega (arith, n, (slice_get-at us m u u e).0));
               elsewhere = subst (λ j. Elsewhere c.base j l (with_marks l c.base q)) n (put-elsewhere l fits.words c.base q share);
             }
 
         is-received : (b : ℕ) (x : List ℕ) → (receive_receipt d l b a x).answer.number ≡ 0 → Received h a c.base g us x l (receive_receipt d l b a x)
         unfolding receive_by order
         is-received b x e =
-            let r = verdict-done (λ (k : Receipt). k.answer.number) (receive_order d.settings b (seen_in d (length l) (some i)) x) (receive_done in_words d l a x (some i)) (λ n j. received n no_report l x)
-            (λ n j. refl) (order-numbers d.settings (seen_in d (length l) (some i)) (arriving_in d.sequence area a) (receive b x)) (rw place at e) in
+            let r = verdict-done (λ (k : Receipt). k.answer.number) (receive_order d.settings b (seen_in d (length l) (Some i)) x) (receive_done in_words d l a x (Some i)) (λ n j. received n no_report l x)
+            (λ n j. refl) (order-numbers d.settings (seen_in d (length l) (Some i)) (arriving_in d.sequence area a) (receive b x)) (rw place at e) in
             rw place (subst (Received h a c.base g us x l) (sym (r.0 ∙ rw (held.tracking, held.ranges, held.marks, flag_is))) (stored x (leb-true 32 (length x) r.1.1.1.1.1.0)))
 
         -- ---- what is not refused
@@ -582,7 +583,7 @@ module _ (s : Settings) (m : Given) (ks : List Call) (sizes : Sized s m) (made :
 
     -- ---- any controller
 
-    is-idle : (w : Write) → tracks_by none h ≡ none → ((write_note d l a w).answer.count ≡ 0) × ((write_note d l a w).marks ≡ l)
+    is-idle : (w : Write) → tracks_by None h ≡ None → ((write_note d l a w).answer.count ≡ 0) × ((write_note d l a w).marks ≡ l)
     unfolding write_by
     is-idle w e = go (place_of s a) refl
       where
@@ -590,16 +591,16 @@ module _ (s : Settings) (m : Given) (ks : List Call) (sizes : Sized s m) (made :
         Idle n = (n.answer.count ≡ 0) × (n.marks ≡ l)
 
         go : (q : Option ℕ) → place_of s a ≡ q → Idle (write_note d l a w)
-        go none k = rw (place-of ∙ k) (verdict-has Idle (λ n i. noted n 0 l) (λ n i. (refl, refl)) (write_order (seen_in d (length l) none) w) (write_done in_words d l w none) (λ t. (refl, refl)))
-        go (some i) k =
-            rw (place i k) (verdict-has Idle (λ n i. noted n 0 l) (λ n i. (refl, refl)) (write_order (seen_in d (length l) (some i)) w) (write_done in_words d l w (some i)) (λ t. rw (is-off i k e) (refl, refl)))
+        go None k = rw (place-of ∙ k) (verdict-has Idle (λ n i. noted n 0 l) (λ n i. (refl, refl)) (write_order (seen_in d (length l) None) w) (write_done in_words d l w None) (λ t. (refl, refl)))
+        go (Some i) k =
+            rw (place i k) (verdict-has Idle (λ n i. noted n 0 l) (λ n i. (refl, refl)) (write_order (seen_in d (length l) (Some i)) w) (write_done in_words d l w (Some i)) (λ t. rw (is-off i k e) (refl, refl)))
 
     is-suspended : suspended_by false h ≡ true → (o : Op) → Moves s o → outcome in_words (end_of in_words s m ks) (record { id = a; op = o }) ≡ refused_on (end_of in_words s m ks) o 4
     is-suspended e = go (place_of s a) refl
       where
         go : (q : Option ℕ) → place_of s a ≡ q → (o : Op) → Moves s o → outcome in_words (end_of in_words s m ks) (record { id = a; op = o }) ≡ refused_on (end_of in_words s m ks) o 4
-        go none k = absurd (true≢false (sym e ∙ ap is_suspended (sym is-told ∙ ap (slot_at (view in_words d l area qs)) (place-of ∙ k))))
-        go (some i) k = is-refused i k e
+        go None k = absurd (true≢false (sym e ∙ ap is_suspended (sym is-told ∙ ap (slot_at (view in_words d l area qs)) (place-of ∙ k))))
+        go (Some i) k = is-refused i k e
 
     -- W12: a manager that the settings do not name
     is-unknown : (b : ℕ) (o : Op) → CallOf b o → (IsManager s b → ⊥) → outcome in_words (end_of in_words s m ks) (record { id = a; op = o }) ≡ refused_on (end_of in_words s m ks) o 2
@@ -663,23 +664,23 @@ undisturbed s m ks sized k b other =
 unmoved : (l : Left) → Shaped in_words l → (k : Call) (b : ℕ) → k.id ≢ b → pending_of in_words (next in_words l k) b ≡ pending_of in_words l b
 unmoved l shaped k b other = apart l (next in_words l k) (view in_words l.device l.marks l.area l.queues) k b refl (is-step l shaped k).device other
 
-suspends-so : (d : Device) (words a i : ℕ) → place_of d.settings a ≡ some i → (b kind : ℕ)
+suspends-so : (d : Device) (words a i : ℕ) → place_of d.settings a ≡ Some i → (b kind : ℕ)
     → let c = suspend_change d words b a kind in
-    c.number ≡ 0 → c.device ≡ flagged_at d i ((controller_at d (some i)).suspended || eqb kind 1)
+    c.number ≡ 0 → c.device ≡ flagged_at d i ((controller_at d (Some i)).suspended || eqb kind 1)
 unfolding suspend_change
 suspends-so d words a i place b kind z =
-    let r = verdict-done (λ (c : Changed). c.number) (suspend_order d.settings b (seen_in d words (some i)) kind) (flag_done d (some i) ((controller_at d (some i)).suspended || eqb kind 1)) (λ n j. record { number = n; device = d })
+    let r = verdict-done (λ (c : Changed). c.number) (suspend_order d.settings b (seen_in d words (Some i)) kind) (flag_done d (Some i) ((controller_at d (Some i)).suspended || eqb kind 1)) (λ n j. record { number = n; device = d })
     (λ n j. refl) (omega arith, (omega arith, (omega arith, (omega arith, tt)))) (rw place at z) in
     rw place (ap (λ (c : Changed). c.device) r.0)
 
-resumes-so : (d : Device) (words a i : ℕ) → place_of d.settings a ≡ some i → (b : ℕ) → let c = resume_change d words b a in c.number ≡ 0 → Resumed d a i c.device
+resumes-so : (d : Device) (words a i : ℕ) → place_of d.settings a ≡ Some i → (b : ℕ) → let c = resume_change d words b a in c.number ≡ 0 → Resumed d a i c.device
 unfolding resume_change
 resumes-so d words a i place b z =
-    let r = verdict-done (λ (c : Changed). c.number) (resume_order d.settings b (seen_in d words (some i))) (resume_done d a (some i)) (λ n j. record { number = n; device = d })
+    let r = verdict-done (λ (c : Changed). c.number) (resume_order d.settings b (seen_in d words (Some i))) (resume_done d a (Some i)) (λ n j. record { number = n; device = d })
     (λ n j. refl) (omega arith, (omega arith, (omega arith, (omega arith, tt)))) (rw place at z) in
     rw (place, r.0) (record { flag = refl; drops = λ end e. rw (e, eq-eqb a a refl); keeps = dropped-other a d.sequence })
 
-arrives-so : (d : Device) (words : ℕ) (area : List ℕ) (a i : ℕ) → place_of d.settings a ≡ some i → (m : ℕ) (p : Part)
+arrives-so : (d : Device) (words : ℕ) (area : List ℕ) (a i : ℕ) → place_of d.settings a ≡ Some i → (m : ℕ) (p : Part)
     → let r = part_change d words area m a p in
     r.answer.number ≡ 0 → r.answer.device ≡ arriving d r.answer.device.sequence
 unfolding part_change
@@ -690,12 +691,12 @@ arrives-so d words area a i place m p z =
     by : (b : Bool)
         → let joined = joined_with (front_in a d.sequence area) p in
         let stored = put area (offset_of p) p.bytes in
-        let r = cond b (arrival 0 (length joined) (with_sequence d Nothing) stored) (arrival 0 0 (with_sequence d (Open a (length joined))) stored) in
+        let r = cond b (arrival 0 (length joined) (with_sequence d None) stored) (arrival 0 0 (with_sequence d (Some (record { owner = a; end = length joined }))) stored) in
         r.answer.device ≡ arriving d r.answer.device.sequence
     by true = refl
     by false = refl
 
-keeps : (l : Left) → Shaped in_words l → (a i : ℕ) → place_of l.device.settings a ≡ some i → Keeps l a i
+keeps : (l : Left) → Shaped in_words l → (a i : ℕ) → place_of l.device.settings a ≡ Some i → Keeps l a i
 keeps l s a i e =
     let fits = shaped-fits l s in
     record {
@@ -728,8 +729,8 @@ yielded s m ks ok e b a p z f = go (place_of s a) refl
     r = part_change l.device (length l.marks) l.area b a p
 
     go : (q : Option ℕ) → place_of s a ≡ q → (r.answer.whole ≡ length x) × (take r.answer.whole r.area ≡ x)
-    go none k = absurd (part-unknown l.device (length l.marks) l.area b a p (place-of s m ks ok e a ∙ k) z)
-    go (some i) k =
+    go None k = absurd (part-unknown l.device (length l.marks) l.area b a p (place-of s m ks ok e a ∙ k) z)
+    go (Some i) k =
         let y = (is-arriving s m ks ok e a i k).yields b p z f in
         let n : r.answer.whole ≡ length x = ap (λ (q : StateSet). q.whole) y.0 in
         (n, ap (λ t. take t r.area) n ∙ y.1)
@@ -759,7 +760,7 @@ demand-2 =
       zeros = λ s. (refl, refl, refl);
       cleaned = λ s e. record { manager = refl; least = refl; greatest = refl; powers = refl; limit = refl; second = refl; shelf = refl; count = refl; identifiers = rw e };
       closed-settings = refl;
-      controller = λ d i c e. (get_elem?-at d.controllers i c no_controller e).1;
+      controller = λ d i c e. (slice_get-at d.controllers i c no_controller e).1;
       bits = bit_at;
       place = is-place;
       settings = settings-kept;

@@ -2,10 +2,11 @@
 use mathlib.Core.Path.{◌≡◌, refl, sym, subst, ◌∙◌}
 use mathlib.Core.Bool.{true, false, not, ◌||◌, true≢false}
 use mathlib.Core.List.{List, [], ◌∷◌}
-use mathlib.Core.Option.{some}
+use Rattle.std.specs.declared.option.Option.TheVariants.{Some}
 use Prim.Native.Nat.{ℕ, suc}
 use lib.Dec.{eqb}
-use lib.ListN.{length, get_elem?}
+use lib.ListN.{length}
+use Rattle.std.specs.List.{slice_get}
 use borrow.Author.Tests.{eqb-true}
 use Rattle.rules.specs.Lists.{member}
 use Rattle.rules.specs.Order.{Op, start, stop, write, receive, suspend, resume, part, queue}
@@ -52,7 +53,7 @@ free (resume m) n f = refl
 free (part m p) n f = false-intro _ (λ e. or_cases (eqb 23 n) false ⊥ e (λ q. f (subst (Shared (part m p)) (eqb-true 23 n q) (sequence m p))) (λ z. true≢false (sym z)))
 free (queue bytes k) n f = refl
 
-premise : (h : List Did) → ((i : ℕ) (d : Did) → get_elem? h i ≡ some d → Shared d.op (number_of d.answer) → ⊥) → unhindered h ≡ true
+premise : (h : List Did) → ((i : ℕ) (d : Did) → slice_get h i ≡ Some d → Shared d.op (number_of d.answer) → ⊥) → unhindered h ≡ true
 premise [] f = refl
 premise (d ∷ h) f =
     and_intro (not (member (number_of d.answer) (shared_refusals d.op))) (unhindered h)

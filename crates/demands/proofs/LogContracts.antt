@@ -1,9 +1,6 @@
 -- W13: the logged calls promise what the statements speak of, and leave nothing open. Assumes nothing.
 use mathlib.Core.Path.{◌≡◌, refl, sym, ap₂, ◌∙◌}
-use Rattle.booking.specs.declared.LoggedChange.{LoggedChange}
-use Rattle.booking.specs.declared.LoggedWrite.{LoggedWrite}
-use Rattle.booking.specs.declared.LoggedBatch.{LoggedBatch}
-use Rattle.booking.specs.declared.LoggedReport.{LoggedReport}
+use Rattle.booking.specs.declared.Logged.{Logged}
 use Rattle.demands.specs.LogContracts.{LogAsks, LogAre, LogLent, LogDeterminate, LogFunctions, LogContracts}
 
 asks : LogAsks
@@ -57,32 +54,23 @@ lent =
       plain_totals = refl;
     }
 
-same-change : (r r' : LoggedChange) → r.answer ≡ r'.answer → r.log ≡ r'.log → r ≡ r'
-same-change r r' e f = ap₂ (λ a l. record { answer = a; log = l }) e f
-
-same_write : (r r' : LoggedWrite) → r.answer ≡ r'.answer → r.log ≡ r'.log → r ≡ r'
-same_write r r' e f = ap₂ (λ a l. record { answer = a; log = l }) e f
-
-same-batch : (r r' : LoggedBatch) → r.answer ≡ r'.answer → r.log ≡ r'.log → r ≡ r'
-same-batch r r' e f = ap₂ (λ a l. record { answer = a; log = l }) e f
-
-same-report : (r r' : LoggedReport) → r.answer ≡ r'.answer → r.log ≡ r'.log → r ≡ r'
-same-report r r' e f = ap₂ (λ a l. record { answer = a; log = l }) e f
+same : {A : Type 0} (r r' : Logged A) → r.answer ≡ r'.answer → r.log ≡ r'.log → r ≡ r'
+same r r' e f = ap₂ (λ a l. record { answer = a; log = l }) e f
 
 determinate : LogDeterminate
 determinate =
     record {
-      fresh = λ κs a r r' e e' p q. (same-change r r' (p.0 ∙ sym q.0) (p.2 ∙ sym q.2), p.1 ∙ sym q.1);
-      stop = λ κs a r r' e e' p q. (same-change r r' (p.0 ∙ sym q.0) (p.2 ∙ sym q.2), p.1 ∙ sym q.1);
-      write = λ κs a r r' e e' p q. (same_write r r' (p.0 ∙ sym q.0) (p.2 ∙ sym q.2), p.1 ∙ sym q.1);
-      batch-of = λ κs a r r' e e' p q. (same-batch r r' (p.0 ∙ sym q.0) (p.2 ∙ sym q.2), p.1 ∙ sym q.1);
-      receive = λ κs a r r' e e' p q. (same-report r r' (p.0 ∙ sym q.0) (p.3 ∙ sym q.3), p.1 ∙ sym q.1, p.2 ∙ sym q.2);
+      fresh = λ κs a r r' e e' p q. (same r r' (p.0 ∙ sym q.0) (p.2 ∙ sym q.2), p.1 ∙ sym q.1);
+      stop = λ κs a r r' e e' p q. (same r r' (p.0 ∙ sym q.0) (p.2 ∙ sym q.2), p.1 ∙ sym q.1);
+      write = λ κs a r r' e e' p q. (same r r' (p.0 ∙ sym q.0) (p.2 ∙ sym q.2), p.1 ∙ sym q.1);
+      batch-of = λ κs a r r' e e' p q. (same r r' (p.0 ∙ sym q.0) (p.2 ∙ sym q.2), p.1 ∙ sym q.1);
+      receive = λ κs a r r' e e' p q. (same r r' (p.0 ∙ sym q.0) (p.3 ∙ sym q.3), p.1 ∙ sym q.1, p.2 ∙ sym q.2);
       totals = λ κs a r r' e e' p q. p ∙ sym q;
-      plain_fresh = λ κs a r r' e e' p q. (same-change r r' (p.0 ∙ sym q.0) (p.2 ∙ sym q.2), p.1 ∙ sym q.1);
-      plain_stop = λ κs a r r' e e' p q. (same-change r r' (p.0 ∙ sym q.0) (p.2 ∙ sym q.2), p.1 ∙ sym q.1);
-      plain_write = λ κs a r r' e e' p q. (same_write r r' (p.0 ∙ sym q.0) (p.2 ∙ sym q.2), p.1 ∙ sym q.1);
-      plain_batch_of = λ κs a r r' e e' p q. (same-batch r r' (p.0 ∙ sym q.0) (p.2 ∙ sym q.2), p.1 ∙ sym q.1);
-      plain_receive = λ κs a r r' e e' p q. (same-report r r' (p.0 ∙ sym q.0) (p.3 ∙ sym q.3), p.1 ∙ sym q.1, p.2 ∙ sym q.2);
+      plain_fresh = λ κs a r r' e e' p q. (same r r' (p.0 ∙ sym q.0) (p.2 ∙ sym q.2), p.1 ∙ sym q.1);
+      plain_stop = λ κs a r r' e e' p q. (same r r' (p.0 ∙ sym q.0) (p.2 ∙ sym q.2), p.1 ∙ sym q.1);
+      plain_write = λ κs a r r' e e' p q. (same r r' (p.0 ∙ sym q.0) (p.2 ∙ sym q.2), p.1 ∙ sym q.1);
+      plain_batch_of = λ κs a r r' e e' p q. (same r r' (p.0 ∙ sym q.0) (p.2 ∙ sym q.2), p.1 ∙ sym q.1);
+      plain_receive = λ κs a r r' e e' p q. (same r r' (p.0 ∙ sym q.0) (p.3 ∙ sym q.3), p.1 ∙ sym q.1, p.2 ∙ sym q.2);
       plain_totals = λ κs a r r' e e' p q. p ∙ sym q;
     }
 

@@ -3,7 +3,8 @@ use mathlib.Core.Path.{◌≡◌, refl, sym, ap, subst, ◌∙◌}
 use mathlib.Core.Logic.{◌≢◌}
 use mathlib.Core.Bool.{Bool, true, false, ◌&&◌, cond, and-false}
 use mathlib.Core.List.{List, [], ◌∷◌, ◌++◌}
-use mathlib.Core.Option.{Option, none, some}
+use Rattle.std.specs.declared.option.Option.{Option}
+use Rattle.std.specs.declared.option.Option.TheVariants.{None, Some}
 use Prim.Native.Nat.{ℕ, zero, suc, ◌+◌, ◌<◌}
 use native.Mathlib.Omega.{arith}
 use lib.Dec.{eqb}
@@ -46,18 +47,18 @@ module _ (g : Log) (i number x y z : ℕ) where
     where
       go : (b : Bool) (p : Option ℕ) → length (cond b (booked_in g p x y z) g).accounts ≡ length g.accounts
       go false p = refl
-      go true none = refl
-      go true (some j) = booked_at-length g j x y z
+      go true None = refl
+      go true (Some j) = booked_at-length g j x y z
 
   -- at another place
-  booked-other : (p : Option ℕ) → (p ≡ some i → ⊥) → totals_at (booked_by g p number x y z) i ≡ totals_at g i
+  booked-other : (p : Option ℕ) → (p ≡ Some i → ⊥) → totals_at (booked_by g p number x y z) i ≡ totals_at g i
   unfolding booked_by
   booked-other p n = go (eqb number 0) p n
     where
-      go : (b : Bool) (p : Option ℕ) → (p ≡ some i → ⊥) → totals_at (cond b (booked_in g p x y z) g) i ≡ totals_at g i
+      go : (b : Bool) (p : Option ℕ) → (p ≡ Some i → ⊥) → totals_at (cond b (booked_in g p x y z) g) i ≡ totals_at g i
       go false p n = refl
-      go true none n = refl
-      go true (some j) n = booked_at-other g j x y z i (λ e. n (ap some (sym e)))
+      go true None n = refl
+      go true (Some j) n = booked_at-other g j x y z i (λ e. n (ap Some (sym e)))
 
   booked-refused : (p : Option ℕ) → number ≢ 0 → booked_by g p number x y z ≡ g
   unfolding booked_by
@@ -89,14 +90,14 @@ module _ (g : Log) (i : ℕ) (h : List Did) (d : Did) (there : i < length g.acco
       told ∙ shows_same (units_marked h) (units_marked h + 0) (units_reported h) (units_reported h + 0) (units_dropped h) (units_dropped h + 0) (omega arith) (omega arith) (omega arith)
       ∙ shows_more 0 0 0 u v w
 
-  told-booked : (number x y z : ℕ) (p : Option ℕ) → p ≡ some i → newly_of d.answer ≡ cond (eqb number 0) x 0
+  told-booked : (number x y z : ℕ) (p : Option ℕ) → p ≡ Some i → newly_of d.answer ≡ cond (eqb number 0) x 0
       → report_units (report_of d.answer) ≡ cond (eqb number 0) y 0 → dropped_by h d ≡ cond (eqb number 0) z 0
       → Told (booked_by g p number x y z) i (h ++ d ∷ [])
   unfolding booked_by
   told-booked number x y z p e = rw e (go (eqb number 0))
     where
       go : (b : Bool) → newly_of d.answer ≡ cond b x 0 → report_units (report_of d.answer) ≡ cond b y 0 → dropped_by h d ≡ cond b z 0
-          → Told (cond b (booked_in g (some i) x y z) g) i (h ++ d ∷ [])
+          → Told (cond b (booked_in g (Some i) x y z) g) i (h ++ d ∷ [])
       go true u v w =
           booked_at-own g i x y z there ∙ ap (λ t. added_to t x y z) told ∙ added_to-showing (units_marked h) (units_reported h) (units_dropped h) x y z ∙ shows_more x y z u v w
       go false u v w = told-idle u v w
@@ -162,7 +163,7 @@ yields-report whole area = go (eqb whole 0)
 
 module _ (en : Engine) (l : Left) (g : Log) where
   -- to another controller
-  pub logged-other : (id i : ℕ) (o : Op) → (place_of l.device.settings id ≡ some i → ⊥) → totals_at (logged_as en l g id o) i ≡ totals_at g i
+  pub logged-other : (id i : ℕ) (o : Op) → (place_of l.device.settings id ≡ Some i → ⊥) → totals_at (logged_as en l g id o) i ≡ totals_at g i
   logged-other id i (stop m) n = booked-other g i _ _ _ _ (place_of l.device.settings id) n
   logged-other id i (write w) n = booked-other g i _ _ _ _ (place_of l.device.settings id) n
   logged-other id i (receive m x) n = booked-other g i _ _ _ _ (place_of l.device.settings id) n
@@ -183,7 +184,7 @@ module _ (en : Engine) (l : Left) (g : Log) where
   logged-length id (queue bytes k) = refl
 
   -- to the controller itself: its totals are those of its history with this call
-  pub told-step : (id i : ℕ) (h : List Did) → i < length g.accounts → place_of l.device.settings id ≡ some i → units_pending h ≡ units_held en l.device l.marks id → Told g i h
+  pub told-step : (id i : ℕ) (h : List Did) → i < length g.accounts → place_of l.device.settings id ≡ Some i → units_pending h ≡ units_held en l.device l.marks id → Told g i h
       → (o : Op) → Told (logged_as en l g id o) i (h ++ did o (run_as en l.device l.marks l.area l.queues id o).answer ∷ [])
   told-step id i h there at held t (write w) =
       let n = (write_by en l.device l.marks id w).answer in
@@ -256,9 +257,9 @@ unfolding units_held
 held-pending en l a = go (place_of l.device.settings a) refl
   where
     go : (p : Option ℕ) → place_of l.device.settings a ≡ p → units_held en l.device l.marks a ≡ length (pending_of en l a)
-    go none e = rw e
-    go (some i) e =
-        let c = controller_at l.device (some i) in
+    go None e = rw e
+    go (Some i) e =
+        let c = controller_at l.device (Some i) in
         let same : get_or (take l.device.settings.count l.device.controllers) i no_controller ≡ c = get_or-take l.device.settings.count l.device.controllers i no_controller (place_of-used l.device a i e) in
         rw e
         (on-count en l.marks c.base c.tracking c.ranges

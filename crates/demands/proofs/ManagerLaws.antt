@@ -4,7 +4,7 @@ use mathlib.Core.Path.{◌≡◌, refl, sym, ap, subst, ◌∙◌}
 use mathlib.Core.Logic.{◌≢◌}
 use mathlib.Core.Bool.{Bool, true, false, cond, ◌||◌, true≢false}
 use mathlib.Core.List.{List}
-use mathlib.Core.Option.{Option}
+use Rattle.std.specs.declared.option.Option.{Option}
 use native.Mathlib.Omega.{arith}
 use lib.Dec.{eqb}
 use lib.ListN.{length, get_or}
@@ -15,7 +15,7 @@ use Rattle.rules.specs.Device.{held_in, held_of, held_ok, sound_device}
 use Rattle.rules.specs.declared.Tracking.{Tracking}
 use Rattle.rules.specs.declared.Tracking.TheVariants.{On}
 use Rattle.rules.specs.declared.Second.{Second}
-use Rattle.rules.specs.declared.Second.TheVariants.{Nothing, Is}
+use Rattle.std.specs.declared.option.Option.TheVariants.{None, Some}
 use Rattle.rules.specs.declared.Settings.{Settings}
 use Rattle.rules.specs.declared.Device.{Device}
 use Rattle.rules.proofs.ListLaws.{and_left, or_cases}
@@ -44,10 +44,10 @@ module _ (s : Settings) where
       (λ p. subst (IsManager s) (eqb-true s.manager m p) (s.limit, first))
       (λ p. go s.second refl p)
     where
-      go : (x : Second) → s.second ≡ x → member m (seconds x) ≡ true → IsManager s m
-      go Nothing q p = absurd (true≢false (sym p))
-      go (Is id limit) q p =
-          or_cases (eqb id m) false (IsManager s m) p (λ w. subst (IsManager s) (eqb-true id m w) (limit, second id limit q)) (λ w. absurd (true≢false (sym w)))
+      go : (x : Option Second) → s.second ≡ x → member m (seconds x) ≡ true → IsManager s m
+      go None q p = absurd (true≢false (sym p))
+      go (Some two) q p =
+          or_cases (eqb two.id m) false (IsManager s m) p (λ w. subst (IsManager s) (eqb-true two.id m w) (two.limit, second two.id two.limit q)) (λ w. absurd (true≢false (sym w)))
 
   -- and one is so by the rules
   pub named-manager : (m : ℕ) → IsManager s m → is_manager s m ≡ true
@@ -74,7 +74,7 @@ module _ (s : Settings) where
     pub limit-named : (m limit : ℕ) → Manages s m limit → limit_of s m ≡ limit
     unfolding limit_of
     limit-named m limit first = rw (eq-eqb s.manager s.manager refl)
-    limit-named m limit (second id l q) = rw (ne_eqb id s.manager (settings_ok-other s id l ok q).0, q)
+    limit-named m limit (second id l q) = rw (ne_eqb id s.manager (settings_ok-other s (record { id = id; limit = l }) ok q).0, q)
 
     -- so what holds of each manager's limit by the rules holds of each that they name
     pub within-named : (f : ℕ → ℕ) → ((m : ℕ) → is_manager s m ≡ true → f m ≤ limit_of s m) → (m limit : ℕ) → Manages s m limit → f m ≤ limit

@@ -3,7 +3,8 @@ use mathlib.Core.Path.{◌≡◌, refl, sym, ap, ap₂, subst, ◌∙◌}
 use mathlib.Core.Logic.{◌≢◌}
 use mathlib.Core.Bool.{Bool, true, false, cond, and-false}
 use mathlib.Core.List.{List, [], ◌∷◌, ◌++◌, map, append_assoc, append-nil}
-use mathlib.Core.Option.{Option, none, some}
+use Rattle.std.specs.declared.option.Option.{Option}
+use Rattle.std.specs.declared.option.Option.TheVariants.{None, Some}
 use Prim.Native.Nat.{ℕ, zero, suc, ◌+◌, ◌^◌, ◌<◌, ◌≤◌}
 use native.Mathlib.Omega.{arith}
 use lib.Dec.{eqb, ltb}
@@ -23,9 +24,7 @@ use Rattle.rules.proofs.Theorems.{totals}
 use Rattle.log_numbers.specs.declared.Log.{Log}
 use Rattle.log_numbers.specs.declared.Account.{Account}
 use Rattle.log_numbers.specs.declared.Totals.{Totals}
-use Rattle.log_numbers.specs.declared.Totals.TheVariants.{Known, Unknown}
 use Rattle.log_numbers.specs.Log.{showing, empty_account, empty_log, totals_at}
-use Rattle.log_numbers.specs.declared.Sum.TheVariants as total
 use Rattle.log_numbers.specs.declared.Sums.{Sums}
 use Rattle.log_numbers.specs.Sums.{no_sums}
 use Rattle.log_numbers.proofs.LogLaws.{shown, shown-showing}
@@ -68,7 +67,7 @@ empty-told : (i : ℕ) → Told empty_log i []
 empty-told i = ap (λ (c : Account). c.totals) (empty-at i 8)
 
 -- totals that show unknown are of a history that does
-showing-unknown : (t : Shown) → showing t ≡ Unknown → t ≡ unknown
+showing-unknown : (t : Shown) → showing t ≡ None → t ≡ unknown
 showing-unknown t e = sym (shown-showing t) ∙ ap shown e
 
 -- ---- sessions of an engine that comes to what the rules give, and keeps its settings and a sound record
@@ -102,7 +101,7 @@ module _ (en : Engine) (keeps : (d : _) (ws : List ℕ) (id : ℕ) (w : _) → e
     module _ (made : (fresh_by en s m.marks).answer.number ≡ 0) where
       record All-told (g : Log) (ks : List Call) : Type 0 where
         pub eight : length g.accounts ≡ 8
-        pub told : (a i : ℕ) → place_of s a ≡ some i → Told g i (hist ks a)
+        pub told : (a i : ℕ) → place_of s a ≡ Some i → Told g i (hist ks a)
 
       -- one call more
       module _ (g : Log) (ks : List Call) (t : All-told g ks) (k : Call) where
@@ -115,16 +114,16 @@ module _ (en : Engine) (keeps : (d : _) (ws : List ℕ) (id : ℕ) (w : _) → e
         more : (a : ℕ) → hist (ks ++ k ∷ []) a ≡ hist ks a ++ cond (eqb k.id a) (record { op = k.op; answer = (outcome en l k).answer } ∷ []) []
         more a = history-append en a ks (k ∷ []) (begun en s m)
 
-        below : (a i : ℕ) → place_of s a ≡ some i → i < length g.accounts
+        below : (a i : ℕ) → place_of s a ≡ Some i → i < length g.accounts
         below a i e = omega (arith, t.eight, (place_of-is s a i e).0, length-take s.count s.identifiers, sized.places)
 
-        own : (i : ℕ) → place_of s k.id ≡ some i → Told g' i (hist (ks ++ k ∷ []) k.id)
+        own : (i : ℕ) → place_of s k.id ≡ Some i → Told g' i (hist (ks ++ k ∷ []) k.id)
         unfolding run
         own i e =
             subst (Told g' i) (sym (more k.id ∙ ap (λ b. hist ks k.id ++ cond b (record { op = k.op; answer = (outcome en l k).answer } ∷ []) []) (eq-eqb k.id k.id refl)))
             (told-step en l g k.id i (hist ks k.id) (below k.id i e) (place s m ks sized made k.id ∙ e) (held ks k.id) (t.told k.id i e) k.op)
 
-        other : (a i : ℕ) → place_of s a ≡ some i → k.id ≢ a → Told g' i (hist (ks ++ k ∷ []) a)
+        other : (a i : ℕ) → place_of s a ≡ Some i → k.id ≢ a → Told g' i (hist (ks ++ k ∷ []) a)
         other a i e n =
             subst (Told g' i) (sym (more a ∙ ap (λ b. hist ks a ++ cond b (record { op = k.op; answer = (outcome en l k).answer } ∷ []) []) (ne_eqb k.id a n) ∙ append-nil (hist ks a)))
             (logged-other en l g k.id i k.op (λ f. place_of-apart s k.id a i i (sym (place s m ks sized made k.id) ∙ f) e n refl) ∙ t.told a i e)
@@ -132,8 +131,8 @@ module _ (en : Engine) (keeps : (d : _) (ws : List ℕ) (id : ℕ) (w : _) → e
         one_more : All-told g' (ks ++ k ∷ [])
         one_more = record { eight = logged-length en l g k.id k.op ∙ t.eight; told = λ a i e. go a i e (eqb k.id a) refl }
           where
-            go : (a i : ℕ) → place_of s a ≡ some i → (b : Bool) → eqb k.id a ≡ b → Told g' i (hist (ks ++ k ∷ []) a)
-            go a i e true q = subst (λ b. place_of s b ≡ some i → Told g' i (hist (ks ++ k ∷ []) b)) (eqb-true k.id a q) (own i) e
+            go : (a i : ℕ) → place_of s a ≡ Some i → (b : Bool) → eqb k.id a ≡ b → Told g' i (hist (ks ++ k ∷ []) a)
+            go a i e true q = subst (λ b. place_of s b ≡ Some i → Told g' i (hist (ks ++ k ∷ []) b)) (eqb-true k.id a q) (own i) e
             go a i e false q = other a i e (eqb-false k.id a q)
 
       all_told : (js ks : List Call) (g : Log) → All-told g ks → All-told (call_log en (end_of en s m ks) g js) (ks ++ js)
@@ -176,11 +175,11 @@ module _ (en : Engine) (keeps : (d : _) (ws : List ℕ) (id : ℕ) (w : _) → e
           unfolding where_is
           placed_is p e = rw (end-sound, end-place a, e)
 
-          read_is : (i : ℕ) → place_of s a ≡ some i → read_in en s m g xs a ≡ record { number = 0; totals = showing (shown_by h) }
-          read_is i e = ap (reading_at (log_in en s m g xs)) (placed_is (some i) e) ∙ ap (λ (t : Totals). record { number = 0; totals = t }) (is-told.told a i e)
+          read_is : (i : ℕ) → place_of s a ≡ Some i → read_in en s m g xs a ≡ record { number = 0; totals = showing (shown_by h) }
+          read_is i e = ap (reading_at (log_in en s m g xs)) (placed_is (Some i) e) ∙ ap (λ (t : Option Totals). record { number = 0; totals = t }) (is-told.told a i e)
 
-          read-nobody : place_of s a ≡ none → read_in en s m g xs a ≡ record { number = 2; totals = Known 0 0 0 }
-          read-nobody e = ap (reading_at (log_in en s m g xs)) (placed_is none e)
+          read-nobody : place_of s a ≡ None → read_in en s m g xs a ≡ record { number = 2; totals = Some (record { marked = 0; reported = 0; dropped = 0 }) }
+          read-nobody e = ap (reading_at (log_in en s m g xs)) (placed_is None e)
 
       -- ---- what they show
 
@@ -189,7 +188,7 @@ module _ (en : Engine) (keeps : (d : _) (ws : List ℕ) (id : ℕ) (w : _) → e
       calls-more [] ys l = refl
       calls-more (x ∷ xs) ys l = ap (λ (q : List Call). calls_of en l x ++ q) (calls-more xs ys (stepped en l x)) ∙ sym (append_assoc (calls_of en l x) (expand en (stepped en l x) xs) (expand en (left_by en (stepped en l x) xs) ys))
 
-      stays : (g : Log) (xs ys : List Step) (a : ℕ) → read_in en s m g xs a ≡ record { number = 0; totals = Unknown } → read_in en s m g (xs ++ ys) a ≡ record { number = 0; totals = Unknown }
+      stays : (g : Log) (xs ys : List Step) (a : ℕ) → read_in en s m g xs a ≡ record { number = 0; totals = None } → read_in en s m g (xs ++ ys) a ≡ record { number = 0; totals = None }
       stays g xs ys a r = go (place_of s a) refl
         where
           b : Left
@@ -201,9 +200,9 @@ module _ (en : Engine) (keeps : (d : _) (ws : List ℕ) (id : ℕ) (w : _) → e
           after : List Did
           after = history_of a (answers_to en (left_after en b (ks g xs)) js)
 
-          go : (p : Option ℕ) → place_of s a ≡ p → read_in en s m g (xs ++ ys) a ≡ record { number = 0; totals = Unknown }
-          go none e = let z : ◌≡◌ {A = ℕ} 2 0 = ap (λ (q : Reading). q.number) (sym (read-nobody g xs a e) ∙ r) in absurd (omega (arith, z))
-          go (some i) e =
+          go : (p : Option ℕ) → place_of s a ≡ p → read_in en s m g (xs ++ ys) a ≡ record { number = 0; totals = None }
+          go None e = let z : ◌≡◌ {A = ℕ} 2 0 = ap (λ (q : Reading). q.number) (sym (read-nobody g xs a e) ∙ r) in absurd (omega (arith, z))
+          go (Some i) e =
               let u : shown_by (h g xs a) ≡ unknown = showing-unknown (shown_by (h g xs a)) (ap (λ (q : Reading). q.totals) (sym (read_is g xs a i e) ∙ r)) in
               let longer : h g (xs ++ ys) a ≡ h g xs a ++ after = ap (λ ks. hist ks a) (calls-more xs ys b) ∙ history-append en a (ks g xs) js b in
               read_is g (xs ++ ys) a i e ∙ ap (λ (t : Shown). record { number = 0; totals = showing t }) (ap shown_by longer ∙ shown_by-stays (h g xs a) after u)
@@ -243,7 +242,7 @@ module _ (en : Engine) (keeps : (d : _) (ws : List ℕ) (id : ℕ) (w : _) → e
       ap (λ (q : Log). log_after en (begun en s m) q xs) (sym (begun-refused g (fresh_by en s m.marks).answer.number e)) ∙ rw (z.0, z.1) (closed-log xs m g)
 
   unsound-read : (l : Left) (g : Log) (a : ℕ) → sound_with l.device (en.words l.marks) ≡ false
-      → read_on en l g a ≡ record { number = 1; totals = Known 0 0 0 }
+      → read_on en l g a ≡ record { number = 1; totals = Some (record { marked = 0; reported = 0; dropped = 0 }) }
   unfolding where_is
   unsound-read l g a e = rw e
 
@@ -279,29 +278,29 @@ migration-logs = (in-words-log, in-bytes-log)
 
 -- ---- sums
 
-sums-from : (us ts : List Totals) → sums_in (sums_over ts) us ≡ sums_over (ts ++ us)
+sums-from : (us ts : List (Option Totals)) → sums_in (sums_over ts) us ≡ sums_over (ts ++ us)
 sums-from [] ts = ap sums_over (sym (append-nil ts))
 sums-from (u ∷ us) ts = ap (λ (r : Sums). sums_in r us) (summed-snoc ts u) ∙ sums-from us (ts ++ u ∷ []) ∙ ap sums_over (append_assoc ts (u ∷ []) us)
 
-sums-are : (ts : List Totals) → sums_in no_sums ts ≡ sums_over ts
+sums-are : (ts : List (Option Totals)) → sums_in no_sums ts ≡ sums_over ts
 sums-are ts = ap (λ (r : Sums). sums_in r ts) summed-none ∙ sums-from ts []
 
-holds-unknown : (ts us : List Totals) → all is_known (ts ++ Unknown ∷ us) ≡ false
+holds-unknown : (ts us : List (Option Totals)) → all is_known (ts ++ None ∷ us) ≡ false
 holds-unknown [] us = refl
 holds-unknown (t ∷ ts) us = rw (holds-unknown ts us) (and-false (is_known t))
 
-abbrev triple : ℕ × ℕ × ℕ → Totals
-triple x = Known x.0 x.1 x.2
+abbrev triple : ℕ × ℕ × ℕ → Option Totals
+triple x = Some (record { marked = x.0; reported = x.1; dropped = x.2 })
 
 all-triples : (xs : List (ℕ × ℕ × ℕ)) → all is_known (map triple xs) ≡ true
 all-triples [] = refl
 all-triples (x ∷ xs) = all-triples xs
 
-sum-triples : (f : Totals → ℕ) (xs : List (ℕ × ℕ × ℕ)) → sum (map f (map triple xs)) ≡ sum (map (λ (x : ℕ × ℕ × ℕ). f (triple x)) xs)
+sum-triples : (f : Option Totals → ℕ) (xs : List (ℕ × ℕ × ℕ)) → sum (map f (map triple xs)) ≡ sum (map (λ (x : ℕ × ℕ × ℕ). f (triple x)) xs)
 sum-triples f [] = refl
 sum-triples f (x ∷ xs) = omega (arith, sum-triples f xs)
 
-exact_one : (f : Totals → ℕ) (xs : List (ℕ × ℕ × ℕ)) → let n = sum (map (λ (x : ℕ × ℕ × ℕ). f (triple x)) xs) in sum_over f (map triple xs) ≡ cond (ltb n (2 ^ 64)) (total.Known n) total.Unknown
+exact_one : (f : Option Totals → ℕ) (xs : List (ℕ × ℕ × ℕ)) → let n = sum (map (λ (x : ℕ × ℕ × ℕ). f (triple x)) xs) in sum_over f (map triple xs) ≡ cond (ltb n (2 ^ 64)) (Some n) None
 exact_one f xs = rw (all-triples xs, sum-triples f xs)
 
 pub adding : Adding
@@ -316,6 +315,6 @@ pub summing : Summing
 summing =
     record {
       exact = λ xs. rw (sums-are (map triple xs)) (exact_one marked_in xs, exact_one reported_in xs, exact_one dropped_in xs);
-      unknown = λ ts us. sums-are (ts ++ Unknown ∷ us) ∙ rw (holds-unknown ts us);
+      unknown = λ ts us. sums-are (ts ++ None ∷ us) ∙ rw (holds-unknown ts us);
       worked = refl;
     }

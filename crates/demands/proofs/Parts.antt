@@ -3,7 +3,7 @@ use mathlib.Core.Path.{◌≡◌, refl, sym, ap, ap₂, subst, ◌∙◌}
 use mathlib.Core.Logic.{◌≢◌, ◌⊎◌, inl, inr}
 use mathlib.Core.Bool.{Bool, true, false, ◌&&◌, ◌||◌, not, cond, true≢false}
 use mathlib.Core.List.{List, ◌++◌}
-use mathlib.Core.Option.{none, some}
+use Rattle.std.specs.declared.option.Option.TheVariants.{None, Some}
 use Prim.Native.Nat.{ℕ, ◌+◌, ◌*◌, ◌%◌, ◌≤◌}
 use native.Mathlib.Omega.{arith}
 use lib.Dec.{leb, ltb, eqb}
@@ -17,7 +17,7 @@ use Rattle.rules.specs.Order.{Seen, Arriving, Part, offset_of, is_first, is_last
 use Rattle.rules.specs.Device.{controllers_of, front_ok, suspended_at, sequence_ok, sound_device}
 use Rattle.rules.specs.History.{Did, suspended_by, open_by, joined_by, front_by}
 use Rattle.rules.specs.declared.Sequence.{Sequence}
-use Rattle.rules.specs.declared.Sequence.TheVariants.{Nothing, Open}
+use Rattle.std.specs.declared.option.Option.{Option}
 use Rattle.rules.specs.declared.Device.{Device}
 use Rattle.rules.proofs.ListLaws.{and_left, and_right, and_intro, or_cases, some_inj}
 use Rattle.rules.proofs.RefusalLaws.{Passed, verdict-done, verdict-passed}
@@ -72,7 +72,7 @@ first-behind p h e = go (eqb p.indicator 0) refl (eqb p.indicator 1) refl (eqb p
         inr (omega (arith, h, a, b, c))
 
 -- a part to a controller that the settings lack is refused
-pub part-unknown : (d : Device) (words : ℕ) (area : List ℕ) (b id : ℕ) (p : Part) → place_of d.settings id ≡ none → (part_change d words area b id p).answer.number ≢ 0
+pub part-unknown : (d : Device) (words : ℕ) (area : List ℕ) (b id : ℕ) (p : Part) → place_of d.settings id ≡ None → (part_change d words area b id p).answer.number ≢ 0
 unfolding part_change
 part-unknown d words area b id p e = λ z. go (sound_with d words && eqb (length area) state_most) (is_manager d.settings b) (rw e at z)
   where
@@ -81,31 +81,32 @@ part-unknown d words area b id p e = λ z. go (sound_with d words && eqb (length
     go true false = λ z. absurd (omega (arith, z))
     go false y = λ z. absurd (omega (arith, z))
 
-module _ (d : Device) (ws area : List ℕ) (qs : ℕ → List ℕ) (fits : Fits d ws area) (a i : ℕ) (h : List Did) (place : place_of d.settings a ≡ some i) (sure : sound_device d ≡ true)
-    (flag_is : (controller_at d (some i)).suspended ≡ suspended_by false h) (front-is : front_in a d.sequence area ≡ front_by h) where
+module _ (d : Device) (ws area : List ℕ) (qs : ℕ → List ℕ) (fits : Fits d ws area) (a i : ℕ) (h : List Did) (place : place_of d.settings a ≡ Some i) (sure : sound_device d ≡ true)
+    (flag_is : (controller_at d (Some i)).suspended ≡ suspended_by false h) (front-is : front_in a d.sequence area ≡ front_by h) where
   -- ---- the sequence
 
   abbrev so_far : List ℕ
   so_far = joined_by h
 
   -- what the record says, by what the history tells
-  open_told : open_by h ≡ true → d.sequence ≡ Open a (length so_far)
-  open_told o = go d.sequence (front-is ∙ ap (λ b. cond b (some so_far) none) o)
+  open_told : open_by h ≡ true → d.sequence ≡ Some (record { owner = a; end = length so_far })
+  open_told o = go d.sequence (front-is ∙ ap (λ b. cond b (Some so_far) None) o)
     where
-      own : (owner end : ℕ) (b : Bool) → eqb owner a ≡ b → cond b (some (front_of end area)) none ≡ some so_far → Open owner end ≡ Open a (length so_far)
+      own : (owner end : ℕ) (b : Bool) → eqb owner a ≡ b → cond b (Some (front_of end area)) None ≡ Some so_far
+          → ◌≡◌ {A = Option Sequence} (Some (record { owner = owner; end = end })) (Some (record { owner = a; end = length so_far }))
       own owner end true q e =
           let n : end ≡ length so_far = sym (front_of-length end area) ∙ ap length (some_inj e) in
-          ap₂ Open (eqb-true owner a q) n
+          ap₂ (λ x y. Some (record { owner = x; end = y })) (eqb-true owner a q) n
       own owner end false q e = let z : ◌≡◌ {A = ℕ} 0 1 = cc in absurd (omega arith)
 
-      go : (q : Sequence) → front_in a q area ≡ some so_far → q ≡ Open a (length so_far)
-      go Nothing e = let z : ◌≡◌ {A = ℕ} 0 1 = cc in absurd (omega arith)
-      go (Open owner end) e = own owner end (eqb owner a) refl e
+      go : (q : Option Sequence) → front_in a q area ≡ Some so_far → q ≡ Some (record { owner = a; end = length so_far })
+      go None e = let z : ◌≡◌ {A = ℕ} 0 1 = cc in absurd (omega arith)
+      go (Some seq) e = own seq.owner seq.end (eqb seq.owner a) refl e
 
-  open_said : d.sequence ≡ Open a (length so_far) → open_by h ≡ true
+  open_said : d.sequence ≡ Some (record { owner = a; end = length so_far }) → open_by h ≡ true
   open_said e = go (open_by h) (sym front-is ∙ ap (λ q. front_in a q area) e ∙ rw (eq-eqb a a refl))
     where
-      go : (b : Bool) → cond b (some so_far) none ≡ some (front_of (length so_far) area) → b ≡ true
+      go : (b : Bool) → cond b (Some so_far) None ≡ Some (front_of (length so_far) area) → b ≡ true
       go true q = refl
       go false q = let z : ◌≡◌ {A = ℕ} 0 1 = cc in absurd (omega arith)
 
@@ -118,14 +119,14 @@ module _ (d : Device) (ws area : List ℕ) (qs : ℕ → List ℕ) (fits : Fits 
   bytes-told : open_by h ≡ true → take (length so_far) area ≡ so_far
   bytes-told o =
       let few : length so_far ≤ length area = omega (arith, fits.bytes, sequence-within d sure a (length so_far) (open_told o)) in
-      let e : front_in a d.sequence area ≡ some (front_of (length so_far) area) = ap (λ q. front_in a q area) (open_told o) ∙ rw (eq-eqb a a refl) in
-      sym (front_of-take (length so_far) area few) ∙ some_inj (sym e ∙ front-is ∙ ap (λ b. cond b (some so_far) none) o)
+      let e : front_in a d.sequence area ≡ Some (front_of (length so_far) area) = ap (λ q. front_in a q area) (open_told o) ∙ rw (eq-eqb a a refl) in
+      sym (front_of-take (length so_far) area few) ∙ some_inj (sym e ∙ front-is ∙ ap (λ b. cond b (Some so_far) None) o)
 
   -- ---- a part
 
   module _ (b : ℕ) (p : Part) where
     abbrev seen : Seen
-    seen = seen_in d (length ws) (some i)
+    seen = seen_in d (length ws) (Some i)
 
     abbrev arriving : Arriving
     arriving = arriving_in d.sequence area a
@@ -170,8 +171,8 @@ module _ (d : Device) (ws area : List ℕ) (qs : ℕ → List ℕ) (fits : Fits 
       where
         behind : (b : Bool) → open_by h ≡ b → follows_on (front_in a d.sequence area) p ≡ true → (open_by h ≡ true) × (begins_at p ≡ length (joined_by h))
         behind true o f =
-            (o, eqb-true (offset_of p) (length so_far) (sym (ap (λ y. follows_on y p) (front-is ∙ ap (λ b. cond b (some so_far) none) o)) ∙ f))
-        behind false o f = absurd (true≢false (sym (sym (ap (λ y. follows_on y p) (front-is ∙ ap (λ b. cond b (some so_far) none) o)) ∙ f)))
+            (o, eqb-true (offset_of p) (length so_far) (sym (ap (λ y. follows_on y p) (front-is ∙ ap (λ b. cond b (Some so_far) None) o)) ∙ f))
+        behind false o f = absurd (true≢false (sym (sym (ap (λ y. follows_on y p) (front-is ∙ ap (λ b. cond b (Some so_far) None) o)) ∙ f)))
 
     -- ---- what is asked is enough
 
@@ -183,7 +184,7 @@ module _ (d : Device) (ws area : List ℕ) (qs : ℕ → List ℕ) (fits : Fits 
           go true e = eq-eqb (offset_of p) 0 (f.anew (first-anew p e))
           go false e =
               let o = f.behind (first-behind p f.indicator e) in
-              ap (λ y. follows_on y p) (front-is ∙ ap (λ b. cond b (some so_far) none) o.0) ∙ eq-eqb (offset_of p) (length so_far) o.1
+              ap (λ y. follows_on y p) (front-is ∙ ap (λ b. cond b (Some so_far) None) o.0) ∙ eq-eqb (offset_of p) (length so_far) o.1
 
       dwords : (offset_of p % 4 ≡ 0) × (offset_of p ≤ 4096)
       dwords = go (is_first p) refl
@@ -232,16 +233,16 @@ module _ (d : Device) (ws area : List ℕ) (qs : ℕ → List ℕ) (fits : Fits 
           extent true e n = omega (arith, n, f.anew (first-anew p e))
           extent false e n = omega (arith, n, (f.behind (first-behind p f.indicator e)).1, length-append so_far p.bytes)
 
-      may : IsManager d.settings b → suspended_by false h ≡ true → ((owner end : ℕ) → d.sequence ≡ Open owner end → owner ≡ a) → (part_change d (length ws) area b a p).answer.number ≡ 0
+      may : IsManager d.settings b → suspended_by false h ≡ true → ((owner end : ℕ) → d.sequence ≡ Some (record { owner = owner; end = end }) → owner ≡ a) → (part_change d (length ws) area b a p).answer.number ≡ 0
       unfolding part_change
       may known s own =
           let passed : Passed (part_order d.settings b seen arriving p) =
           (and_intro (sound_with d (length ws)) _ sound (eq-eqb (length area) state_most fits.bytes), (named-manager d.settings b known, (refl, (flag_is ∙ s, (alone d.sequence refl, (offset-ok, (data-ok, (follow, (joined-ok, tt))))))))) in
           rw place (ap (λ (x : Arrival). x.answer.number) (verdict-passed (part_order d.settings b seen arriving p) (part_done d area a p) (λ n j. arrival n 0 d area) passed) ∙ part-zero d area a p)
         where
-          alone : (q : Sequence) → d.sequence ≡ q → not (others_in a q) ≡ true
-          alone Nothing e = refl
-          alone (Open owner end) e = rw (eq-eqb owner a (own owner end e))
+          alone : (q : Option Sequence) → d.sequence ≡ q → not (others_in a q) ≡ true
+          alone None e = refl
+          alone (Some seq) e = rw (eq-eqb seq.owner a (own seq.owner seq.end e))
 
     -- ---- what an accepted one leaves
 
@@ -255,7 +256,7 @@ module _ (d : Device) (ws area : List ℕ) (qs : ℕ → List ℕ) (fits : Fits 
       area_is : (part_change d (length ws) area b a p).area ≡ put area (offset_of p) p.bytes
       area_is = ap (λ (x : Arrival). x.area) (is-done e).0 ∙ go (is_last p)
         where
-          go : (b : Bool) → (cond b (arrival 0 (length whole) (with_sequence d Nothing) (put area (offset_of p) p.bytes)) (arrival 0 0 (with_sequence d (Open a (length whole))) (put area (offset_of p) p.bytes))).area
+          go : (b : Bool) → (cond b (arrival 0 (length whole) (with_sequence d None) (put area (offset_of p) p.bytes)) (arrival 0 0 (with_sequence d (Some (record { owner = a; end = length whole }))) (put area (offset_of p) p.bytes))).area
               ≡ put area (offset_of p) p.bytes
           go true = refl
           go false = refl
@@ -263,21 +264,21 @@ module _ (d : Device) (ws area : List ℕ) (qs : ℕ → List ℕ) (fits : Fits 
       own : (part_change d (length ws) area b a p).area ≡ (take (begins_at p) area ++ p.bytes) ++ drop (begins_at p + length p.bytes) area
       own = area_is ∙ put_is area (offset_of p) p.bytes (inside (fitting passed))
 
-      goes_on : IsMore p → (part_change d (length ws) area b a p).answer ≡ record { number = 0; whole = 0; device = with_sequence d (Open a (length (whole_by h p))) }
-      goes_on m = ap (λ (x : Arrival). x.answer) (is-done e).0 ∙ rw (more-last p m) (ap (λ x. record { number = 0; whole = 0; device = with_sequence d (Open a (length x)) }) told)
+      goes_on : IsMore p → (part_change d (length ws) area b a p).answer ≡ record { number = 0; whole = 0; device = with_sequence d (Some (record { owner = a; end = length (whole_by h p) })) }
+      goes_on m = ap (λ (x : Arrival). x.answer) (is-done e).0 ∙ rw (more-last p m) (ap (λ x. record { number = 0; whole = 0; device = with_sequence d (Some (record { owner = a; end = length x })) }) told)
 
       yields : IsFinal p
-          → ((part_change d (length ws) area b a p).answer ≡ record { number = 0; whole = length (whole_by h p); device = with_sequence d Nothing })
+          → ((part_change d (length ws) area b a p).answer ≡ record { number = 0; whole = length (whole_by h p); device = with_sequence d None })
           × (take (length (whole_by h p)) (part_change d (length ws) area b a p).area ≡ whole_by h p)
       yields f = (
-        ap (λ (x : Arrival). x.answer) (is-done e).0 ∙ rw (final-last p f) (ap (λ x. record { number = 0; whole = length x; device = with_sequence d Nothing }) told),
+        ap (λ (x : Arrival). x.answer) (is-done e).0 ∙ rw (final-last p f) (ap (λ x. record { number = 0; whole = length x; device = with_sequence d None }) told),
         ap (take (length (whole_by h p))) area_is
             ∙ subst (λ x. take (length x) (put area (offset_of p) p.bytes) ≡ x) told
             (joined-stored area a p fits.bytes d.sequence (sequence-within d sure) passed.follow (dwords (fitting passed)).1
             (leb-true (length whole) state_most (and_left (leb (length whole) state_most) _ passed.within))),
       )
 
-      asked : IsManager d.settings b × (suspended_by false h ≡ true) × ((owner end : ℕ) → d.sequence ≡ Open owner end → owner ≡ a) × Fitting h p
+      asked : IsManager d.settings b × (suspended_by false h ≡ true) × ((owner end : ℕ) → d.sequence ≡ Some (record { owner = owner; end = end }) → owner ≡ a) × Fitting h p
       asked = (
         manager-named d.settings b (is-done e).2,
         sym flag_is ∙ passed.suspended,

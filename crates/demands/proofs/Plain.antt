@@ -3,11 +3,13 @@ use mathlib.Core.Path.{◌≡◌, refl, sym, ap, ap₂, subst, ◌∙◌}
 use mathlib.Core.Logic.{◌≢◌, ◌↔◌, ◌⊎◌, inl, inr}
 use mathlib.Core.Bool.{Bool, true, false, cond}
 use mathlib.Core.List.{List, [], ◌∷◌, ◌++◌, map}
-use mathlib.Core.Option.{Option, none, some}
+use Rattle.std.specs.declared.option.Option.{Option}
+use Rattle.std.specs.declared.option.Option.TheVariants.{None, Some}
 use Prim.Native.Nat.{ℕ, zero, suc, ◌+◌, ◌*◌, ◌≤◌, ◌<◌}
 use native.Mathlib.Omega.{arith}
 use lib.Dec.{eqb}
-use lib.ListN.{length, get_or, get_elem?, take, drop, replicate, length-map, length-replicate}
+use lib.ListN.{length, get_or, take, drop, replicate, length-map, length-replicate}
+use Rattle.std.specs.List.{slice_get}
 use borrow.Author.Tests.{eq-eqb, not-true}
 use Rattle.bits.specs.Flat.{flat}
 use Rattle.bits.specs.Pack.{pack}
@@ -140,11 +142,11 @@ module _ (s : Settings) (m : Given) (ks : List Call) (sized : Sized s m) where
         → slot_of (view in_bytes (end_of in_bytes s m ks).device (end_of in_bytes s m ks).marks (end_of in_bytes s m ks).area (end_of in_bytes s m ks).queues) a ≡ slot_by (history_in in_bytes s m ks a)
     is-told a = ap (λ (st : State). slot_of st a) (sym both.seen) ∙ (stands a).told ∙ ap slot_by (sym (history-same a))
 
-    is-pending : (a i g : ℕ) (rs : List Range) (n : ℕ) (u : Unit) → place_of s a ≡ some i → tracks_by none (history_in in_bytes s m ks a) ≡ some (g, rs) → get_elem? (units g rs) n ≡ some u
+    is-pending : (a i g : ℕ) (rs : List Range) (n : ℕ) (u : Unit) → place_of s a ≡ Some i → tracks_by None (history_in in_bytes s m ks a) ≡ Some (g, rs) → slice_get (units g rs) n ≡ Some u
         → (get_or (end_of in_bytes s m ks).marks (base_at (end_of in_bytes s m ks).device i + n) 0 ≢ 0) ↔ PendingBy (history_in in_bytes s m ks a) u
     is-pending a i g rs n u place tracks at =
         let h = history-same a in
-        let p = ((stands a).tracked i g rs place (ap (tracks_by none) (sym h) ∙ tracks)).pending n u at in
+        let p = ((stands a).tracked i g rs place (ap (tracks_by None) (sym h) ∙ tracks)).pending n u at in
         let q = alike-said l.marks end end-alike (base_at l.device i + n) in
         subst (λ (x : Left). (get_or x.marks (base_at x.device i + n) 0 ≢ 0) ↔ PendingBy (history_in in_bytes s m ks a) u) (sym end_is)
         (subst (λ (y : List Did). (get_or end (base_at l.device i + n) 0 ≢ 0) ↔ PendingBy y u) (sym h) ((λ z. p.0 (q.0 z)), λ z. q.1 (p.1 z)))
@@ -225,7 +227,7 @@ is-rules : (s : Settings) (a : ℕ) (m : Given) (ks : List Call) → Sized s m �
 is-rules s a m ks sized = equals s m ks sized a ks (demand-2.rules s a (twin m) ks (twin-sized s m sized))
 
 -- a start moves the others' bytes as they are
-is-moved : (l : Left) → Shaped in_bytes l → (b a i : ℕ) (x : List ℕ) → place_of l.device.settings a ≡ some i
+is-moved : (l : Left) → Shaped in_bytes l → (b a i : ℕ) (x : List ℕ) → place_of l.device.settings a ≡ Some i
     → let c = start_by in_bytes l.device l.marks b a x in
     c.answer.number ≡ 0 → (j m : ℕ) → j < 8 → j ≢ i → m < demand.size_at l.device j
     → get_or c.marks (base_at c.answer.device j + m) 0 ≡ get_or l.marks (base_at l.device j + m) 0
@@ -235,14 +237,14 @@ is-moved l shaped b a i x at e j m h n k =
     let bs = l.marks in
     let fits = shaped-fits (holding l (pack 256 (map mark_of bs))) (shaped° l shaped) in
     let long : length bs ≡ most_units = area-whole (length bs) shaped.words in
-    let v = seen_in d (in_bytes.words bs) (some i) in
-    let r = verdict-done (λ (c : Change Started). c.answer.number) (start_order d.settings b v x) (start_done in_bytes d bs b x (some i)) (λ n j. started_with n j d bs)
+    let v = seen_in d (in_bytes.words bs) (Some i) in
+    let r = verdict-done (λ (c : Change Started). c.answer.number) (start_order d.settings b v x) (start_done in_bytes d bs b x (Some i)) (λ n j. started_with n j d bs)
     (λ n j. refl) (order-numbers d.settings v (arriving_in d.sequence l.area a) (start b x)) (rw at at e) in
-    let running : (controller_at d (some i)).suspended ≡ false = not-true (controller_at d (some i)).suspended r.1.1.1.1.0 in
+    let running : (controller_at d (Some i)).suspended ≡ false = not-true (controller_at d (Some i)).suspended r.1.1.1.1.0 in
     let p = start_order-passed d.settings b v x r.1 in
-    let as-words = subst (λ n. StartPassed d.settings b (seen_in d n (some i)) x) (shaped.words ∙ sym (pack-length 256 (map mark_of bs))) p in
+    let as-words = subst (λ n. StartPassed d.settings b (seen_in d n (Some i)) x) (shaped.words ∙ sym (pack-length 256 (map mark_of bs))) p in
     rw at (subst (λ (c : Change Started). get_or c.marks (base_at c.answer.device j + m) 0 ≡ get_or bs (base_at d j + m) 0) (sym r.0)
-    (moved-byte d (pack 256 (map mark_of bs)) l.area fits (sound-from d (in_bytes.words bs) r.1.0) i (place_of-used d a i at) b x running (not_on (controller_at d (some i)).tracking (controller_at d (some i)).manager p.untracked) as-words bs long j m h n k))
+    (moved-byte d (pack 256 (map mark_of bs)) l.area fits (sound-from d (in_bytes.words bs) r.1.0) i (place_of-used d a i at) b x running (not_on (controller_at d (Some i)).tracking (controller_at d (Some i)).manager p.untracked) as-words bs long j m h n k))
 
 pub plain-demands : plain.Plain
 plain-demands =

@@ -3,7 +3,8 @@ use mathlib.Core.Path.{◌≡◌, refl, sym, ap, subst, ◌∙◌}
 use mathlib.Core.Logic.{◌≢◌}
 use mathlib.Core.Bool.{Bool, true, false}
 use mathlib.Core.List.{List}
-use mathlib.Core.Option.{Option, none, some}
+use Rattle.std.specs.declared.option.Option.{Option}
+use Rattle.std.specs.declared.option.Option.TheVariants.{None, Some}
 use Prim.Native.Nat.{ℕ, ◌+◌, ◌*◌, ◌≤◌, ◌<◌}
 use native.Mathlib.Omega.{arith}
 use lib.Dec.{leb}
@@ -40,7 +41,7 @@ use Rattle.demands.proofs.ViewLaws.{Fits}
 
 module _ (d : Device) (ws area : List ℕ) (fits : Fits d ws area) (sound : sound_device d ≡ true) (i : ℕ) (used : i < d.settings.count) where
   abbrev c : Controller
-  c = controller_at d (some i)
+  c = controller_at d (Some i)
 
   most : d.settings.count ≤ 8
   most = (sound_device-facts d sound).count
@@ -51,7 +52,7 @@ module _ (d : Device) (ws area : List ℕ) (fits : Fits d ws area) (sound : soun
   -- ---- an accepted stop
 
   pub clears-stop : (g n : ℕ) → c.tracking ≡ On g n → 1 ≤ length c.ranges → c.suspended ≡ false
-      → Stopped d ws i (stop_done in_words d ws (some i)).answer.device (stop_done in_words d ws (some i)).marks
+      → Stopped d ws i (stop_done in_words d ws (Some i)).answer.device (stop_done in_words d ws (Some i)).marks
   clears-stop g n t listed running =
       let size : held_units (held_of c) ≡ length (units g (take n c.ranges)) = rw t in
       let inside : c.base + held_units (held_of c) ≤ 64 * mark_words = omega (arith, size, sound_device-inside d i g n sound used there t listed) in
@@ -74,13 +75,13 @@ own-base : (c : Controller) → 1 ≤ (share_of c).size → (share_of c).base �
 own-base c = go (held_of c)
   where
     go : (o : Option Held) → 1 ≤ (share_in c.base o).size → (share_in c.base o).base ≡ c.base
-    go none h = absurd (omega (arith, h))
-    go (some x) h = refl
+    go None h = absurd (omega (arith, h))
+    go (Some x) h = refl
 
 module _ (d : Device) (ws area : List ℕ) (fits : Fits d ws area) (sound : sound_device d ≡ true) (i : ℕ) (used : i < d.settings.count) (b : ℕ) (x : List ℕ)
-    (running : (controller_at d (some i)).suspended ≡ false) (idle : (controller_at d (some i)).tracking ≡ Off) (passed : StartPassed d.settings b (seen_in d (length ws) (some i)) x) where
+    (running : (controller_at d (Some i)).suspended ≡ false) (idle : (controller_at d (Some i)).tracking ≡ Off) (passed : StartPassed d.settings b (seen_in d (length ws) (Some i)) x) where
   abbrev new : Controller
-  new = started (controller_at d (some i)) b x
+  new = started (controller_at d (Some i)) b x
 
   abbrev e : Device
   e = with_controller d i new
@@ -116,10 +117,10 @@ module _ (d : Device) (ws area : List ℕ) (fits : Fits d ws area) (sound : soun
   before-own : get_or e.controllers i no_controller ≡ new
   before-own = get_or-set_same d.controllers i new no_controller (omega (arith, used, few, fits.controllers))
 
-  before-other : (j : ℕ) → j ≢ i → get_or e.controllers j no_controller ≡ controller_at d (some j)
+  before-other : (j : ℕ) → j ≢ i → get_or e.controllers j no_controller ≡ controller_at d (Some j)
   before-other j n = get_or-set_other d.controllers i j new no_controller n
 
-  packed-is : (j : ℕ) → j < 8 → controller_at d' (some j) ≡ packed_at sizes j (get_or e.controllers j no_controller)
+  packed-is : (j : ℕ) → j < 8 → controller_at d' (Some j) ≡ packed_at sizes j (get_or e.controllers j no_controller)
   packed-is j h = packed-at e j (omega (arith, h, eight))
 
   -- how many bits the share at a place has
@@ -158,7 +159,7 @@ module _ (d : Device) (ws area : List ℕ) (fits : Fits d ws area) (sound : soun
       go true q = absurd (omega (arith, k, ap (λ (a : Share). a.size) (shares_of-none d fits.controllers few j (leb-true d.settings.count j q))))
       go false q =
           let s = shares_of-at d j (leb-false d.settings.count j q) (omega (arith, h, fits.controllers)) in
-          ap (λ (a : Share). a.base) s ∙ own-base (controller_at d (some j)) (subst (λ (a : Share). 1 ≤ a.size) s k)
+          ap (λ (a : Share). a.base) s ∙ own-base (controller_at d (Some j)) (subst (λ (a : Share). 1 ≤ a.size) s k)
 
   -- a mark of it
   bit-of : (l : List ℕ) (base n : ℕ) (m : ℕ) → m < n → bit_of l base m ≡ get_or (marks_at l base n) m false
@@ -196,7 +197,7 @@ module _ (d : Device) (ws area : List ℕ) (fits : Fits d ws area) (sound : soun
       ∙ ap sum (take_all sizes 8 (omega (arith, length-map (shares_of e) (λ (a : Share). a.size), shares_of-length e eight few)))
       ∙ ap sum (sym all-sizes)
 
-  pub packs-start : Started d ws b i (granularity_of x) (count_of x) (ranges_of x) (start_done in_words d ws b x (some i)).answer.device (start_done in_words d ws b x (some i)).marks
+  pub packs-start : Started d ws b i (granularity_of x) (count_of x) (ranges_of x) (start_done in_words d ws b x (Some i)).answer.device (start_done in_words d ws b x (Some i)).marks
   packs-start =
       record {
         settings = refl;
@@ -205,7 +206,7 @@ module _ (d : Device) (ws area : List ℕ) (fits : Fits d ws area) (sound : soun
         own =
             let h : i < 8 = omega (arith, used, few) in
             let a = packed_alike e eight few i (get_or e.controllers i no_controller) in
-            but-base (controller_at d' (some i)) (record { tracking = On (granularity_of x) (count_of x); manager = b; base = 0; suspended = false; ranges = placed (ranges_of x); queue = (controller_at d (some i)).queue })
+            but-base (controller_at d' (Some i)) (record { tracking = On (granularity_of x) (count_of x); manager = b; base = 0; suspended = false; ranges = placed (ranges_of x); queue = (controller_at d (Some i)).queue })
             (ap (λ (k : Controller). k.suspended) (packed-is i h) ∙ a.0 ∙ ap (λ (k : Controller). k.suspended) before-own ∙ running)
             (ap (λ (k : Controller). k.tracking) (packed-is i h) ∙ a.1 ∙ ap (λ (k : Controller). k.tracking) before-own)
             (ap (λ (k : Controller). k.ranges) (packed-is i h) ∙ a.2 ∙ ap (λ (k : Controller). k.ranges) before-own)
@@ -213,7 +214,7 @@ module _ (d : Device) (ws area : List ℕ) (fits : Fits d ws area) (sound : soun
             (ap (λ (k : Controller). k.manager) (packed-is i h) ∙ a.4 ∙ ap (λ (k : Controller). k.manager) before-own);
         other = λ j h n.
             let a = packed_alike e eight few j (get_or e.controllers j no_controller) in
-            but-base (controller_at d' (some j)) (controller_at d (some j))
+            but-base (controller_at d' (Some j)) (controller_at d (Some j))
             (ap (λ (k : Controller). k.suspended) (packed-is j h) ∙ a.0 ∙ ap (λ (k : Controller). k.suspended) (before-other j n))
             (ap (λ (k : Controller). k.tracking) (packed-is j h) ∙ a.1 ∙ ap (λ (k : Controller). k.tracking) (before-other j n))
             (ap (λ (k : Controller). k.ranges) (packed-is j h) ∙ a.2 ∙ ap (λ (k : Controller). k.ranges) (before-other j n))

@@ -2,7 +2,8 @@
 use mathlib.Core.Path.{◌≡◌, refl, sym, ap, ap₂, ◌∙◌}
 use mathlib.Core.Bool.{Bool, true, false, ◌&&◌, ◌||◌, cond, or-true, true≢false}
 use mathlib.Core.List.{List, [], ◌∷◌, ◌++◌}
-use mathlib.Core.Option.{Option, none, some}
+use Rattle.std.specs.declared.option.Option.{Option}
+use Rattle.std.specs.declared.option.Option.TheVariants.{None, Some}
 use Prim.Native.Nat.{ℕ, zero, suc, ◌+◌, ◌-◌, ◌*◌, ◌/◌, ◌^◌, ◌≤◌, ◌<◌}
 use native.Mathlib.Omega.{arith}
 use lib.Dec.{leb, ltb, eqb}
@@ -13,8 +14,6 @@ use Rattle.little.specs.Little.{put}
 use Rattle.little.proofs.Put.{put-length}
 use Rattle.rules.specs.Queue.{entry_bytes, closing_entry, joined, total_after, fill_of, queue_ok, Queued, made_of, closes_at, posted_to, taken_of, closes_with, taken_from}
 use Rattle.rules.specs.declared.Ring.{Ring}
-use Rattle.rules.specs.declared.Queue.{Queue}
-use Rattle.rules.specs.declared.Queue.TheVariants.{Nothing, Is}
 use Rattle.rules.proofs.ListLaws.{take-take}
 use Rattle.ring.specs.Ring.{place_after, queued}
 use Rattle.ring.proofs.Entries.{queued-nil, queued-length, queued-take, queued-taken, closing_entry-length}
@@ -46,15 +45,15 @@ taken-least (suc n) (suc m) (x ∷ l) = let r = taken-least n m l in (omega (ari
 
 -- ---- as it is made
 
-pub made_ok : (bytes : ℕ) → 2 ≤ bytes / 32 → queue_ok (Is (made_ring bytes)) ≡ true
+pub made_ok : (bytes : ℕ) → 2 ≤ bytes / 32 → queue_ok (Some (made_ring bytes)) ≡ true
 made_ok bytes h =
     let z = fill_of-same 0 in
     ring-intro (made_ring bytes) (omega (arith, z, h)) (omega (arith, h)) (ap (λ b. b || false) (lt-ltb (fill_of 0 0) (bytes / 32) (omega (arith, z, h))))
 
-pub made-queue : (x : List ℕ) (bytes : ℕ) → queue_of x (Is (made_ring bytes)) ≡ some (made_of bytes)
+pub made-queue : (x : List ℕ) (bytes : ℕ) → queue_of x (Some (made_ring bytes)) ≡ Some (made_of bytes)
 made-queue x bytes =
     let area = front_of (entry_bytes * (bytes / entry_bytes)) x in
-    ap (λ es. some (record { size = bytes / entry_bytes; entries = es; stopped = false })) (ap (λ n. queued area (bytes / entry_bytes) 0 n) (fill_of-same 0) ∙ queued-nil area (bytes / entry_bytes) 0)
+    ap (λ es. Some (record { size = bytes / entry_bytes; entries = es; stopped = false })) (ap (λ n. queued area (bytes / entry_bytes) 0 n) (fill_of-same 0) ∙ queued-nil area (bytes / entry_bytes) 0)
 
 -- ---- with an entry more
 
@@ -100,7 +99,7 @@ module _ (r : Ring) (area : List ℕ) (facts : RingFacts r) (counted : Counted r
     more : fill_in posted-ring ≡ fill_in r + 1
     more = fill_of-post r.posted r.taken counted.posted counted.taken (omega (arith, room, small))
 
-    pub posted-ok : queue_ok (Is posted-ring) ≡ true
+    pub posted-ok : queue_ok (Some posted-ring) ≡ true
     posted-ok = ring-intro posted-ring (omega (arith, more, room)) facts.place (go last refl)
       where
         go : (b : Bool) → leb r.size (fill_in r + 1) ≡ b → (ltb (fill_in posted-ring) r.size || b) ≡ true
@@ -110,14 +109,14 @@ module _ (r : Ring) (area : List ℕ) (facts : RingFacts r) (counted : Counted r
     pub posted-counted : Counted posted-ring
     posted-counted = record { posted = total_after-lt r.posted 1; taken = counted.taken }
 
-    pub posted-queue : (rest : List ℕ) → queue_of (posted-area ++ rest) (Is posted-ring) ≡ some (posted_to e (record { size = r.size; entries = entries; stopped = r.stopped }))
+    pub posted-queue : (rest : List ℕ) → queue_of (posted-area ++ rest) (Some posted-ring) ≡ Some (posted_to e (record { size = r.size; entries = entries; stopped = r.stopped }))
     posted-queue rest =
         let own : front_of (entry_bytes * r.size) (posted-area ++ rest) ≡ posted-area = front_of-own posted-area rest (entry_bytes * r.size) (put-length area behind stored ∙ whole) in
         let are : queued_in posted-area posted-ring ≡ entries ++ stored ∷ [] =
         post-queued area posted-area stored r.size r.place r.posted r.taken (fill_in r) (total_after r.posted 1) refl refl refl room stored-length whole small facts.place
         counted.posted counted.taken in
-        ap (λ es. some (record { size = r.size; entries = es; stopped = last })) (ap (λ x. queued_in x posted-ring) own ∙ are)
-        ∙ ap (λ n. some (record { size = r.size; entries = entries ++ cond (closes_at r.size n) closing_entry e ∷ []; stopped = closes_at r.size n })) (sym entries-length)
+        ap (λ es. Some (record { size = r.size; entries = es; stopped = last })) (ap (λ x. queued_in x posted-ring) own ∙ are)
+        ∙ ap (λ n. Some (record { size = r.size; entries = entries ++ cond (closes_at r.size n) closing_entry e ∷ []; stopped = closes_at r.size n })) (sym entries-length)
 
     pub posted-answer : last ≡ closes_at r.size (length entries)
     posted-answer = ap (closes_at r.size) (sym entries-length)
@@ -134,7 +133,7 @@ module _ (r : Ring) (area : List ℕ) (facts : RingFacts r) (counted : Counted r
     few : length es ≤ fill_in r
     few = omega (arith, (taken-least asked (length x / entry_bytes) entries).2, entries-length)
 
-    pub taken-ok : queue_ok (Is taken-ring) ≡ true
+    pub taken-ok : queue_ok (Some taken-ring) ≡ true
     taken-ok =
         let less = fill_of-take r.posted r.taken (length es) counted.posted counted.taken few in
         ring-intro taken-ring (omega (arith, less, facts.fill)) (place_after-lt r.size r.place facts.place (length es)) (go (ltb (fill_in taken-ring) r.size) refl less)
@@ -149,10 +148,10 @@ module _ (r : Ring) (area : List ℕ) (facts : RingFacts r) (counted : Counted r
     taken-counted = record { posted = counted.posted; taken = total_after-lt r.taken (length es) }
 
     pub taken-queue : (y : List ℕ) → area ≡ front_of (entry_bytes * r.size) y
-        → queue_of y (Is taken-ring) ≡ some (taken_from (length es) (record { size = r.size; entries = entries; stopped = r.stopped }))
+        → queue_of y (Some taken-ring) ≡ Some (taken_from (length es) (record { size = r.size; entries = entries; stopped = r.stopped }))
     taken-queue y e =
-        ap (λ a. some (record { size = r.size; entries = queued_in a taken-ring; stopped = r.stopped })) (sym e)
-        ∙ ap (λ es. some (record { size = r.size; entries = es; stopped = r.stopped }))
+        ap (λ a. Some (record { size = r.size; entries = queued_in a taken-ring; stopped = r.stopped })) (sym e)
+        ∙ ap (λ es. Some (record { size = r.size; entries = es; stopped = r.stopped }))
         (take-queued area r.size r.place r.posted r.taken (length es) (place_after r.size r.place (length es)) (total_after r.taken (length es)) counted.posted counted.taken few refl refl)
 
     -- those taken are the oldest so many

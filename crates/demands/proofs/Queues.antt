@@ -3,11 +3,13 @@ use mathlib.Core.Path.{◌≡◌, refl, sym, ap, ap₂, subst, ◌∙◌}
 use mathlib.Core.Logic.{◌↔◌, ◌⊎◌, inl, inr}
 use mathlib.Core.Bool.{Bool, true, false, ◌&&◌, ◌||◌, not, cond, true≢false}
 use mathlib.Core.List.{List, [], ◌∷◌, ◌++◌}
-use mathlib.Core.Option.{Option, none, some}
+use Rattle.std.specs.declared.option.Option.{Option}
+use Rattle.std.specs.declared.option.Option.TheVariants.{None, Some}
 use Prim.Native.Nat.{ℕ, zero, suc, ◌+◌, ◌-◌, ◌*◌, ◌/◌, ◌%◌, ◌^◌, ◌≤◌, ◌<◌}
 use native.Mathlib.Omega.{arith}
 use lib.Dec.{leb, ltb, eqb}
-use lib.ListN.{length, take, drop, get_or, get_elem?, length-append}
+use lib.ListN.{length, take, drop, get_or, length-append}
+use Rattle.std.specs.List.{slice_get}
 use lib.Seq.{take_at}
 use borrow.Author.Tests.{leb-true, le-leb, ltb-true, ltb-false, lt-ltb, eqb-true, eq-eqb, not-true}
 use Rattle.little.specs.Little.{put}
@@ -21,8 +23,6 @@ use Rattle.rules.specs.Device.{sound_device}
 use Rattle.rules.specs.Machine.{places_in, entries_in}
 use Rattle.rules.specs.History.{Did, size_by, stored_by, taken_by, stopped_by}
 use Rattle.rules.specs.declared.Ring.{Ring}
-use Rattle.rules.specs.declared.Queue.{Queue}
-use Rattle.rules.specs.declared.Queue.TheVariants.{Nothing, Is}
 use Rattle.rules.specs.declared.Device.{Device}
 use Rattle.rules.proofs.ListLaws.{and_left, and_right, and_intro, not-intro, some_inj, take-take}
 use Rattle.rules.proofs.RefusalLaws.{Passed, verdict-done, verdict-passed}
@@ -46,14 +46,14 @@ use Rattle.demands.proofs.ViewLaws.{place_of-used}
 
 -- ---- lists
 
-get_elem-at : {A : Type 0} (xs : List A) (k : ℕ) (x : A) → k < length xs → get_elem? xs k ≡ some (get_or xs k x)
+get_elem-at : {A : Type 0} (xs : List A) (k : ℕ) (x : A) → k < length xs → slice_get xs k ≡ Some (get_or xs k x)
 get_elem-at [] k x h = absurd (omega arith)
 get_elem-at (y ∷ xs) zero x h = refl
 get_elem-at (y ∷ xs) (suc k) x h = get_elem-at xs k x (omega arith)
 
-get_elem-behind : {A : Type 0} (xs ys : List A) (k : ℕ) → get_elem? (xs ++ ys) (length xs + k) ≡ get_elem? ys k
-get_elem-behind [] ys k = let e : 0 + k ≡ k = omega arith in ap (get_elem? ys) e
-get_elem-behind (x ∷ xs) ys k = let e : suc (length xs) + k ≡ suc (length xs + k) = omega arith in ap (get_elem? (x ∷ (xs ++ ys))) e ∙ get_elem-behind xs ys k
+get_elem-behind : {A : Type 0} (xs ys : List A) (k : ℕ) → slice_get (xs ++ ys) (length xs + k) ≡ slice_get ys k
+get_elem-behind [] ys k = let e : 0 + k ≡ k = omega arith in ap (slice_get ys) e
+get_elem-behind (x ∷ xs) ys k = let e : suc (length xs) + k ≡ suc (length xs + k) = omega arith in ap (slice_get (x ∷ (xs ++ ys))) e ∙ get_elem-behind xs ys k
 
 -- the least of three: one of them
 taken-exact : {A : Type 0} (n m : ℕ) (l : List A)
@@ -76,7 +76,7 @@ module _ (d : Device) (i : ℕ) (r : Ring) (area : List ℕ) (facts : RingFacts 
   inside : 32 * place_after r.size r.place (fill_in r) + 32 ≤ length area
   inside = omega (arith, whole, place_after-lt r.size r.place facts.place (fill_in r))
 
-  post_is : (e : List ℕ) → length e ≡ 32 → r.stopped ≡ false → PostedTo d i r area e (post_in d i area e (Is r))
+  post_is : (e : List ℕ) → length e ≡ 32 → r.stopped ≡ false → PostedTo d i r area e (post_in d i area e (Some r))
   unfolding fill_of total_after place_after closing_entry
   post_is e long running =
       record {
@@ -139,7 +139,7 @@ module _ (d : Device) (i : ℕ) (r : Ring) (area : List ℕ) (facts : RingFacts 
         go (inr (inl e)) = inr (inl (e ∙ long))
         go (inr (inr e)) = inr (inr (omega (arith, e)))
 
-    take-is : TakenFrom d i r area asked x (take_in d i area asked x (Is r))
+    take-is : TakenFrom d i r area asked x (take_in d i area asked x (Some r))
     unfolding fill_of total_after place_after entry_at part
     take-is =
         record {
@@ -156,53 +156,53 @@ module _ (d : Device) (i : ℕ) (r : Ring) (area : List ℕ) (facts : RingFacts 
 
 -- ---- the calls, on any record
 
-module _ (d : Device) (words a i : ℕ) (eight : length d.controllers ≡ 8) (place : place_of d.settings a ≡ some i) where
+module _ (d : Device) (words a i : ℕ) (eight : length d.controllers ≡ 8) (place : place_of d.settings a ≡ Some i) where
   abbrev seen : Seen
-  seen = seen_in d words (some i)
+  seen = seen_in d words (Some i)
 
-  facts-of : sound_with d words ≡ true → (r : Ring) → (controller_at d (some i)).queue ≡ Is r → RingFacts r
+  facts-of : sound_with d words ≡ true → (r : Ring) → (controller_at d (Some i)).queue ≡ Some r → RingFacts r
   unfolding sound_with
   facts-of e r is =
       let sure = and_left (sound_device d) _ e in
       let used = place_of-used d a i place in
       ring-facts r (sym (ap queue_ok is) ∙ sound_device-queue d i sure used (omega (arith, used, eight, (sound_device-facts d sure).count)))
 
-  size_of : (bytes : ℕ) (r : Ring) → (controller_at d (some i)).queue ≡ Is r → (places_ok bytes && size_made (places_of (controller_at d (some i)).queue) bytes) ≡ true → bytes ≡ 32 * r.size
+  size_of : (bytes : ℕ) (r : Ring) → (controller_at d (Some i)).queue ≡ Some r → (places_ok bytes && size_made (places_of (controller_at d (Some i)).queue) bytes) ≡ true → bytes ≡ 32 * r.size
   size_of bytes r is ok = eqb-true bytes (32 * r.size) (sym (ap (λ q. size_made (places_of q) bytes) is) ∙ and_right (places_ok bytes) _ ok)
 
   makes_so : (bytes : ℕ) → (make_change d words a bytes).number ≡ 0
-      → (make_change d words a bytes).device ≡ queuing_at d i (Is (record { size = bytes / 32; posted = 0; taken = 0; place = 0; stopped = false }))
+      → (make_change d words a bytes).device ≡ queuing_at d i (Some (record { size = bytes / 32; posted = 0; taken = 0; place = 0; stopped = false }))
   unfolding make_change order
   makes_so bytes z =
-      let r = verdict-done (λ (c : Changed). c.number) (queue_order seen bytes order.make) (make_done d bytes (some i)) (λ n j. record { number = n; device = d }) (λ n j. refl)
+      let r = verdict-done (λ (c : Changed). c.number) (queue_order seen bytes order.make) (make_done d bytes (Some i)) (λ n j. record { number = n; device = d }) (λ n j. refl)
       (order-numbers d.settings seen (arriving_in d.sequence [] a) (order.queue bytes order.make)) (rw place at z) in
       rw place (ap (λ (c : Changed). c.device) r.0)
 
-  posts-so : (r : Ring) (area e : List ℕ) → (controller_at d (some i)).queue ≡ Is r → (post_change d words area a e).answer.number ≡ 0 → PostedTo d i r area e (post_change d words area a e)
+  posts-so : (r : Ring) (area e : List ℕ) → (controller_at d (Some i)).queue ≡ Some r → (post_change d words area a e).answer.number ≡ 0 → PostedTo d i r area e (post_change d words area a e)
   unfolding post_change order
   posts-so r area e is z =
-      let t = verdict-done (λ (p : Posting). p.answer.number) (queue_order seen (length area) (order.post e)) (post_done d area e (some i)) (λ n j. posting n false d area) (λ n j. refl)
+      let t = verdict-done (λ (p : Posting). p.answer.number) (queue_order seen (length area) (order.post e)) (post_done d area e (Some i)) (λ n j. posting n false d area) (λ n j. refl)
       (order-numbers d.settings seen (arriving_in d.sequence [] a) (order.queue (length area) (order.post e))) (rw place at z) in
       let q = t.1 in
-      let stopped : r.stopped ≡ false = sym (ap has_stopped is) ∙ not-true (has_stopped (controller_at d (some i)).queue) q.1.1.1.1.1.0 in
+      let stopped : r.stopped ≡ false = sym (ap has_stopped is) ∙ not-true (has_stopped (controller_at d (Some i)).queue) q.1.1.1.1.1.0 in
       rw place (subst (PostedTo d i r area e) (sym (t.0 ∙ ap (post_in d i area e) is))
       (post_is d i r area (facts-of q.0 r is) (size_of (length area) r is q.1.1.0) e (eqb-true (length e) 32 q.1.1.1.1.0) stopped))
 
-  takes-so : (r : Ring) (area : List ℕ) (asked : ℕ) (x : List ℕ) → (controller_at d (some i)).queue ≡ Is r → (take_change d words area a asked x).answer.number ≡ 0
+  takes-so : (r : Ring) (area : List ℕ) (asked : ℕ) (x : List ℕ) → (controller_at d (Some i)).queue ≡ Some r → (take_change d words area a asked x).answer.number ≡ 0
       → TakenFrom d i r area asked x (take_change d words area a asked x)
   unfolding take_change order
   takes-so r area asked x is z =
-      let t = verdict-done (λ (p : Taking). p.answer.number) (queue_order seen (length area) (order.take asked x)) (take_done d area asked x (some i)) (λ n j. taking n 0 false d x) (λ n j. refl)
+      let t = verdict-done (λ (p : Taking). p.answer.number) (queue_order seen (length area) (order.take asked x)) (take_done d area asked x (Some i)) (λ n j. taking n 0 false d x) (λ n j. refl)
       (order-numbers d.settings seen (arriving_in d.sequence [] a) (order.queue (length area) (order.take asked x))) (rw place at z) in
       let q = t.1 in
       rw place (subst (TakenFrom d i r area asked x) (sym (t.0 ∙ ap (take_in d i area asked x) is))
       (take-is d i r area (facts-of q.0 r is) (size_of (length area) r is q.1.1.0) asked x))
 
   -- a take from a queue that was not made is refused
-  takes-made : (area : List ℕ) (asked : ℕ) (x : List ℕ) → (take_change d words area a asked x).answer.number ≡ 0 → is_some (places_of (controller_at d (some i)).queue) ≡ true
+  takes-made : (area : List ℕ) (asked : ℕ) (x : List ℕ) → (take_change d words area a asked x).answer.number ≡ 0 → is_some (places_of (controller_at d (Some i)).queue) ≡ true
   unfolding take_change order
   takes-made area asked x z =
-      (verdict-done (λ (p : Taking). p.answer.number) (queue_order seen (length area) (order.take asked x)) (take_done d area asked x (some i)) (λ n j. taking n 0 false d x) (λ n j. refl)
+      (verdict-done (λ (p : Taking). p.answer.number) (queue_order seen (length area) (order.take asked x)) (take_done d area asked x (Some i)) (λ n j. taking n 0 false d x) (λ n j. refl)
       (order-numbers d.settings seen (arriving_in d.sequence [] a) (order.queue (length area) (order.take asked x))) (rw place at z)).1.1.1.1.0
 
   pub queue_calls : QueueCalls d words a i
@@ -210,21 +210,21 @@ module _ (d : Device) (words a i : ℕ) (eight : length d.controllers ≡ 8) (pl
 
 -- ---- after a session
 
-module _ (l : Left) (h : List Did) (a i : ℕ) (eight : length l.device.controllers ≡ 8) (place : place_of l.device.settings a ≡ some i)
-    (sound : sound_with l.device (length l.marks) ≡ true) (logged : history.Logged h (queue_of (l.queues i) (controller_at l.device (some i)).queue)) where
+module _ (l : Left) (h : List Did) (a i : ℕ) (eight : length l.device.controllers ≡ 8) (place : place_of l.device.settings a ≡ Some i)
+    (sound : sound_with l.device (length l.marks) ≡ true) (logged : history.Logged h (queue_of (l.queues i) (controller_at l.device (Some i)).queue)) where
   abbrev d : Device
   d = l.device
 
   abbrev words : ℕ
   words = length l.marks
 
-  abbrev own : Queue
-  own = (controller_at d (some i)).queue
+  abbrev own : Option Ring
+  own = (controller_at d (Some i)).queue
 
   -- a queue that was made
-  module _ (r : Ring) (is : own ≡ Is r) where
-    known : history.Logged h (queue_of (l.queues i) (Is r))
-    known = subst (λ (q : Queue). history.Logged h (queue_of (l.queues i) q)) is logged
+  module _ (r : Ring) (is : own ≡ Some r) where
+    known : history.Logged h (queue_of (l.queues i) (Some r))
+    known = subst (λ (q : Option Ring). history.Logged h (queue_of (l.queues i) q)) is logged
 
     abbrev entries : List (List ℕ)
     entries = queued_in (front_of (32 * r.size) (l.queues i)) r
@@ -244,23 +244,23 @@ module _ (l : Left) (h : List Did) (a i : ℕ) (eight : length l.device.controll
           taken = ap (take (length (taken_by h))) (sym known.entries) ∙ take_at (taken_by h) entries (length (taken_by h)) refl;
           all = together;
           queued = λ k f.
-              ap (λ es. get_elem? es (length (taken_by h) + k)) (sym known.entries)
+              ap (λ es. slice_get es (length (taken_by h) + k)) (sym known.entries)
               ∙ get_elem-behind (taken_by h) entries k
               ∙ get_elem-at entries k [] (omega (arith, entries-length, f))
-              ∙ ap some (queued-at (front_of (32 * r.size) (l.queues i)) r.size r.place (fill_in r) k f)
-              ∙ ap (λ z. some (entry_in (front_of (32 * z) (l.queues i)) (place_behind r k))) e;
+              ∙ ap Some (queued-at (front_of (32 * r.size) (l.queues i)) r.size r.place (fill_in r) k f)
+              ∙ ap (λ z. Some (entry_in (front_of (32 * z) (l.queues i)) (place_behind r k))) e;
           last = stored_last h;
         }
 
   -- there is one where the history tells of one
-  found : (n : ℕ) → size_by h ≡ some n → (r : Ring) × (own ≡ Is r) × (r.size ≡ n)
+  found : (n : ℕ) → size_by h ≡ Some n → (r : Ring) × (own ≡ Some r) × (r.size ≡ n)
   found n e = go own refl (logged.size ∙ e)
     where
-      go : (q : Queue) → own ≡ q → places_in (queue_of (l.queues i) q) ≡ some n → (r : Ring) × (own ≡ Is r) × (r.size ≡ n)
-      go Nothing is z = let y : ◌≡◌ {A = ℕ} 0 1 = cc in absurd (omega arith)
-      go (Is r) is z = (r, is, some_inj z)
+      go : (q : Option Ring) → own ≡ q → places_in (queue_of (l.queues i) q) ≡ Some n → (r : Ring) × (own ≡ Some r) × (r.size ≡ n)
+      go None is z = let y : ◌≡◌ {A = ℕ} 0 1 = cc in absurd (omega arith)
+      go (Some r) is z = (r, is, some_inj z)
 
-  sizes : (n : ℕ) → size_by h ≡ some n → (2 ≤ n) × (n ≤ 1024)
+  sizes : (n : ℕ) → size_by h ≡ Some n → (2 ≤ n) × (n ≤ 1024)
   sizes n e = logged.places n (logged.size ∙ e)
 
   -- an area of so many places
@@ -274,17 +274,17 @@ module _ (l : Left) (h : List Did) (a i : ℕ) (eight : length l.device.controll
   unfolding make_change
   may_make n h k =
       rw place (ap (λ (c : Changed). c.number)
-      (verdict-passed (queue_order (seen_in d words (some i)) (32 * n) order.make) (make_done d (32 * n) (some i)) (λ m j. record { number = m; device = d })
+      (verdict-passed (queue_order (seen_in d words (Some i)) (32 * n) order.make) (make_done d (32 * n) (Some i)) (λ m j. record { number = m; device = d })
       (sound, (refl, (places-are n h k, tt)))))
 
   -- the tests of size: an area of the size made
-  size-passes : (n : ℕ) → size_by h ≡ some n → let bytes = length (front_of (32 * n) (l.queues i)) in ((places_ok bytes && size_made (places_of own) bytes) ≡ true) × (is_some (places_of own) ≡ true)
+  size-passes : (n : ℕ) → size_by h ≡ Some n → let bytes = length (front_of (32 * n) (l.queues i)) in ((places_ok bytes && size_made (places_of own) bytes) ≡ true) × (is_some (places_of own) ≡ true)
   size-passes n e =
       let f = found n e in
       let k = sizes n e in
       rw (front_of-length (32 * n) (l.queues i), f.1, f.2) (and_intro (places_ok (32 * n)) _ (places-are n k.0 k.1) (eq-eqb (32 * n) (32 * n) refl), refl)
 
-  may_post : (n : ℕ) (e : List ℕ) → size_by h ≡ some n → stopped_by h ≡ false → length e ≡ 32 → (post_change d words (front_of (32 * n) (l.queues i)) a e).answer.number ≡ 0
+  may_post : (n : ℕ) (e : List ℕ) → size_by h ≡ Some n → stopped_by h ≡ false → length e ≡ 32 → (post_change d words (front_of (32 * n) (l.queues i)) a e).answer.number ≡ 0
   unfolding post_change
   may_post n e made running long =
       let area = front_of (32 * n) (l.queues i) in
@@ -292,17 +292,17 @@ module _ (l : Left) (h : List Did) (a i : ℕ) (eight : length l.device.controll
       let p = size-passes n made in
       let going : has_stopped own ≡ false = ap has_stopped f.1 ∙ (known f.0 f.1).stopped ∙ running in
       rw place (ap (λ (r : Posting). r.answer.number)
-      (verdict-passed (queue_order (seen_in d words (some i)) (length area) (order.post e)) (post_done d area e (some i)) (λ m j. posting m false d area)
-      (sound, (refl, (p.0, (p.1, (eq-eqb (length e) 32 long, (not-intro (has_stopped own) going, tt))))))) ∙ post-zero d area e (some i))
+      (verdict-passed (queue_order (seen_in d words (Some i)) (length area) (order.post e)) (post_done d area e (Some i)) (λ m j. posting m false d area)
+      (sound, (refl, (p.0, (p.1, (eq-eqb (length e) 32 long, (not-intro (has_stopped own) going, tt))))))) ∙ post-zero d area e (Some i))
 
-  may_take : (n asked : ℕ) (x : List ℕ) → size_by h ≡ some n → (take_change d words (front_of (32 * n) (l.queues i)) a asked x).answer.number ≡ 0
+  may_take : (n asked : ℕ) (x : List ℕ) → size_by h ≡ Some n → (take_change d words (front_of (32 * n) (l.queues i)) a asked x).answer.number ≡ 0
   unfolding take_change
   may_take n asked x made =
       let area = front_of (32 * n) (l.queues i) in
       let p = size-passes n made in
       rw place (ap (λ (r : Taking). r.answer.number)
-      (verdict-passed (queue_order (seen_in d words (some i)) (length area) (order.take asked x)) (take_done d area asked x (some i)) (λ m j. taking m 0 false d x)
-      (sound, (refl, (p.0, (p.1, tt))))) ∙ take-zero d area asked x (some i))
+      (verdict-passed (queue_order (seen_in d words (Some i)) (length area) (order.take asked x)) (take_done d area asked x (Some i)) (λ m j. taking m 0 false d x)
+      (sound, (refl, (p.0, (p.1, tt))))) ∙ take-zero d area asked x (Some i))
 
   closing-is : (bytes asked : ℕ) (x : List ℕ)
       → let t = take_change d words (front_of bytes (l.queues i)) a asked x in
@@ -313,9 +313,9 @@ module _ (l : Left) (h : List Did) (a i : ℕ) (eight : length l.device.controll
       t : Taking
       t = take_change d words (front_of bytes (l.queues i)) a asked x
 
-      go : (q : Queue) → own ≡ q → (t.answer.closing ≡ true) ↔ ((1 ≤ t.answer.count) × (stopped_by h ≡ true) × (length (taken_by h) + t.answer.count ≡ length (stored_by h)))
-      go Nothing is = absurd (true≢false (sym (takes-made d words a i eight place (front_of bytes (l.queues i)) asked x z) ∙ ap (λ q. is_some (places_of q)) is))
-      go (Is r) is =
+      go : (q : Option Ring) → own ≡ q → (t.answer.closing ≡ true) ↔ ((1 ≤ t.answer.count) × (stopped_by h ≡ true) × (length (taken_by h) + t.answer.count ≡ length (stored_by h)))
+      go None is = absurd (true≢false (sym (takes-made d words a i eight place (front_of bytes (l.queues i)) asked x z) ∙ ap (λ q. is_some (places_of q)) is))
+      go (Some r) is =
           let w = (takes-so d words a i eight place r (front_of bytes (l.queues i)) asked x is z).closing in
           let s = (known r is).stopped in
           let n = together r is in (
@@ -327,7 +327,7 @@ module _ (l : Left) (h : List Did) (a i : ℕ) (eight : length l.device.controll
   logs =
       record {
         is = λ n e. let f = found n e in (f.0, f.1, is-logged f.0 f.1 n f.2);
-        none = λ e r is. let y : none ≡ some r.size = sym e ∙ sym (known r is).size in let z : ◌≡◌ {A = ℕ} 0 1 = cc in absurd (omega arith);
+        none = λ e r is. let y : None ≡ Some r.size = sym e ∙ sym (known r is).size in let z : ◌≡◌ {A = ℕ} 0 1 = cc in absurd (omega arith);
         may_make = may_make;
         may_post = may_post;
         may_take = may_take;

@@ -2,7 +2,7 @@
 use mathlib.Core.Path.{◌≡◌, refl, sym, ap, ap₂, ◌∙◌}
 use mathlib.Core.Bool.{Bool, true, false, ◌&&◌, not, cond}
 use mathlib.Core.List.{List, [], ◌∷◌, ◌++◌, map}
-use mathlib.Core.Option.{none}
+use Rattle.std.specs.declared.option.Option.TheVariants.{None}
 use Prim.Native.Nat.{ℕ, zero, suc, ◌-◌, ◌≤◌}
 use native.Mathlib.Omega.{arith}
 use lib.Dec.{eqb}
@@ -29,7 +29,7 @@ use Rattle.demands.proofs.StepLaws.{Like, call_step}
 
 -- ---- fresh
 
-slots-fresh : (ws : List ℕ) (qs : ℕ → List ℕ) (xs : List ℕ) (k n : ℕ) → length xs ≡ n → slots_from in_words ws (λ i. none) qs k (replicate n fresh_controller) ≡ map (λ (i : ℕ). fresh_slot) xs
+slots-fresh : (ws : List ℕ) (qs : ℕ → List ℕ) (xs : List ℕ) (k n : ℕ) → length xs ≡ n → slots_from in_words ws (λ i. None) qs k (replicate n fresh_controller) ≡ map (λ (i : ℕ). fresh_slot) xs
 slots-fresh ws qs [] k n e = rw (sym e)
 slots-fresh ws qs (x ∷ xs) k zero e = absurd (omega (arith, e))
 slots-fresh ws qs (x ∷ xs) k (suc n) e = ap (λ l. fresh_slot ∷ l) (slots-fresh ws qs xs (suc k) n (omega (arith, e)))
@@ -77,7 +77,7 @@ begins s m sized e whole =
     (record {
       state =
           ap₂ (λ l b. record { settings = cleaned s; slots = l; amiss = b })
-          (ap (slots_from in_words (replicate mark_words 0) (λ i. none) m.queues 0) (take-replicate s.count 8 fresh_controller (settings_ok-count s e))
+          (ap (slots_from in_words (replicate mark_words 0) (λ i. None) m.queues 0) (take-replicate s.count 8 fresh_controller (settings_ok-count s e))
           ∙ slots-fresh (replicate mark_words 0) m.queues (identifiers_of s) 0 s.count (length-take-le s.count s.identifiers few))
           (ap not (ap (λ cs. shares_ok (map share_of cs ++ replicate (8 - s.count) no_share) && all (λ (c : Controller). queue_ok c.queue) cs) (take-replicate s.count 8 fresh_controller (settings_ok-count s e))
           ∙ and_intro (shares_ok (map share_of (replicate s.count fresh_controller) ++ replicate (8 - s.count) no_share)) _ (none-ok s.count (8 - s.count)) (no-queues s.count)));

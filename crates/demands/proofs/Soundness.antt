@@ -3,7 +3,8 @@ use mathlib.Core.Path.{◌≡◌, refl, sym, ap, ap₂, subst, ◌∙◌}
 use mathlib.Core.Logic.{◌≢◌, ◌⊎◌, inl, inr}
 use mathlib.Core.Bool.{Bool, true, false, not, cond, ◌&&◌, ◌||◌, and-false, true≢false}
 use mathlib.Core.List.{List, [], ◌∷◌, map}
-use mathlib.Core.Option.{Option, none, some}
+use Rattle.std.specs.declared.option.Option.{Option}
+use Rattle.std.specs.declared.option.Option.TheVariants.{None, Some}
 use Prim.Native.Nat.{ℕ, zero, suc, ◌+◌, ◌%◌, ◌≤◌, ◌<◌}
 use native.Mathlib.Omega.{arith}
 use lib.Dec.{leb, ltb, eqb}
@@ -23,12 +24,8 @@ use Rattle.rules.specs.declared.Share.{Share}
 use Rattle.rules.specs.declared.Tracking.{Tracking}
 use Rattle.rules.specs.declared.Tracking.TheVariants.{Off, On}
 use Rattle.rules.specs.declared.Sequence.{Sequence}
-use Rattle.rules.specs.declared.Sequence.TheVariants.{Nothing, Open}
 use Rattle.rules.specs.declared.Ring.{Ring}
-use Rattle.rules.specs.declared.Queue.{Queue}
-use Rattle.rules.specs.declared.Queue.TheVariants as made
 use Rattle.rules.specs.declared.Second.{Second}
-use Rattle.rules.specs.declared.Second.TheVariants as second
 use Rattle.rules.specs.declared.Settings.{Settings}
 use Rattle.rules.specs.declared.Controller.{Controller}
 use Rattle.rules.specs.declared.Device.{Device}
@@ -59,10 +56,10 @@ lawful-ring : (r : Ring) → RingFacts r → LawfulRing r
 unfolding fill_of
 lawful-ring r f = record { fill = f.fill; place = f.place; full = f.full }
 
-queue-ok : (q : Queue) → ((r : Ring) → q ≡ made.Is r → LawfulRing r) → queue_ok q ≡ true
+queue-ok : (q : Option Ring) → ((r : Ring) → q ≡ Some r → LawfulRing r) → queue_ok q ≡ true
 unfolding queue_ok fill_of
-queue-ok made.Nothing f = refl
-queue-ok (made.Is r) f =
+queue-ok None f = refl
+queue-ok (Some r) f =
     let l = f r refl in
     ring-intro r l.fill l.place (go (ltb (fill_in r) r.size) refl)
   where
@@ -71,7 +68,7 @@ queue-ok (made.Is r) f =
     go false e = let l = f r refl in l.full (omega (arith, l.fill, ltb-false (fill_in r) r.size e))
 
 -- what a sound record says of an open sequence
-lawful : (d : Device) (owner end : ℕ) → length d.controllers ≡ 8 → d.sequence ≡ Open owner end → sound_device d ≡ true → LawfulSequence d owner end
+lawful : (d : Device) (owner end : ℕ) → length d.controllers ≡ 8 → d.sequence ≡ Some (record { owner = owner; end = end }) → sound_device d ≡ true → LawfulSequence d owner end
 lawful d owner end eight q e = go (place_of d.settings owner) refl
   where
     k : (suspended_at (controllers_of d) (place_of d.settings owner) && front_ok end) ≡ true
@@ -84,8 +81,8 @@ lawful d owner end eight q e = go (place_of d.settings owner) refl
     ends = and_right (leb 4 end) _ (and_right (suspended_at (controllers_of d) (place_of d.settings owner)) (front_ok end) k)
 
     go : (p : Option ℕ) → place_of d.settings owner ≡ p → LawfulSequence d owner end
-    go none z = absurd (true≢false (sym flag ∙ ap (suspended_at (controllers_of d)) z))
-    go (some i) z =
+    go None z = absurd (true≢false (sym flag ∙ ap (suspended_at (controllers_of d)) z))
+    go (Some i) z =
         let u = place_of-used d owner i z in
         let same : get_or (controllers_of d) i fresh_controller ≡ get_or d.controllers i no_controller =
         get_or-take d.settings.count d.controllers i fresh_controller u ∙ get_d_any d.controllers i fresh_controller no_controller (omega (arith, u, (sound_device-facts d e).count, eight)) in
@@ -115,16 +112,16 @@ module _ (d : Device) (whole : Whole d) where
   forward e =
       let facts = sound_device-facts d e in
       let there : (i : ℕ) → i < d.settings.count → i < length d.controllers = λ i h. omega (arith, h, facts.count, whole.controllers) in
-      let listed : (i : ℕ) → i < d.settings.count → 1 ≤ length (controller_at d (some i)).ranges = λ i h. omega (arith, whole.ranges i (omega (arith, h, facts.count))) in
+      let listed : (i : ℕ) → i < d.settings.count → 1 ≤ length (controller_at d (Some i)).ranges = λ i h. omega (arith, whole.ranges i (omega (arith, h, facts.count))) in
       let lawful-at : (i g n : ℕ) → TracksAt d i g n
-      → (is_manager d.settings (controller_at d (some i)).manager ≡ true) × Lawful d.settings g n (take n (controller_at d (some i)).ranges) =
+      → (is_manager d.settings (controller_at d (Some i)).manager ≡ true) × Lawful d.settings g n (take n (controller_at d (Some i)).ranges) =
       λ i g n t.
-      to-lawful (controller_at d (some i)) g n t.1
+      to-lawful (controller_at d (Some i)) g n t.1
       (all-front (λ c. held_ok d.settings (held_of c)) d.controllers d.settings.count i no_controller t.0 (there i t.0) (sound_device-all d e)) in
       record {
         settings = facts.settings;
         held = λ i g n t. (lawful-at i g n t).1;
-        manager = λ i g n t. manager-named d.settings (controller_at d (some i)).manager (lawful-at i g n t).0;
+        manager = λ i g n t. manager-named d.settings (controller_at d (Some i)).manager (lawful-at i g n t).0;
         limit = within-named d.settings facts.settings (managed_of d) (sound-managed d.settings (map held_of (controllers_of d)) _ e);
         shelf = facts.counts;
         inside = λ i g n t. sound_device-inside d i g n e t.0 (there i t.0) t.1 (listed i t.0);
@@ -143,7 +140,7 @@ module _ (d : Device) (whole : Whole d) where
     in_use : (i : ℕ) → i < length (controllers_of d) → i < d.settings.count
     in_use i h = omega (arith, h, length-take d.settings.count d.controllers)
 
-    used-at : (i : ℕ) (c : Controller) → i < d.settings.count → get_or (controllers_of d) i c ≡ controller_at d (some i)
+    used-at : (i : ℕ) (c : Controller) → i < d.settings.count → get_or (controllers_of d) i c ≡ controller_at d (Some i)
     used-at i c h = get_or-take d.settings.count d.controllers i c h ∙ get_d_any d.controllers i c no_controller (omega (arith, h, few, whole.controllers))
 
     all_held : all (held_ok d.settings) (map held_of (controllers_of d)) ≡ true
@@ -152,11 +149,11 @@ module _ (d : Device) (whole : Whole d) where
         ∙ all_from (λ c. held_ok d.settings (held_of c)) (controllers_of d) no_controller
         (λ i h.
         ap (λ c. held_ok d.settings (held_of c)) (used-at i no_controller (in_use i h))
-        ∙ from-lawful (controller_at d (some i)) (λ g n t. (named-manager d.settings (controller_at d (some i)).manager (s.manager i g n (in_use i h, t)), s.held i g n (in_use i h, t))))
+        ∙ from-lawful (controller_at d (Some i)) (λ g n t. (named-manager d.settings (controller_at d (Some i)).manager (s.manager i g n (in_use i h, t)), s.held i g n (in_use i h, t))))
 
     -- a share that has bits is that of a tracked controller at a place in use
     shared-by : (i : ℕ) → i < length (shares_of d) → 1 ≤ (get_or (shares_of d) i no_share).size
-        → (g : ℕ) × (n : ℕ) × TracksAt d i g n × (get_or (shares_of d) i no_share ≡ record { base = (controller_at d (some i)).base; size = length (units g (take n (controller_at d (some i)).ranges)) })
+        → (g : ℕ) × (n : ℕ) × TracksAt d i g n × (get_or (shares_of d) i no_share ≡ record { base = (controller_at d (Some i)).base; size = length (units g (take n (controller_at d (Some i)).ranges)) })
     shared-by i h k = go (leb d.settings.count i) refl
       where
         by : (c : Controller) (t : Tracking) → c.tracking ≡ t → 1 ≤ (share_in c.base (held_in t c.manager c.ranges)).size
@@ -165,13 +162,13 @@ module _ (d : Device) (whole : Whole d) where
         by c (On g n) e l = (g, n, e, refl)
 
         go : (b : Bool) → leb d.settings.count i ≡ b
-            → (g : ℕ) × (n : ℕ) × TracksAt d i g n × (get_or (shares_of d) i no_share ≡ record { base = (controller_at d (some i)).base; size = length (units g (take n (controller_at d (some i)).ranges)) })
+            → (g : ℕ) × (n : ℕ) × TracksAt d i g n × (get_or (shares_of d) i no_share ≡ record { base = (controller_at d (Some i)).base; size = length (units g (take n (controller_at d (Some i)).ranges)) })
         go true e =
             absurd (omega (arith, k, ap (λ (a : Share). a.size) (shares_of-none d whole.controllers few i (leb-true d.settings.count i e))))
         go false e =
             let u : i < d.settings.count = leb-false d.settings.count i e in
             let at = shares_of-at d i u (omega (arith, u, few, whole.controllers)) in
-            let c = controller_at d (some i) in
+            let c = controller_at d (Some i) in
             let r = by c c.tracking refl (subst (λ (a : Share). 1 ≤ a.size) at k) in
             (r.0, r.1, (u, r.2), at ∙ r.3)
 
@@ -189,19 +186,19 @@ module _ (d : Device) (whole : Whole d) where
     sequence-ok : sequence_ok d.settings (controllers_of d) d.sequence ≡ true
     sequence-ok = go d.sequence refl
       where
-        go : (q : Sequence) → d.sequence ≡ q → sequence_ok d.settings (controllers_of d) q ≡ true
-        go Nothing e = refl
-        go (Open owner end) e =
-            let l = s.sequence owner end e in
-            let u = place_of-used d owner l.place l.known in
-            let flag : suspended_at (controllers_of d) (place_of d.settings owner) ≡ true =
+        go : (q : Option Sequence) → d.sequence ≡ q → sequence_ok d.settings (controllers_of d) q ≡ true
+        go None e = refl
+        go (Some seq) e =
+            let l = s.sequence seq.owner seq.end e in
+            let u = place_of-used d seq.owner l.place l.known in
+            let flag : suspended_at (controllers_of d) (place_of d.settings seq.owner) ≡ true =
             ap (suspended_at (controllers_of d)) l.known ∙ ap (λ (c : Controller). c.suspended) (used-at l.place fresh_controller u) ∙ l.suspended in
-            rw (flag, le-leb 4 end l.least, le-leb end 4096 l.most, eq-eqb (end % 4) 0 l.dwords)
+            rw (flag, le-leb 4 seq.end l.least, le-leb seq.end 4096 l.most, eq-eqb (seq.end % 4) 0 l.dwords)
 
     queues-ok : queues_ok d ≡ true
     queues-ok =
         all_from (λ (c : Controller). queue_ok c.queue) (controllers_of d) no_controller
-        (λ i h. ap (λ (c : Controller). queue_ok c.queue) (used-at i no_controller (in_use i h)) ∙ queue-ok (controller_at d (some i)).queue (λ r q. s.queues i r (in_use i h) q))
+        (λ i h. ap (λ (c : Controller). queue_ok c.queue) (used-at i no_controller (in_use i h)) ∙ queue-ok (controller_at d (Some i)).queue (λ r q. s.queues i r (in_use i h) q))
 
     back : sound_device d ≡ true
     back =
@@ -275,7 +272,7 @@ settled s eight e =
       granularities = (leb-true s.least s.greatest (settings_ok-at s 4 e), settings_ok-greatest s e);
       limit = settings_ok-limit s e;
       second = λ id limit q.
-          let o = settings_ok-other s id limit e q in
+          let o = settings_ok-other s (record { id = id; limit = limit }) e q in
           (o.0, (λ i h z. nobody id (not-intro (member id (identifiers_of s)) o.1) i h z), o.2);
       shelf = settings_ok-shelf s e;
     }
@@ -295,11 +292,11 @@ settled-ok s eight r =
     rw (le-leb 1 s.count r.count.0, le-leb s.count 8 r.count.1, apart, other s.manager r.manager, le-leb s.least s.greatest r.granularities.0, le-leb s.greatest 20 r.granularities.1, le-leb s.limit 128 r.limit, le-leb s.shelf 128 r.shelf)
     (go other s.second refl)
   where
-    go : ((b : ℕ) → ((i : ℕ) → i < s.count → get_or s.identifiers i 0 ≢ b) → not (member b (identifiers_of s)) ≡ true) → (x : Second) → s.second ≡ x → every (second_rules s x) ≡ true
-    go other second.Nothing q = refl
-    go other (second.Is id limit) q =
-        let o = r.second id limit q in
-        rw (ne_eqb id s.manager o.0, other id o.1, le-leb limit 128 o.2)
+    go : ((b : ℕ) → ((i : ℕ) → i < s.count → get_or s.identifiers i 0 ≢ b) → not (member b (identifiers_of s)) ≡ true) → (x : Option Second) → s.second ≡ x → every (second_rules s x) ≡ true
+    go other None q = refl
+    go other (Some two) q =
+        let o = r.second two.id two.limit q in
+        rw (ne_eqb two.id s.manager o.0, other two.id o.1, le-leb two.limit 128 o.2)
 
 -- ---- its shares
 

@@ -3,7 +3,8 @@ use mathlib.Core.Path.{◌≡◌, refl, sym, ap, ap₂, subst, ◌∙◌}
 use mathlib.Core.Logic.{◌≢◌}
 use mathlib.Core.Bool.{Bool, true, false, ◌&&◌, ◌||◌, not, cond, true≢false}
 use mathlib.Core.List.{List, [], ◌∷◌, ◌++◌}
-use mathlib.Core.Option.{Option, none, some}
+use Rattle.std.specs.declared.option.Option.{Option}
+use Rattle.std.specs.declared.option.Option.TheVariants.{None, Some}
 use Prim.Native.Nat.{ℕ, zero, suc, ◌+◌, ◌*◌, ◌%◌, ◌^◌, ◌≤◌, ◌<◌}
 use native.Mathlib.Omega.{arith}
 use lib.Dec.{leb, eqb}
@@ -33,10 +34,7 @@ use Rattle.rules.specs.declared.Settings.{Settings}
 use Rattle.rules.specs.declared.Tracking.{Tracking}
 use Rattle.rules.specs.declared.Tracking.TheVariants.{Off, On}
 use Rattle.rules.specs.declared.Sequence.{Sequence}
-use Rattle.rules.specs.declared.Sequence.TheVariants.{Nothing, Open}
 use Rattle.rules.specs.declared.Ring.{Ring}
-use Rattle.rules.specs.declared.Queue.{Queue}
-use Rattle.rules.specs.declared.Queue.TheVariants as made
 use Rattle.rules.specs.declared.Controller.{Controller}
 use Rattle.rules.specs.declared.Device.{Device}
 use Rattle.rules.proofs.ListLaws.{All, All-append, All-map, all_set, and_left, and_right}
@@ -208,7 +206,7 @@ module _ (d : Device) (ws area : List ℕ) (qs : ℕ → List ℕ) (fits : Fits 
 
   -- ---- a controller at a place
 
-  module _ (i : ℕ) (place : place_of d.settings id ≡ some i) (sound : sound_with d (length ws) ≡ true) where
+  module _ (i : ℕ) (place : place_of d.settings id ≡ Some i) (sound : sound_with d (length ws) ≡ true) where
     abbrev c : Controller
     c = get_or d.controllers i no_controller
 
@@ -284,13 +282,13 @@ module _ (d : Device) (ws area : List ℕ) (qs : ℕ → List ℕ) (fits : Fits 
     queue-kept = sound_device-queue d i sure used (eight i used)
 
     -- a controller is replaced by one with a share and a queue that may be there, and with it the sequence, the words, the area and that of its queue
-    moved : (e : Controller) (q : Sequence) (ws' area' : List ℕ) (qs' : ℕ → List ℕ) → shares_ok (set (shares_of d) i (share_of e)) ≡ true → queue_ok e.queue ≡ true
+    moved : (e : Controller) (q : Option Sequence) (ws' area' : List ℕ) (qs' : ℕ → List ℕ) → shares_ok (set (shares_of d) i (share_of e)) ≡ true → queue_ok e.queue ≡ true
         → stray_in d.settings q ≡ stray_in d.settings d.sequence → Kept ws' → ((j : ℕ) → j ≢ i → front_at d.settings q area' j ≡ front j) → ((j : ℕ) → j ≢ i → qs' j ≡ qs j)
-        → view in_words (with_sequence (with_controller d i e) q) ws' area' qs' ≡ with_slot st (some i) (slot_of in_words ws' e (front_at d.settings q area' i) (qs' i))
+        → view in_words (with_sequence (with_controller d i e) q) ws' area' qs' ≡ with_slot st (Some i) (slot_of in_words ws' e (front_at d.settings q area' i) (qs' i))
     moved e q ws' area' qs' ok whole stray kept fronts areas =
         view-with d (with_sequence (with_controller d i e) q) ws ws' area area' qs qs' i fits.controllers (length-set d.controllers i e ∙ fits.controllers) refl most used
         (amiss-same (with_sequence (with_controller d i e) q) stray refl (rw (shares_of-with d fits.controllers most i e used) ok) (queues-with e whole)) other
-        ∙ ap (λ x. with_slot st (some i) (slot_of in_words ws' x (front_at d.settings q area' i) (qs' i))) (get_or-set_same d.controllers i e no_controller (eight i used))
+        ∙ ap (λ x. with_slot st (Some i) (slot_of in_words ws' x (front_at d.settings q area' i) (qs' i))) (get_or-set_same d.controllers i e no_controller (eight i used))
       where
         other : (j : ℕ) → j ≢ i → j < d.settings.count
             → slot_of in_words ws' (get_or (set d.controllers i e) j no_controller) (front_at d.settings q area' j) (qs' j) ≡ slot_of in_words ws (at j) (front j) (qs j)
@@ -301,7 +299,7 @@ module _ (d : Device) (ws area : List ℕ) (qs : ℕ → List ℕ) (fits : Fits 
 
     -- the same without another sequence, and with its queue as it was
     replaced : (e : Controller) (ws' : List ℕ) → shares_ok (set (shares_of d) i (share_of e)) ≡ true → e.queue ≡ c.queue → Kept ws'
-        → view in_words (with_controller d i e) ws' area qs ≡ with_slot st (some i) (slot_of in_words ws' e (front i) (qs i))
+        → view in_words (with_controller d i e) ws' area qs ≡ with_slot st (Some i) (slot_of in_words ws' e (front i) (qs i))
     replaced e ws' ok same kept = moved e d.sequence ws' area qs ok (ap queue_ok same ∙ queue-kept) refl kept (λ j n. refl) (λ j n. refl)
 
     -- a share that stays
@@ -324,13 +322,13 @@ module _ (d : Device) (ws area : List ℕ) (qs : ℕ → List ℕ) (fits : Fits 
     same-record : with_controller d i c ≡ d
     same-record = ap (λ l. record { settings = d.settings; controllers = l; sequence = d.sequence }) (set-get_or d.controllers i no_controller)
 
-    own : slot_at st (some i) ≡ slot_of in_words ws c (front i) (qs i)
+    own : slot_at st (Some i) ≡ slot_of in_words ws c (front i) (qs i)
     own = slot-at d ws area qs fits i used below
 
     -- ---- start
 
-    start-done : (b : ℕ) (x : List ℕ) → StartPassed d.settings b (seen_in d (length ws) (some i)) x → c.tracking ≡ Off
-        → Does x (starts area qs x (start_done in_words d ws b x (some i))) (some i) (start b x)
+    start-done : (b : ℕ) (x : List ℕ) → StartPassed d.settings b (seen_in d (length ws) (Some i)) x → c.tracking ≡ Off
+        → Does x (starts area qs x (start_done in_words d ws b x (Some i))) (Some i) (start b x)
     unfolding get_share
     start-done b x q idle =
         rw own (record { answer = refl; state = state; bytes = refl; fits = packed-fits })
@@ -424,12 +422,12 @@ module _ (d : Device) (ws area : List ℕ) (qs : ℕ → List ℕ) (fits : Fits 
         queues : queues_ok (packed_device e) ≡ true
         queues = rw (packed-take d.settings.count 0 e.controllers) (queues-packed (controllers_of e) 0 ∙ queues-with (started c b x) queue-kept)
 
-        state : view in_words (packed_device e) ws' area qs ≡ with_slot st (some i) (tracked_with (slot_of in_words ws c (front i) (qs i)) b (on (granularity_of x) (ranges_of x) (clear us)))
+        state : view in_words (packed_device e) ws' area qs ≡ with_slot st (Some i) (tracked_with (slot_of in_words ws c (front i) (qs i)) b (on (granularity_of x) (ranges_of x) (clear us)))
         state =
             let size : get_or sizes i 0 ≡ length us = size-at i used ∙ ap (λ k. held_units (held_of k)) (get_or-set_same d.controllers i (started c b x) no_controller (eight i used)) ∙ rw first in
             view-with d (packed_device e) ws ws' area area qs qs i fits.controllers (packed-eight e eight-e most) refl most used
             (amiss-same (packed_device e) refl refl (packed-ok e eight-e most fit) queues) others
-            ∙ ap (with_slot st (some i))
+            ∙ ap (with_slot st (Some i))
             (ap (λ k. slot_of in_words ws' k (front i) (qs i)) (packed-at e i (omega (arith, used, most, eight-e)) ∙ ap (packed_at sizes i) (get_or-set_same d.controllers i (started c b x) no_controller (eight i used)))
             ∙ slot_is i (started c b x) (on (granularity_of x) (ranges_of x) (clear us)) (front i)
             (based i (started c b x) (granularity_of x) (count_of x) refl (size ∙ rw first) (replicate (get_or sizes i 0) false) (length-replicate (get_or sizes i 0) false)
@@ -460,7 +458,7 @@ module _ (d : Device) (ws area : List ℕ) (qs : ℕ → List ℕ) (fits : Fits 
 
     -- ---- stop
 
-    stop-done : (b g n : ℕ) → c.tracking ≡ On g n → Does [] (stops area qs (stop_done in_words d ws (some i))) (some i) (stop b)
+    stop-done : (b g n : ℕ) → c.tracking ≡ On g n → Does [] (stops area qs (stop_done in_words d ws (Some i))) (Some i) (stop b)
     stop-done b g n t =
         let size : held_units (held_of c) ≡ size_of i g n = rw t in
         let inside : c.base + held_units (held_of c) ≤ 64 * mark_words = omega (arith, size, within i g n used t) in
@@ -475,12 +473,12 @@ module _ (d : Device) (ws area : List ℕ) (qs : ℕ → List ℕ) (fits : Fits 
 
     -- ---- suspend and resume
 
-    suspend-done : (b kind : ℕ) → Does [] (flags ws area qs (flag_done d (some i) (c.suspended || eqb kind 1))) (some i) (suspend b kind)
+    suspend-done : (b kind : ℕ) → Does [] (flags ws area qs (flag_done d (Some i) (c.suspended || eqb kind 1))) (Some i) (suspend b kind)
     suspend-done b kind =
         let e = flagged c (c.suspended || eqb kind 1) in
         rw own (record { answer = refl; state = replaced e ws (same-share e refl) refl (λ j g n other h t. refl); bytes = refl; fits = still e ws listed totalled fits.words })
 
-    resume-done : (b : ℕ) → Does [] (flags ws area qs (resume_done d id (some i))) (some i) (resume b)
+    resume-done : (b : ℕ) → Does [] (flags ws area qs (resume_done d id (Some i))) (Some i) (resume b)
     resume-done b =
         let e = flagged c false in
         let f = still e ws listed totalled fits.words in
@@ -489,7 +487,7 @@ module _ (d : Device) (ws area : List ℕ) (qs : ℕ → List ℕ) (fits : Fits 
           state =
               moved e (dropped id d.sequence) ws area qs (same-share e refl) queue-kept (stray-dropped d.settings id i place d.sequence) (λ j g n other h t. refl)
               (front-undropped d.settings id i place d.sequence area) (λ j n. refl)
-              ∙ ap (λ y. with_slot st (some i) (slot_of in_words ws e y (qs i))) (front-dropped d.settings id i place d.sequence area);
+              ∙ ap (λ y. with_slot st (Some i) (slot_of in_words ws e y (qs i))) (front-dropped d.settings id i place d.sequence area);
           bytes = refl;
           fits = record { controllers = f.controllers; identifiers = f.identifiers; listed = f.listed; totals = f.totals; words = f.words; bytes = f.bytes };
         })
@@ -498,7 +496,7 @@ module _ (d : Device) (ws area : List ℕ) (qs : ℕ → List ℕ) (fits : Fits 
 
     -- marks of its units that are put: the record is as it was
     marks-put : (g n : ℕ) (p : List Bool) → c.tracking ≡ On g n → length p ≡ length (units g (take n c.ranges))
-        → view in_words d (with_marks ws c.base p) area qs ≡ with_slot st (some i) (with_marks_of (slot_of in_words ws c (front i) (qs i)) (on g (take n c.ranges) p))
+        → view in_words d (with_marks ws c.base p) area qs ≡ with_slot st (Some i) (with_marks_of (slot_of in_words ws c (front i) (qs i)) (on g (take n c.ranges) p))
     marks-put g n p e h =
         let us = units g (take n c.ranges) in
         let inside : c.base + length p ≤ 64 * mark_words = omega (arith, h, within i g n used e) in
@@ -506,7 +504,7 @@ module _ (d : Device) (ws area : List ℕ) (qs : ℕ → List ℕ) (fits : Fits 
         sym (ap (λ (r : Device). view in_words r ws' area qs) same-record)
         ∙ replaced c ws' (same-share c refl) refl
         (λ j g' n' other k t. put_other ws fits.words c.base p inside (at j).base (size_of j g' n') (within j g' n' k t) (rw h (away g n e j g' n' other k t)))
-        ∙ ap (with_slot st (some i)) (rw (e, put-own ws fits.words c.base p inside (length us) (sym h)))
+        ∙ ap (with_slot st (Some i)) (rw (e, put-own ws fits.words c.base p inside (length us) (sym h)))
 
     marks-fit : (g n : ℕ) (p : List Bool) → c.tracking ≡ On g n → length p ≡ length (units g (take n c.ranges)) → Fits d (with_marks ws c.base p) area
     marks-fit g n p e h =
@@ -524,16 +522,16 @@ module _ (d : Device) (ws area : List ℕ) (qs : ℕ → List ℕ) (fits : Fits 
         → length (marks_at ws c.base (length (units g (take n c.ranges)))) ≡ length (units g (take n c.ranges))
     marks-sized g n e = get_share-length _ c.base (length (units g (take n c.ranges))) (omega (arith, within i g n used e, flat-length ws, fits.words))
 
-    write_is : (w : Write) → Does [] (notes d area qs (write_done in_words d ws w (some i))) (some i) (write w)
+    write_is : (w : Write) → Does [] (notes d area qs (write_done in_words d ws w (Some i))) (Some i) (write w)
     write_is w = rw own (go c.tracking refl)
       where
         go : (t : Tracking) → c.tracking ≡ t
             → let r = wrote_in w (marks_of in_words ws c.base t c.ranges) in
-            Like id [] (notes d area qs (note_in in_words ws c.base t c.ranges w)) r.0 (with_slot st (some i) (with_marks_of (slot_of in_words ws c (front i) (qs i)) r.1))
+            Like id [] (notes d area qs (note_in in_words ws c.base t c.ranges w)) r.0 (with_slot st (Some i) (with_marks_of (slot_of in_words ws c (front i) (qs i)) r.1))
         go Off e =
             record {
               answer = refl;
-              state = sym (with_slot-slot_at st (some i)) ∙ ap (with_slot st (some i)) (own ∙ rw e);
+              state = sym (with_slot-slot_at st (Some i)) ∙ ap (with_slot st (Some i)) (own ∙ rw e);
               bytes = refl;
               fits = fits;
             }
@@ -550,13 +548,13 @@ module _ (d : Device) (ws area : List ℕ) (qs : ℕ → List ℕ) (fits : Fits 
 
     -- ---- receive
 
-    receive-done : (b : ℕ) (x : List ℕ) → is_tracker b (tracker_of c) ≡ true → Does x (receipts d area qs (receive_done in_words d ws id x (some i))) (some i) (receive b x)
+    receive-done : (b : ℕ) (x : List ℕ) → is_tracker b (tracker_of c) ≡ true → Does x (receipts d area qs (receive_done in_words d ws id x (Some i))) (Some i) (receive b x)
     receive-done b x q = rw own (go c.tracking refl q)
       where
         go : (t : Tracking) → c.tracking ≡ t → is_tracker b (tracked_by t c.manager) ≡ true
             → let r = reported_in c.suspended (length x) (marks_of in_words ws c.base t c.ranges) in
             Like id x (receipts d area qs (receive_in in_words ws c.base id c.suspended t c.ranges x)) r.0
-            (with_slot st (some i) (with_marks_of (slot_of in_words ws c (front i) (qs i)) r.1))
+            (with_slot st (Some i) (with_marks_of (slot_of in_words ws c (front i) (qs i)) r.1))
         go Off e f = absurd (true≢false (sym f))
         go (On g n) e f =
             let us = units g (take n c.ranges) in
@@ -571,7 +569,7 @@ module _ (d : Device) (ws area : List ℕ) (qs : ℕ → List ℕ) (fits : Fits 
 
     -- ---- a part of a state
 
-    part-done : (b : ℕ) (p : Part) → PartPassed (seen_in d (length ws) (some i)) (arriving_at st (some i)) p → Does p.bytes (arrives ws qs p.bytes (part_done d area id p)) (some i) (part b p)
+    part-done : (b : ℕ) (p : Part) → PartPassed (seen_in d (length ws) (Some i)) (arriving_at st (Some i)) p → Does p.bytes (arrives ws qs p.bytes (part_done d area id p)) (Some i) (part b p)
     part-done b p passed = rw (own, front-is) (go (is_last p) refl)
       where
         -- what it sees of the sequence
@@ -581,11 +579,11 @@ module _ (d : Device) (ws area : List ℕ) (qs : ℕ → List ℕ) (fits : Fits 
         front-is : front i ≡ so_far
         front-is = front-own d.settings id i place d.sequence area
 
-        seen : arriving_at st (some i) ≡ arriving_in d.sequence area id
+        seen : arriving_at st (Some i) ≡ arriving_in d.sequence area id
         seen = sym (arriving-same d ws area qs fits id i place sure)
 
-        is : PartPassed (seen_in d (length ws) (some i)) (arriving_in d.sequence area id) p
-        is = subst (λ (a : Arriving). PartPassed (seen_in d (length ws) (some i)) a p) seen passed
+        is : PartPassed (seen_in d (length ws) (Some i)) (arriving_in d.sequence area id) p
+        is = subst (λ (a : Arriving). PartPassed (seen_in d (length ws) (Some i)) a p) seen passed
 
         alone : others_in id d.sequence ≡ false
         alone = not-true (others_in id d.sequence) is.alone
@@ -608,17 +606,17 @@ module _ (d : Device) (ws area : List ℕ) (qs : ℕ → List ℕ) (fits : Fits 
         sized : length area' ≡ state_most
         sized = put-length area (offset_of p) p.bytes ∙ fits.bytes
 
-        fit : (q : Sequence) → Fits (with_sequence d q) ws area'
+        fit : (q : Option Sequence) → Fits (with_sequence d q) ws area'
         fit q = record { controllers = fits.controllers; identifiers = fits.identifiers; listed = fits.listed; totals = fits.totals; words = fits.words; bytes = sized }
 
         -- its own bytes so far are replaced, and there are no others
-        left : (q : Sequence) (y : Option (List ℕ)) → others_in id q ≡ false → front_in id q area' ≡ y
-            → view in_words (with_sequence d q) ws area' qs ≡ with_slot st (some i) (with_front (slot_of in_words ws c so_far (qs i)) y)
+        left : (q : Option Sequence) (y : Option (List ℕ)) → others_in id q ≡ false → front_in id q area' ≡ y
+            → view in_words (with_sequence d q) ws area' qs ≡ with_slot st (Some i) (with_front (slot_of in_words ws c so_far (qs i)) y)
         left q y others e =
             sym (ap (λ (r : Device). view in_words (with_sequence r q) ws area' qs) same-record)
             ∙ moved c q ws area' qs (same-share c refl) queue-kept (stray-own d.settings id i place q others ∙ sym (stray-own d.settings id i place d.sequence alone)) (λ j g n other h t. refl)
             (λ j other. front-others d.settings id i place q area' others j other ∙ sym (front-others d.settings id i place d.sequence area alone j other)) (λ j n. refl)
-            ∙ ap (λ x. with_slot st (some i) (slot_of in_words ws c x (qs i))) (front-own d.settings id i place q area' ∙ e)
+            ∙ ap (λ x. with_slot st (Some i) (slot_of in_words ws c x (qs i))) (front-own d.settings id i place q area' ∙ e)
 
         -- a finished state has its header, so it is not empty
         long : is_last p ≡ true → eqb (length whole) 0 ≡ false
@@ -627,52 +625,52 @@ module _ (d : Device) (ws area : List ℕ) (qs : ℕ → List ℕ) (fits : Fits 
             ne_eqb (length whole) 0 (λ z. absurd (omega (arith, z, (state_ok-true whole ok).long)))
 
         go : (l : Bool) → is_last p ≡ l
-            → let r : Answer × Option (List ℕ) = cond l (assembled whole, none) (done, some whole) in
+            → let r : Answer × Option (List ℕ) = cond l (assembled whole, None) (done, Some whole) in
             Like id p.bytes
             (arrives ws qs p.bytes
-            (cond l (arrival 0 (length whole) (with_sequence d Nothing) area') (arrival 0 0 (with_sequence d (Open id (length whole))) area')))
+            (cond l (arrival 0 (length whole) (with_sequence d None) area') (arrival 0 0 (with_sequence d (Some (record { owner = id; end = length whole }))) area')))
             r.0
-            (with_slot st (some i) (with_front (slot_of in_words ws c so_far (qs i)) r.1))
+            (with_slot st (Some i) (with_front (slot_of in_words ws c so_far (qs i)) r.1))
         go true l =
             record {
               answer = rw (long l) (ap assembled has);
-              state = left Nothing none refl refl;
+              state = left None None refl refl;
               bytes = rw (long l);
-              fits = fit Nothing;
+              fits = fit None;
             }
         go false l =
             record {
               answer = refl;
               state =
-                  left (Open id (length whole)) (some whole) (ap not (eq-eqb id id refl))
-                  (rw (eq-eqb id id refl) (ap some (front_of-take (length whole) area' (omega (arith, short, sized)) ∙ has)));
+                  left (Some (record { owner = id; end = length whole })) (Some whole) (ap not (eq-eqb id id refl))
+                  (rw (eq-eqb id id refl) (ap Some (front_of-take (length whole) area' (omega (arith, short, sized)) ∙ has)));
               bytes = refl;
-              fits = fit (Open id (length whole));
+              fits = fit (Some (record { owner = id; end = length whole }));
             }
 
     -- ---- the queue
 
     -- it is another, and so is its area; of the rest nothing changes
-    queued-anew : (q : Queue) (qs' : ℕ → List ℕ) → queue_ok q ≡ true → ((j : ℕ) → j ≢ i → qs' j ≡ qs j)
-        → view in_words (with_queue d i q) ws area qs' ≡ with_slot st (some i) (with_queued (slot_of in_words ws c (front i) (qs i)) (queue_of (qs' i) q))
+    queued-anew : (q : Option Ring) (qs' : ℕ → List ℕ) → queue_ok q ≡ true → ((j : ℕ) → j ≢ i → qs' j ≡ qs j)
+        → view in_words (with_queue d i q) ws area qs' ≡ with_slot st (Some i) (with_queued (slot_of in_words ws c (front i) (qs i)) (queue_of (qs' i) q))
     queued-anew q qs' ok areas = moved (queuing c q) d.sequence ws area qs' (same-share (queuing c q) refl) ok refl (λ j g n other h t. refl) (λ j n. refl) areas
 
-    counted-fits : (r : Ring) → Counted r → Fits (with_queue d i (made.Is r)) ws area
-    counted-fits r k = still (queuing c (made.Is r)) ws listed (λ r' e. let z : r ≡ r' = cc in let t : (r.posted < 2 ^ 32) × (r.taken < 2 ^ 32) = (k.posted, k.taken) in subst (λ (x : Ring). (x.posted < 2 ^ 32) × (x.taken < 2 ^ 32)) z t) fits.words
+    counted-fits : (r : Ring) → Counted r → Fits (with_queue d i (Some r)) ws area
+    counted-fits r k = still (queuing c (Some r)) ws listed (λ r' e. let z : r ≡ r' = cc in let t : (r.posted < 2 ^ 32) × (r.taken < 2 ^ 32) = (k.posted, k.taken) in subst (λ (x : Ring). (x.posted < 2 ^ 32) × (x.taken < 2 ^ 32)) z t) fits.words
 
-    make-done : (bytes : ℕ) → places_ok bytes ≡ true → Does [] (flags ws area qs (make_done d bytes (some i))) (some i) (queue bytes make)
+    make-done : (bytes : ℕ) → places_ok bytes ≡ true → Does [] (flags ws area qs (make_done d bytes (Some i))) (Some i) (queue bytes make)
     make-done bytes ok =
         rw own (record {
           answer = refl;
           state =
-              queued-anew (made.Is (made_ring bytes)) qs (made_ok bytes (places_ok-true bytes ok).0) (λ j n. refl)
-              ∙ ap (λ q. with_slot st (some i) (with_queued (slot_of in_words ws c (front i) (qs i)) q)) (made-queue (qs i) bytes);
+              queued-anew (Some (made_ring bytes)) qs (made_ok bytes (places_ok-true bytes ok).0) (λ j n. refl)
+              ∙ ap (λ q. with_slot st (Some i) (with_queued (slot_of in_words ws c (front i) (qs i)) q)) (made-queue (qs i) bytes);
           bytes = refl;
           fits = counted-fits (made_ring bytes) (record { posted = omega arith; taken = omega arith });
         })
 
     -- a post or a take whose area has the size made
-    module _ (bytes : ℕ) (r : Ring) (is : c.queue ≡ made.Is r) (ok : (places_ok bytes && size_made (places_of c.queue) bytes) ≡ true) where
+    module _ (bytes : ℕ) (r : Ring) (is : c.queue ≡ Some r) (ok : (places_ok bytes && size_made (places_of c.queue) bytes) ≡ true) where
       abbrev lends : List ℕ
       lends = front_of bytes (qs i)
 
@@ -695,24 +693,24 @@ module _ (d : Device) (ws area : List ℕ) (qs : ℕ → List ℕ) (fits : Fits 
       abbrev was : Queued
       was = record { size = r.size; entries = queued_in lends r; stopped = r.stopped }
 
-      slot-queue : queue_of (qs i) c.queue ≡ some was
-      slot-queue = ap (queue_of (qs i)) is ∙ ap (λ n. some (record { size = r.size; entries = queued_in (front_of n (qs i)) r; stopped = r.stopped })) (sym sized)
+      slot-queue : queue_of (qs i) c.queue ≡ Some was
+      slot-queue = ap (queue_of (qs i)) is ∙ ap (λ n. Some (record { size = r.size; entries = queued_in (front_of n (qs i)) r; stopped = r.stopped })) (sym sized)
 
-      post-done : (e : List ℕ) → length e ≡ 32 → r.stopped ≡ false → Does e (posts ws area qs (some i) e (post_done d lends e (some i))) (some i) (queue bytes (post e))
+      post-done : (e : List ℕ) → length e ≡ 32 → r.stopped ≡ false → Does e (posts ws area qs (Some i) e (post_done d lends e (Some i))) (Some i) (queue bytes (post e))
       post-done e long running =
-          rw own (subst (λ (q : Queue). G q (queue_of (qs i) c.queue)) (sym is) (subst (λ (z : Option Queued). G (made.Is r) z) (sym slot-queue) (record {
+          rw own (subst (λ (q : Option Ring). G q (queue_of (qs i) c.queue)) (sym is) (subst (λ (z : Option Queued). G (Some r) z) (sym slot-queue) (record {
             answer = ap posted (posted-answer r lends facts counted small whole e long running);
             state =
-                queued-anew (made.Is ring) qs' (posted-ok r lends facts counted small whole e long running) others
-                ∙ ap (λ q. with_slot st (some i) (with_queued (slot_of in_words ws c (front i) (qs i)) q)) (ap (λ x. queue_of x (made.Is ring)) here ∙ posted-queue r lends facts counted small whole e long running (drop (length area') (qs i)));
+                queued-anew (Some ring) qs' (posted-ok r lends facts counted small whole e long running) others
+                ∙ ap (λ q. with_slot st (Some i) (with_queued (slot_of in_words ws c (front i) (qs i)) q)) (ap (λ x. queue_of x (Some ring)) here ∙ posted-queue r lends facts counted small whole e long running (drop (length area') (qs i)));
             bytes = refl;
             fits = counted-fits ring (posted-counted r lends facts counted small whole e long running);
           })))
         where
-          G : Queue → Option Queued → Type 0
+          G : Option Ring → Option Queued → Type 0
           G q z =
-              Like id e (posts ws area qs (some i) e (post_in d i lends e q)) (posted_in e z).0
-              (with_slot st (some i) (with_queued (slot_of in_words ws c (front i) (qs i)) (posted_in e z).1))
+              Like id e (posts ws area qs (Some i) e (post_in d i lends e q)) (posted_in e z).0
+              (with_slot st (Some i) (with_queued (slot_of in_words ws c (front i) (qs i)) (posted_in e z).1))
 
           ring : Ring
           ring = ring_posted r (closes_at r.size (fill_in r))
@@ -721,7 +719,7 @@ module _ (d : Device) (ws area : List ℕ) (qs : ℕ → List ℕ) (fits : Fits 
           area' = put lends (entry_bytes * place_after r.size r.place (fill_in r)) (cond (closes_at r.size (fill_in r)) closing_entry e)
 
           qs' : ℕ → List ℕ
-          qs' = handed_on qs (some i) area'
+          qs' = handed_on qs (Some i) area'
 
           others : (j : ℕ) → j ≢ i → qs' j ≡ qs j
           others j n = ap (λ b. cond b (area' ++ drop (length area') (qs i)) (qs j)) (ne_eqb j i n)
@@ -729,21 +727,21 @@ module _ (d : Device) (ws area : List ℕ) (qs : ℕ → List ℕ) (fits : Fits 
           here : qs' i ≡ area' ++ drop (length area') (qs i)
           here = ap (λ b. cond b (area' ++ drop (length area') (qs i)) (qs i)) (eq-eqb i i refl)
 
-      take_is : (asked : ℕ) (x : List ℕ) → Does x (takes ws area qs (take_done d lends asked x (some i))) (some i) (queue bytes (order.take asked x))
+      take_is : (asked : ℕ) (x : List ℕ) → Does x (takes ws area qs (take_done d lends asked x (Some i))) (Some i) (queue bytes (order.take asked x))
       take_is asked x =
-          rw own (subst (λ (q : Queue). G q (queue_of (qs i) c.queue)) (sym is) (subst (λ (z : Option Queued). G (made.Is r) z) (sym slot-queue) (record {
+          rw own (subst (λ (q : Option Ring). G q (queue_of (qs i) c.queue)) (sym is) (subst (λ (z : Option Queued). G (Some r) z) (sym slot-queue) (record {
             answer = ap₂ taken (taken-entries r lends facts counted small whole asked x) (taken-closing r lends facts counted small whole asked x);
             state =
-                queued-anew (made.Is ring) qs (taken-ok r lends facts counted small whole asked x) (λ j n. refl)
-                ∙ ap (λ q. with_slot st (some i) (with_queued (slot_of in_words ws c (front i) (qs i)) q)) (taken-queue r lends facts counted small whole asked x (qs i) (ap (λ n. front_of n (qs i)) sized));
+                queued-anew (Some ring) qs (taken-ok r lends facts counted small whole asked x) (λ j n. refl)
+                ∙ ap (λ q. with_slot st (Some i) (with_queued (slot_of in_words ws c (front i) (qs i)) q)) (taken-queue r lends facts counted small whole asked x (qs i) (ap (λ n. front_of n (qs i)) sized));
             bytes = ap (λ es. put x 0 (joined es)) (sym (taken-entries r lends facts counted small whole asked x));
             fits = counted-fits ring (taken-counted r lends facts counted small whole asked x);
           })))
         where
-          G : Queue → Option Queued → Type 0
+          G : Option Ring → Option Queued → Type 0
           G q z =
               Like id x (takes ws area qs (take_in d i lends asked x q)) (taken_in asked (length x) z).0
-              (with_slot st (some i) (with_queued (slot_of in_words ws c (front i) (qs i)) (taken_in asked (length x) z).1))
+              (with_slot st (Some i) (with_queued (slot_of in_words ws c (front i) (qs i)) (taken_in asked (length x) z).1))
 
           m : ℕ
           m = length (taken_of asked (length x) (queued_in lends r))
@@ -756,7 +754,7 @@ module _ (d : Device) (ws area : List ℕ) (qs : ℕ → List ℕ) (fits : Fits 
   -- a call that is not refused found its controller in a sound record
   at_place : (o : Op) (A : Type 0) (x : List ℕ) (f : A → Outcome) (end : Option ℕ → A) (refuse : ℕ → ℕ → A)
       → ((v : Seen) (a : Arriving) → Refuses A x f refuse (order d.settings v a o))
-      → ((i : ℕ) → place_of d.settings id ≡ some i → sound_with d (length ws) ≡ true → Passed (table (some i) o) → Does x (f (end (some i))) (some i) o)
+      → ((i : ℕ) → place_of d.settings id ≡ Some i → sound_with d (length ws) ≡ true → Passed (table (Some i) o) → Does x (f (end (Some i))) (Some i) o)
       → Like id x (f (verdict (table (place_of d.settings id) o) (end (place_of d.settings id)) refuse))
       (step_at st (place_of d.settings id) o).0 (step_at st (place_of d.settings id) o).1
   at_place o A x f end refuse r e =
@@ -765,8 +763,8 @@ module _ (d : Device) (ws area : List ℕ) (qs : ℕ → List ℕ) (fits : Fits 
       (go (place_of d.settings id) refl)
     where
       go : (p : Option ℕ) → place_of d.settings id ≡ p → Passed (table p o) → Does x (f (end p)) p o
-      go none k q = absurd (true≢false (sym (order-known d.settings (seen_in d (length ws) none) (arriving_at st none) o q).1))
-      go (some i) k q = e i k (order-known d.settings (seen_in d (length ws) (some i)) (arriving_at st (some i)) o q).0 q
+      go None k q = absurd (true≢false (sym (order-known d.settings (seen_in d (length ws) None) (arriving_at st None) o q).1))
+      go (Some i) k q = e i k (order-known d.settings (seen_in d (length ws) (Some i)) (arriving_at st (Some i)) o q).0 q
 
   -- a start's refusals, with their rows
   start-refuses : (b : ℕ) (x : List ℕ) (v : Seen) (a : Arriving) → Refuses (Change Started) x (starts area qs x) (λ n i. started_with n i d ws) (order d.settings v a (start b x))
@@ -785,23 +783,23 @@ module _ (d : Device) (ws area : List ℕ) (qs : ℕ → List ℕ) (fits : Fits 
       go : (q : Option ℕ) → place_of d.settings id ≡ q → (b : Bool) → sound_with d (length ws) ≡ b
           → part_at d (length ws) area m id p q ≡ verdict (part_order d.settings m (seen_in d (length ws) q) (arriving_at st q) p) (part_done d area id p) refuse
       go q e false s = rw s
-      go none e true s = rw (s, eq-eqb (length area) state_most fits.bytes)
-      go (some i) e true s =
-          ap (λ (a : Arriving). verdict (part_order d.settings m (seen_in d (length ws) (some i)) a p) (part_done d area id p) refuse)
+      go None e true s = rw (s, eq-eqb (length area) state_most fits.bytes)
+      go (Some i) e true s =
+          ap (λ (a : Arriving). verdict (part_order d.settings m (seen_in d (length ws) (Some i)) a p) (part_done d area id p) refuse)
           (arriving-same d ws area qs fits id i e (sure i e s))
 
   -- a queue that a post or a take found was made
-  is_made : (q : Queue) → is_some (places_of q) ≡ true → (r : Ring) × (q ≡ made.Is r)
-  is_made made.Nothing e = absurd (true≢false (sym e))
-  is_made (made.Is r) e = (r, refl)
+  is_made : (q : Option Ring) → is_some (places_of q) ≡ true → (r : Ring) × (q ≡ Some r)
+  is_made None e = absurd (true≢false (sym e))
+  is_made (Some r) e = (r, refl)
 
   -- the area that is lent has as many bytes as the call says
   lent_length : (bytes : ℕ) → length (lent_at qs (place_of d.settings id) bytes) ≡ bytes
   lent_length bytes = go (place_of d.settings id)
     where
       go : (p : Option ℕ) → length (lent_at qs p bytes) ≡ bytes
-      go none = front_of-length bytes []
-      go (some i) = front_of-length bytes (qs i)
+      go None = front_of-length bytes []
+      go (Some i) = front_of-length bytes (qs i)
 
   post-call : (bytes : ℕ) (x : List ℕ)
       → let o = queue bytes (post x) in
@@ -815,8 +813,8 @@ module _ (d : Device) (ws area : List ℕ) (qs : ℕ → List ℕ) (fits : Fits 
       (sym (lent_length bytes))
       (at_place (queue bytes (post x)) Posting x (posts ws area qs p x) (post_done d x' x) (λ n i. posting n false d x') (λ v a. (refl, (refl, (refl, (refl, (refl, (refl, tt)))))))
       (λ i e s q.
-      let made = is_made (controller_at d (some i)).queue q.1.1.1.0 in
-      let stopped : has_stopped (controller_at d (some i)).queue ≡ false = not-true _ q.1.1.1.1.1.0 in
+      let made = is_made (controller_at d (Some i)).queue q.1.1.1.0 in
+      let stopped : has_stopped (controller_at d (Some i)).queue ≡ false = not-true _ q.1.1.1.1.1.0 in
       rw e (post-done i e s bytes made.0 made.1 q.1.1.0 x (eqb-true (length x) 32 q.1.1.1.1.0) (sym (ap has_stopped made.1) ∙ stopped))))
 
   take-call : (bytes asked : ℕ) (x : List ℕ)
@@ -830,17 +828,17 @@ module _ (d : Device) (ws area : List ℕ) (qs : ℕ → List ℕ) (fits : Fits 
       (sym (lent_length bytes))
       (at_place (queue bytes (order.take asked x)) Taking x (takes ws area qs) (take_done d x' asked x) (λ n i. taking n 0 false d x) (λ v a. (refl, (refl, (refl, (refl, tt)))))
       (λ i e s q.
-      let made = is_made (controller_at d (some i)).queue q.1.1.1.0 in
+      let made = is_made (controller_at d (Some i)).queue q.1.1.1.0 in
       rw e (take_is i e s bytes made.0 made.1 q.1.1.0 asked x)))
 
   every_call : (o : Op) → Like id (lent o) (run_as in_words d ws area qs id o) (step_at st (place_of d.settings id) o).0 (step_at st (place_of d.settings id) o).1
   unfolding order start_by stop_by write_by receive_by suspend_change resume_change make_change
   every_call (start b x) =
       at_place (start b x) (Change Started) x (starts area qs x) (start_done in_words d ws b x) (λ n i. started_with n i d ws) (start-refuses b x)
-      (λ i e s q. let p = start_order-passed d.settings b (seen_in d (length ws) (some i)) x q in start-done i e s b x p (not_on (controller_at d (some i)).tracking (controller_at d (some i)).manager p.untracked))
+      (λ i e s q. let p = start_order-passed d.settings b (seen_in d (length ws) (Some i)) x q in start-done i e s b x p (not_on (controller_at d (Some i)).tracking (controller_at d (Some i)).manager p.untracked))
   every_call (stop b) =
       at_place (stop b) (Change Changed) [] (stops area qs) (stop_done in_words d ws) (λ n i. changed n d ws) (λ v a. (refl, (refl, (refl, (refl, (refl, tt))))))
-      (λ i e s q. let o = is-on (controller_at d (some i)).tracking (controller_at d (some i)).manager b q.1.1.1.1.0 in stop-done i e s b o.0 o.1 o.2)
+      (λ i e s q. let o = is-on (controller_at d (Some i)).tracking (controller_at d (Some i)).manager b q.1.1.1.1.0 in stop-done i e s b o.0 o.1 o.2)
   every_call (write w) =
       at_place (write w) Note [] (notes d area qs) (write_done in_words d ws w) (λ n i. noted n 0 ws) (λ v a. (refl, (refl, (refl, (refl, tt))))) (λ i e s q. write_is i e s w)
   every_call (receive b x) =
@@ -856,7 +854,7 @@ module _ (d : Device) (ws area : List ℕ) (qs : ℕ → List ℕ) (fits : Fits 
       rw (part-seen b p)
       (at_place (part b p) Arrival p.bytes (arrives ws qs p.bytes) (λ i. part_done d area id p) (λ n j. arrival n 0 d area)
       (λ v a. (refl, (refl, (refl, (refl, (refl, (refl, (refl, (refl, (refl, tt))))))))))
-      (λ i e s q. part-done i e s b p (part_order-passed d.settings b (seen_in d (length ws) (some i)) (arriving_at st (some i)) p q)))
+      (λ i e s q. part-done i e s b p (part_order-passed d.settings b (seen_in d (length ws) (Some i)) (arriving_at st (Some i)) p q)))
   every_call (queue bytes make) =
       at_place (queue bytes make) Changed [] (flags ws area qs) (make_done d bytes) (λ n i. record { number = n; device = d }) (λ v a. (refl, (refl, (refl, tt))))
       (λ i e s q. make-done i e s bytes q.1.1.0)

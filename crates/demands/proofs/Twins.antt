@@ -2,7 +2,8 @@
 use mathlib.Core.Path.{◌≡◌, refl, sym, ap, subst, ◌∙◌}
 use mathlib.Core.Bool.{Bool, true, false, not, cond}
 use mathlib.Core.List.{List, [], ◌∷◌, map}
-use mathlib.Core.Option.{Option, none, some}
+use Rattle.std.specs.declared.option.Option.{Option}
+use Rattle.std.specs.declared.option.Option.TheVariants.{None, Some}
 use Prim.Native.Nat.{ℕ, ◌+◌, ◌*◌, ◌≤◌, ◌<◌}
 use native.Mathlib.Omega.{arith}
 use lib.Dec.{eqb}
@@ -83,9 +84,9 @@ module _ (d : Device) (ws bs area : List ℕ) (fits : Fits d ws area) (alike : A
 
   -- ---- the controller at a place
 
-  module _ (id i : ℕ) (place : place_of d.settings id ≡ some i) (sound : sound_with d (length ws) ≡ true) where
+  module _ (id i : ℕ) (place : place_of d.settings id ≡ Some i) (sound : sound_with d (length ws) ≡ true) where
     abbrev c : Controller
-    c = controller_at d (some i)
+    c = controller_at d (Some i)
 
     used : i < d.settings.count
     used = place_of-used d id i place
@@ -100,7 +101,7 @@ module _ (d : Device) (ws bs area : List ℕ) (fits : Fits d ws area) (alike : A
     inside : (g n : ℕ) → c.tracking ≡ On g n → c.base + length (units g (take n c.ranges)) ≤ 64 * mark_words
     inside g n t = sound_device-inside d i g n sure used there t (listed-some d ws area fits sure i used g n t)
 
-    started-paired : (b : ℕ) (x : List ℕ) → StartPassed d.settings b (seen_in d (length ws) (some i)) x → Paired (start_done in_words d ws b x (some i)) (start_done in_bytes d bs b x (some i))
+    started-paired : (b : ℕ) (x : List ℕ) → StartPassed d.settings b (seen_in d (length ws) (Some i)) x → Paired (start_done in_words d ws b x (Some i)) (start_done in_bytes d bs b x (Some i))
     started-paired b x q = record { answer = refl; marks = same-packed ws bs alike fits.words (bases_of d) (sizes_of (with_controller d i (started c b x))) i packs }
       where
         f : HeldFacts d.settings (granularity_of x) (count_of x) (ranges_of x)
@@ -115,12 +116,12 @@ module _ (d : Device) (ws bs area : List ℕ) (fits : Fits d ws area) (alike : A
         packs : Packs (flat ws) (bases_of d) (sizes_of (with_controller d i (started c b x))) i
         packs = start-packs d fits.controllers sure i used (not_on c.tracking c.manager q.untracked) (started c b x) room ws fits.words
 
-    stopped-paired : (g n : ℕ) → c.tracking ≡ On g n → Paired (stop_done in_words d ws (some i)) (stop_done in_bytes d bs (some i))
+    stopped-paired : (g n : ℕ) → c.tracking ≡ On g n → Paired (stop_done in_words d ws (Some i)) (stop_done in_bytes d bs (Some i))
     stopped-paired g n t =
         let size : held_units (held_of c) ≡ length (units g (take n c.ranges)) = rw t in
         record { answer = refl; marks = same-cleared ws bs alike fits.words c.base (held_units (held_of c)) (omega (arith, size, inside g n t)) }
 
-    written-paired : (w : Write) → Paired (write_done in_words d ws w (some i)) (write_done in_bytes d bs w (some i))
+    written-paired : (w : Write) → Paired (write_done in_words d ws w (Some i)) (write_done in_bytes d bs w (Some i))
     written-paired w = go c.tracking refl
       where
         go : (t : Tracking) → c.tracking ≡ t → Paired (note_in in_words ws c.base t c.ranges w) (note_in in_bytes bs c.base t c.ranges w)
@@ -132,7 +133,7 @@ module _ (d : Device) (ws bs area : List ℕ) (fits : Fits d ws area) (alike : A
               marks = same-marked ws bs alike fits.words c.base us (inside g n t) w;
             }
 
-    received-paired : (x : List ℕ) → Receipts (receive_done in_words d ws id x (some i)) (receive_done in_bytes d bs id x (some i))
+    received-paired : (x : List ℕ) → Receipts (receive_done in_words d ws id x (Some i)) (receive_done in_bytes d bs id x (Some i))
     received-paired x = go c.tracking refl
       where
         go : (t : Tracking) → c.tracking ≡ t
@@ -162,8 +163,8 @@ module _ (d : Device) (ws bs area : List ℕ) (fits : Fits d ws area) (alike : A
           (agree Paired (λ n i. started_with n i d ws) (λ n i. started_with n i d bs) (λ n i. record { answer = refl; marks = alike }) (start_order d.settings b (seen_in d (length ws) p) x)) (done p e))
         where
           done : (p : Option ℕ) → place_of d.settings id ≡ p → Passed (start_order d.settings b (seen_in d (length ws) p) x) → Paired (start_done in_words d ws b x p) (start_done in_bytes d bs b x p)
-          done none e q = record { answer = refl; marks = alike }
-          done (some i) e q = started-paired id i e q.0 b x (start_order-passed d.settings b (seen_in d (length ws) (some i)) x q)
+          done None e q = record { answer = refl; marks = alike }
+          done (Some i) e q = started-paired id i e q.0 b x (start_order-passed d.settings b (seen_in d (length ws) (Some i)) x q)
 
   pub stop-paired : (b id : ℕ) → Paired (stop_by in_words d ws b id) (stop_by in_bytes d bs b id)
   unfolding stop_by
@@ -176,8 +177,8 @@ module _ (d : Device) (ws bs area : List ℕ) (fits : Fits d ws area) (alike : A
           (agree Paired (λ n i. changed n d ws) (λ n i. changed n d bs) (λ n i. record { answer = refl; marks = alike }) (stop_order d.settings b (seen_in d (length ws) p))) (done p e))
         where
           done : (p : Option ℕ) → place_of d.settings id ≡ p → Passed (stop_order d.settings b (seen_in d (length ws) p)) → Paired (stop_done in_words d ws p) (stop_done in_bytes d bs p)
-          done none e q = record { answer = refl; marks = alike }
-          done (some i) e q = let o = is-on (controller_at d (some i)).tracking (controller_at d (some i)).manager b q.1.1.1.1.0 in stopped-paired id i e q.0 o.0 o.1 o.2
+          done None e q = record { answer = refl; marks = alike }
+          done (Some i) e q = let o = is-on (controller_at d (Some i)).tracking (controller_at d (Some i)).manager b q.1.1.1.1.0 in stopped-paired id i e q.0 o.0 o.1 o.2
 
   pub write-paired : (id : ℕ) (w : Write) → Paired (write_by in_words d ws id w) (write_by in_bytes d bs id w)
   unfolding write_by
@@ -190,8 +191,8 @@ module _ (d : Device) (ws bs area : List ℕ) (fits : Fits d ws area) (alike : A
           (agree Paired (λ n i. noted n 0 ws) (λ n i. noted n 0 bs) (λ n i. record { answer = refl; marks = alike }) (write_order (seen_in d (length ws) p) w)) (done p e))
         where
           done : (p : Option ℕ) → place_of d.settings id ≡ p → Passed (write_order (seen_in d (length ws) p) w) → Paired (write_done in_words d ws w p) (write_done in_bytes d bs w p)
-          done none e q = record { answer = refl; marks = alike }
-          done (some i) e q = written-paired id i e q.0 w
+          done None e q = record { answer = refl; marks = alike }
+          done (Some i) e q = written-paired id i e q.0 w
 
   receive-paired : (b id : ℕ) (x : List ℕ) → Receipts (receive_by in_words d ws b id x) (receive_by in_bytes d bs b id x)
   unfolding receive_by
@@ -204,8 +205,8 @@ module _ (d : Device) (ws bs area : List ℕ) (fits : Fits d ws area) (alike : A
           (agree Receipts (λ n i. received n no_report ws x) (λ n i. received n no_report bs x) (λ n i. record { answer = refl; report = refl; marks = alike; buffer = refl }) (receive_order d.settings b (seen_in d (length ws) p) x)) (done p e))
         where
           done : (p : Option ℕ) → place_of d.settings id ≡ p → Passed (receive_order d.settings b (seen_in d (length ws) p) x) → Receipts (receive_done in_words d ws id x p) (receive_done in_bytes d bs id x p)
-          done none e q = record { answer = refl; report = refl; marks = alike; buffer = refl }
-          done (some i) e q = received-paired id i e q.0 x
+          done None e q = record { answer = refl; report = refl; marks = alike; buffer = refl }
+          done (Some i) e q = received-paired id i e q.0 x
 
   -- ---- every call
 

@@ -2,7 +2,7 @@
 -- and any numbers. That each of them returns, whatever it is given, is the checker's own: none has a `requires`.
 use Rattle.std.specs.Prelude.{ℕ, ◌+◌, ◌*◌, ◌/◌, ◌%◌, ◌^◌, ◌≤◌, ◌<◌, leb, ltb, eqb, ◌≡◌, ◌≢◌, ◌⊎◌, ◌↔◌, true, false, not, cond, ◌&&◌, ◌||◌, List, [], ◌∷◌, length, take, get_or}
 use Rattle.little.specs.Little.{number_at}
-use Rattle.std.proofs.Math.Option.{none, some}
+use Rattle.std.specs.declared.option.Option.TheVariants.{None, Some}
 use Rattle.rules.specs.Refusals.{Test, ◌else◌, refusal, place_in, passes}
 use Rattle.rules.specs.Lists.{is_some}
 use Rattle.rules.specs.Settings.{settings_ok, is_manager, limit_of, place_of}
@@ -15,9 +15,7 @@ use Rattle.rules.specs.Device.{closed_device, sound_device}
 use Rattle.rules.specs.declared.Tracking.TheVariants.{Off, On}
 use Rattle.rules.specs.Demands.{Rowless, Names}
 use Rattle.rules.specs.declared.Range.{Range}
-use Rattle.rules.specs.declared.Sequence.TheVariants.{Nothing, Open}
 use Rattle.rules.specs.declared.Ring.{Ring}
-use Rattle.rules.specs.declared.Queue.TheVariants as made
 use Rattle.rules.specs.declared.Settings.{Settings}
 use Rattle.rules.specs.declared.Header.TheVariants.{Is, Refused}
 use Rattle.rules.specs.declared.Device.{Device}
@@ -114,9 +112,9 @@ pub record Demand1 : Type 0 where
       ∷ (cond (eqb p.indicator 1 || eqb p.indicator 3) (eqb offset 0) (follows_on a.front p) else 26)
       ∷ (joined_ok a.front p else 27)
       ∷ []
-  pub part_next : (f : List ℕ) (p : Part) → (follows_on none p ≡ false) × (follows_on (some f) p ≡ eqb (p.low + 2 ^ 32 * p.high) (length f))
+  pub part_next : (f : List ℕ) (p : Part) → (follows_on None p ≡ false) × (follows_on (Some f) p ≡ eqb (p.low + 2 ^ 32 * p.high) (length f))
   pub part_others : (area : List ℕ) (id owner end : ℕ)
-      → ((arriving_in Nothing area id).others ≡ false) × ((arriving_in (Open owner end) area id).others ≡ not (eqb owner id))
+      → ((arriving_in None area id).others ≡ false) × ((arriving_in (Some (record { owner = owner; end = end })) area id).others ≡ not (eqb owner id))
   -- a suspend leaves an open sequence, whosever it is
   pub suspend_leaves : (d : Device) (words m id kind : ℕ) → (suspend_change d words m id kind).device.sequence ≡ d.sequence
   -- W8: a refused call to a queue leaves its area or its buffer as it was, too
@@ -151,19 +149,19 @@ pub record Demand1 : Type 0 where
       ∷ (is_some v.places else 29)
       ∷ []
   -- "not the size made"; and what they see of a controller's queue
-  pub size-made : (n bytes : ℕ) → (size_made none bytes ≡ true) × (size_made (some n) bytes ≡ eqb bytes (32 * n))
-  pub sees_none : (d : Device) (words i : ℕ) → (controller_at d (some i)).queue ≡ made.Nothing
-      → ((seen_in d words (some i)).places ≡ none) × ((seen_in d words (some i)).stopped ≡ false)
-  pub sees_queue : (d : Device) (words i : ℕ) (r : Ring) → (controller_at d (some i)).queue ≡ made.Is r
-      → ((seen_in d words (some i)).places ≡ some r.size) × ((seen_in d words (some i)).stopped ≡ r.stopped)
+  pub size-made : (n bytes : ℕ) → (size_made None bytes ≡ true) × (size_made (Some n) bytes ≡ eqb bytes (32 * n))
+  pub sees_none : (d : Device) (words i : ℕ) → (controller_at d (Some i)).queue ≡ None
+      → ((seen_in d words (Some i)).places ≡ None) × ((seen_in d words (Some i)).stopped ≡ false)
+  pub sees_queue : (d : Device) (words i : ℕ) (r : Ring) → (controller_at d (Some i)).queue ≡ Some r
+      → ((seen_in d words (Some i)).places ≡ Some r.size) × ((seen_in d words (Some i)).stopped ≡ r.stopped)
   -- what any call sees of a record beside that: 1 and 2 are answered for nothing else
   pub sees : (d : Device) (words i : ℕ)
-      → ((seen_in d words (some i)).sound ≡ (sound_device d && eqb words 256)) × ((seen_in d words (some i)).known ≡ true) × ((seen_in d words (some i)).suspended ≡ (controller_at d (some i)).suspended)
-  pub sees_nobody : (d : Device) (words : ℕ) → ((seen_in d words none).sound ≡ (sound_device d && eqb words 256)) × ((seen_in d words none).known ≡ false)
+      → ((seen_in d words (Some i)).sound ≡ (sound_device d && eqb words 256)) × ((seen_in d words (Some i)).known ≡ true) × ((seen_in d words (Some i)).suspended ≡ (controller_at d (Some i)).suspended)
+  pub sees_nobody : (d : Device) (words : ℕ) → ((seen_in d words None).sound ≡ (sound_device d && eqb words 256)) × ((seen_in d words None).known ≡ false)
   -- W12: which manager tracks a controller, and what that is to another
-  pub sees_off : (d : Device) (words i : ℕ) → (controller_at d (some i)).tracking ≡ Off → (seen_in d words (some i)).tracker ≡ none
-  pub sees_on : (d : Device) (words i g n : ℕ) → (controller_at d (some i)).tracking ≡ On g n → (seen_in d words (some i)).tracker ≡ some (controller_at d (some i)).manager
-  pub tracks : (m t : ℕ) → (is_tracker m none ≡ false) × (is_tracker m (some t) ≡ eqb t m)
+  pub sees_off : (d : Device) (words i : ℕ) → (controller_at d (Some i)).tracking ≡ Off → (seen_in d words (Some i)).tracker ≡ None
+  pub sees_on : (d : Device) (words i g n : ℕ) → (controller_at d (Some i)).tracking ≡ On g n → (seen_in d words (Some i)).tracker ≡ Some (controller_at d (Some i)).manager
+  pub tracks : (m t : ℕ) → (is_tracker m None ≡ false) × (is_tracker m (Some t) ≡ eqb t m)
   -- the tables of the calls that have none above: no queue is looked at
   pub stop-order : (s : Settings) (m : ℕ) (v : Seen)
       → stop_order s m v ≡ (v.sound else 1) ∷ (is_manager s m else 2) ∷ (v.known else 2) ∷ (not v.suspended else 4) ∷ (is_tracker m v.tracker else 5) ∷ []

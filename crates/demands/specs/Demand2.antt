@@ -1,8 +1,8 @@
 -- Demand 2, as statements about the calls of `tracker`, after any session of them: fresh, then any calls in any order. Its settings have the eight places of
 -- their type. What is said of a controller begins with what its own calls and answers tell (rules' History), not with what the record says.
 use Rattle.std.specs.Prelude.{ℕ, ◌+◌, ◌-◌, ◌/◌, ◌%◌, ◌^◌, ◌≤◌, ◌<◌, ◌≡◌, ◌≢◌, ◌↔◌, Bool, true, false, ◌||◌, List, [], ◌++◌, map, eqb, length, take, drop, get_or, set, replicate}
-use Rattle.std.proofs.Math.Option.{none, some}
-use Rattle.std.proofs.Math.ListN.{get_elem?}
+use Rattle.std.specs.declared.option.Option.TheVariants.{None, Some}
+use Rattle.std.specs.List.{slice_get}
 use Rattle.bits.specs.Flat.{flat}
 use Rattle.rules.specs.Refusals.{passes}
 use Rattle.rules.specs.Settings.{place_of}
@@ -18,10 +18,7 @@ use Rattle.rules.specs.History.{Did, PendingBy, pending_by, tracks_by, manager_b
 use Rattle.rules.specs.Demands.{session_end, session_history, lent_bytes, UnitsListed, Runs, Reports, Room, ReadBack, Touches, Writes}
 use Rattle.rules.specs.declared.Range.{Range}
 use Rattle.rules.specs.declared.Tracking.TheVariants.{Off, On}
-use Rattle.rules.specs.declared.Sequence.TheVariants.{Nothing, Open}
 use Rattle.rules.specs.declared.Ring.{Ring}
-use Rattle.rules.specs.declared.Queue.TheVariants as made
-use Rattle.rules.specs.declared.Second.TheVariants as second
 use Rattle.rules.specs.declared.Settings.{Settings}
 use Rattle.rules.specs.declared.Controller.{Controller}
 use Rattle.rules.specs.declared.Device.{Device}
@@ -57,8 +54,8 @@ pub record Equals (en : Engine) (s : Settings) (a : ℕ) (m : Given) (ks ks' : L
 pub record Shaped (en : Engine) (l : Left) : Type 0 where
   pub controllers : length l.device.controllers ≡ 8
   pub identifiers : length l.device.settings.identifiers ≡ 8
-  pub listed : (i g n : ℕ) → (controller_at l.device (some i)).tracking ≡ On g n → n ≤ length (controller_at l.device (some i)).ranges
-  pub totals : (i : ℕ) (r : Ring) → (controller_at l.device (some i)).queue ≡ made.Is r → (r.posted < 2 ^ 32) × (r.taken < 2 ^ 32)
+  pub listed : (i g n : ℕ) → (controller_at l.device (Some i)).tracking ≡ On g n → n ≤ length (controller_at l.device (Some i)).ranges
+  pub totals : (i : ℕ) (r : Ring) → (controller_at l.device (Some i)).queue ≡ Some r → (r.posted < 2 ^ 32) × (r.taken < 2 ^ 32)
   pub words : en.words l.marks ≡ 256
   pub bytes : length l.area ≡ 4096
 
@@ -115,14 +112,14 @@ replaced_at d i c = record { settings = d.settings; controllers = set d.controll
 -- one in which its flag is set or clear
 abbrev pub flagged_at : Device → ℕ → Bool → Device
 flagged_at d i b =
-    let was = controller_at d (some i) in
+    let was = controller_at d (Some i) in
     replaced_at d i (record { tracking = was.tracking; manager = was.manager; base = was.base; suspended = b; ranges = was.ranges; queue = was.queue })
 
 -- a resume of controller a at place i makes its flag clear; W6: "its resume drops its unfinished sequence", and no other's
 pub record Resumed (d : Device) (a i : ℕ) (d' : Device) : Type 0 where
   pub flag : d' ≡ record { settings = d.settings; controllers = (flagged_at d i false).controllers; sequence = d'.sequence }
-  pub drops : (end : ℕ) → d.sequence ≡ Open a end → d'.sequence ≡ Nothing
-  pub keeps : ((end : ℕ) → d.sequence ≢ Open a end) → d'.sequence ≡ d.sequence
+  pub drops : (end : ℕ) → d.sequence ≡ Some (record { owner = a; end = end }) → d'.sequence ≡ None
+  pub keeps : ((end : ℕ) → d.sequence ≢ Some (record { owner = a; end = end })) → d'.sequence ≡ d.sequence
 
 -- a start by manager b of the controller at place i, on d and ws, leaves d' and ws' (W7)
 pub record Started (d : Device) (ws : List ℕ) (b i g n : ℕ) (ranges : List Range) (d' : Device) (ws' : List ℕ) : Type 0 where
@@ -130,10 +127,10 @@ pub record Started (d : Device) (ws : List ℕ) (b i g n : ℕ) (ranges : List R
   pub settings : d'.settings ≡ d.settings
   pub sequence : d'.sequence ≡ d.sequence
   pub controllers : length d'.controllers ≡ length d.controllers
-  pub own : controller_at d' (some i) ≡ record { tracking = On g n; manager = b; base = base_at d' i; suspended = false; ranges = placed ranges; queue = (controller_at d (some i)).queue }
+  pub own : controller_at d' (Some i) ≡ record { tracking = On g n; manager = b; base = base_at d' i; suspended = false; ranges = placed ranges; queue = (controller_at d (Some i)).queue }
   pub other : (j : ℕ) → j < 8 → j ≢ i
-      → let was = controller_at d (some j) in
-      controller_at d' (some j) ≡ record { tracking = was.tracking; manager = was.manager; base = base_at d' j; suspended = was.suspended; ranges = was.ranges; queue = was.queue }
+      → let was = controller_at d (Some j) in
+      controller_at d' (Some j) ≡ record { tracking = was.tracking; manager = was.manager; base = base_at d' j; suspended = was.suspended; ranges = was.ranges; queue = was.queue }
   -- the shares are packed: from bit 0 on, in the order of the settings, each where those before it end; one that has no bits stays as it was
   pub size : size_at d' i ≡ length (units g ranges)
   pub sizes : (j : ℕ) → j < 8 → j ≢ i → size_at d' j ≡ size_at d j
@@ -147,14 +144,14 @@ pub record Started (d : Device) (ws : List ℕ) (b i g n : ℕ) (ranges : List R
 
 -- a stop of it forgets the ranges and the manager, with zeros in all places; its share is clear, and no other moves
 pub record Stopped (d : Device) (ws : List ℕ) (i : ℕ) (d' : Device) (ws' : List ℕ) : Type 0 where
-  pub record_is : d' ≡ replaced_at d i (record { tracking = Off; manager = 0; base = 0; suspended = false; ranges = placed []; queue = (controller_at d (some i)).queue })
+  pub record_is : d' ≡ replaced_at d i (record { tracking = Off; manager = 0; base = 0; suspended = false; ranges = placed []; queue = (controller_at d (Some i)).queue })
   pub clear : (m : ℕ) → m < size_at d i → bit_of ws' (base_at d i) m ≡ false
   pub elsewhere : Elsewhere (base_at d i) (size_at d i) ws ws'
 
 -- a write w by a controller whose share begins at a base and that is tracked with units us, of which a history h tells, on words ws: it answers a count and leaves ws'
 pub record Wrote (h : List Did) (base : ℕ) (us : List Unit) (w : Write) (ws : List ℕ) (count : ℕ) (ws' : List ℕ) : Type 0 where
   -- a unit is pending afterwards exactly if it was, or the write touches it
-  pub marked : (m : ℕ) (u : Unit) → get_elem? us m ≡ some u → bit_of ws' base m ≡ (bit_of ws base m || touches w u)
+  pub marked : (m : ℕ) (u : Unit) → slice_get us m ≡ Some u → bit_of ws' base m ≡ (bit_of ws base m || touches w u)
   pub elsewhere : Elsewhere base (length us) ws ws'
   -- the count is that of the units that were not pending before and are afterwards
   pub counted : count ≡ newly w us (told_of h us)
@@ -178,7 +175,7 @@ pub record Received (h : List Did) (a base g : ℕ) (us : List Unit) (x : List �
   -- W1: the host's reader accepts it, and answers exactly its runs
   pub read_back : a < 2 ^ 16 → ReadBack a r.report r.buffer
   -- the units of the reported runs are made clear, later ones stay
-  pub left : (m : ℕ) (u : Unit) → get_elem? us m ≡ some u → bit_of r.marks base m ≡ get_or (marks_left (room (length x)) us (told_of h us)) m false
+  pub left : (m : ℕ) (u : Unit) → slice_get us m ≡ Some u → bit_of r.marks base m ≡ get_or (marks_left (room (length x)) us (told_of h us)) m false
   pub elsewhere : Elsewhere base (length us) ws r.marks
 
 -- ---- a controller after a session, which left l; of it a history h tells
@@ -189,7 +186,7 @@ pub record Tracked (l : Left) (h : List Did) (a i g : ℕ) (rs : List Range) : T
   pub listed : UnitsListed g rs
   -- "a unit of a tracked range is pending exactly if an accepted write by its controller touched it after tracking last started and after it was last
   -- reported"
-  pub pending : (m : ℕ) (u : Unit) → get_elem? (units g rs) m ≡ some u → (bit_of l.marks (base_at l.device i) m ≡ true) ↔ PendingBy h u
+  pub pending : (m : ℕ) (u : Unit) → slice_get (units g rs) m ≡ Some u → (bit_of l.marks (base_at l.device i) m ≡ true) ↔ PendingBy h u
   pub written : (w : Write)
       → let n = write_note l.device l.marks a w in
       n.answer.number ≡ 0 → Wrote h (base_at l.device i) (units g rs) w l.marks n.answer.count n.marks
@@ -216,9 +213,9 @@ pub data Moves (s : Settings) : Op → Type 0 where
 pub record Stands (s : Settings) (l : Left) (h : List Did) (held : ℕ) (managed : ℕ → ℕ) (counts a : ℕ) : Type 0 where
   -- what record and marks hold of it is what its calls and answers tell: its manager, granularity, ranges, the suspended flag, and each unit's mark
   pub told : slot_of (view in_words l.device l.marks l.area l.queues) a ≡ slot_by h
-  pub tracked : (i g : ℕ) (rs : List Range) → place_of s a ≡ some i → tracks_by none h ≡ some (g, rs) → Tracked l h a i g rs
+  pub tracked : (i g : ℕ) (rs : List Range) → place_of s a ≡ Some i → tracks_by None h ≡ Some (g, rs) → Tracked l h a i g rs
   -- "For a controller that isn't tracked a call not refused is done with count 0", and no mark changes
-  pub untracked : (w : Write) → tracks_by none h ≡ none
+  pub untracked : (w : Write) → tracks_by None h ≡ None
       → let n = write_note l.device l.marks a w in
       (n.answer.count ≡ 0) × (n.marks ≡ l.marks)
   -- a suspended controller's start, stop and write are refused, and change nothing
@@ -226,32 +223,32 @@ pub record Stands (s : Settings) (l : Left) (h : List Did) (held : ℕ) (managed
   -- W12: "2 for an unknown manager", whatever it asks for
   pub unknown : (b : ℕ) (o : Op) → CallOf b o → (IsManager s b → ⊥) → outcome in_words l (record { id = a; op = o }) ≡ refused_on l o 2
   -- a write and a start are refused for nothing but what the documents say
-  pub may_write : (i : ℕ) (w : Write) → place_of s a ≡ some i → suspended_by false h ≡ false → w.address + w.bytes ≤ 2 ^ 64
+  pub may_write : (i : ℕ) (w : Write) → place_of s a ≡ Some i → suspended_by false h ≡ false → w.address + w.bytes ≤ 2 ^ 64
       → (write_note l.device l.marks a w).answer.number ≡ 0
-  pub may_start : (b limit i : ℕ) (x : List ℕ) → Manages s b limit → place_of s a ≡ some i → suspended_by false h ≡ false → tracks_by none h ≡ none
+  pub may_start : (b limit i : ℕ) (x : List ℕ) → Manages s b limit → place_of s a ≡ Some i → suspended_by false h ≡ false → tracks_by None h ≡ None
       → passes (header_tests x ++ start_listed s x) ≡ true → length (units (granularity_of x) (ranges_of x)) + held ≤ 16384 → count_of x + managed b ≤ limit → count_of x + counts ≤ s.shelf
       → (start_change l.device l.marks b a x).answer.number ≡ 0
   -- "An accepted start clears the controller's [share] and records granularity and ranges"; W7: wherever the others' shares go, their marks go along
-  pub started : (b i : ℕ) (x : List ℕ) → place_of s a ≡ some i
+  pub started : (b i : ℕ) (x : List ℕ) → place_of s a ≡ Some i
       → let c = start_change l.device l.marks b a x in
       c.answer.number ≡ 0 → Started l.device l.marks b i (granularity_of x) (count_of x) (ranges_of x) c.answer.device c.marks
   -- "An accepted stop clears them again and forgets the ranges"
-  pub stopped : (b i : ℕ) → place_of s a ≡ some i
+  pub stopped : (b i : ℕ) → place_of s a ≡ Some i
       → let c = stop_change l.device l.marks b a in
       c.answer.number ≡ 0 → Stopped l.device l.marks i c.answer.device c.marks
   -- "Suspend type 1 suspends, also where already suspended. Type 0 is a notice and changes nothing"; it is refused for another type alone. W12: "Suspension belongs to the
   -- controller, whoever asked"
-  pub suspends : (b i kind : ℕ) → IsManager s b → place_of s a ≡ some i
+  pub suspends : (b i kind : ℕ) → IsManager s b → place_of s a ≡ Some i
       → let c = suspend_change l.device (length l.marks) b a kind in
       ((c.number ≡ 0) ↔ (kind ≤ 1)) × (c.number ≡ 0 → c.device ≡ flagged_at l.device i (suspended_by false h || eqb kind 1))
   -- a resume makes the flag clear; it is refused for one that is not suspended alone
-  pub resumes : (b i : ℕ) → IsManager s b → place_of s a ≡ some i
+  pub resumes : (b i : ℕ) → IsManager s b → place_of s a ≡ Some i
       → let c = resume_change l.device (length l.marks) b a in
       ((c.number ≡ 0) ↔ (suspended_by false h ≡ true)) × (c.number ≡ 0 → Resumed l.device a i c.device)
   -- W6: a state of its own that arrives in parts
-  pub parts : (i : ℕ) → place_of s a ≡ some i → Arrives l h a
+  pub parts : (i : ℕ) → place_of s a ≡ Some i → Arrives l h a
   -- W8: its queue
-  pub queues : (i : ℕ) → place_of s a ≡ some i → Logs l h a i
+  pub queues : (i : ℕ) → place_of s a ≡ Some i → Logs l h a i
 
 -- ---- a record that no session made
 
@@ -269,7 +266,7 @@ pub record Keeps (l : Left) (a i : ℕ) : Type 0 where
   -- a suspend and a resume change the flag (and its own sequence), a part the sequence, and nothing else, no queue, used or not, among it
   pub suspended : (b kind : ℕ)
       → let c = suspend_change l.device (length l.marks) b a kind in
-      c.number ≡ 0 → c.device ≡ flagged_at l.device i ((controller_at l.device (some i)).suspended || eqb kind 1)
+      c.number ≡ 0 → c.device ≡ flagged_at l.device i ((controller_at l.device (Some i)).suspended || eqb kind 1)
   pub resumed : (b : ℕ) → let c = resume_change l.device (length l.marks) b a in c.number ≡ 0 → Resumed l.device a i c.device
   pub arrived : (b : ℕ) (p : Part)
       → let r = part_change l.device (length l.marks) l.area b a p in
@@ -279,7 +276,7 @@ pub record Keeps (l : Left) (a i : ℕ) : Type 0 where
 
 -- a controller with zeros in every place
 abbrev pub zeroed : Controller
-zeroed = record { tracking = Off; manager = 0; base = 0; suspended = false; ranges = replicate 16 (record { start = 0; length = 0 }); queue = made.Nothing }
+zeroed = record { tracking = Off; manager = 0; base = 0; suspended = false; ranges = replicate 16 (record { start = 0; length = 0 }); queue = None }
 
 pub record Demand2 : Type 1 where
   -- the rules are those of document 01: any session comes for each controller to what they give for the same calls
@@ -293,25 +290,25 @@ pub record Demand2 : Type 1 where
   -- "[Fresh fills] those they leave unused with zeros", so the bases (W7) and managers (W12) too, and no state is under way (W6) and no queue made (W8); the closed device is "all zeros"
   pub zeros : (s : Settings)
       → ((fresh_device s).controllers ≡ replicate 8 zeroed)
-      × ((fresh_device s).sequence ≡ Nothing)
+      × ((fresh_device s).sequence ≡ None)
       × (closed_device
       ≡ record {
-        settings = record { manager = 0; least = 0; greatest = 0; powers = false; limit = 0; second = second.Nothing; shelf = 0; count = 0; identifiers = replicate 8 0 };
+        settings = record { manager = 0; least = 0; greatest = 0; powers = false; limit = 0; second = None; shelf = 0; count = 0; identifiers = replicate 8 0 };
         controllers = replicate 8 zeroed;
-        sequence = Nothing;
+        sequence = None;
       })
   -- settings with zeros in the places that are not in use, as a settings file gives them back (W11): nothing else of them changes. With a refused file come zeros alone
   pub cleaned : (s : Settings) → length s.identifiers ≡ 8 → Kept s (cleaned s)
   pub closed-settings : closed_settings
-      ≡ record { manager = 0; least = 0; greatest = 0; powers = false; limit = 0; second = second.Nothing; shelf = 0; count = 0; identifiers = replicate 8 0 }
+      ≡ record { manager = 0; least = 0; greatest = 0; powers = false; limit = 0; second = None; shelf = 0; count = 0; identifiers = replicate 8 0 }
   -- the controller at a place, in use or not, is the one that stands there in the record
-  pub controller : (d : Device) (i : ℕ) (c : Controller) → get_elem? d.controllers i ≡ some c → controller_at d (some i) ≡ c
+  pub controller : (d : Device) (i : ℕ) (c : Controller) → slice_get d.controllers i ≡ Some c → controller_at d (Some i) ≡ c
   -- "one bit a unit, lowest bit first"
   pub bits : (ws : List ℕ) (base m : ℕ) → bit_of ws base m ≡ eqb (get_or ws ((base + m) / 64) 0 / 2 ^ ((base + m) % 64) % 2) 1
   -- an identifier stands where the settings list it
-  pub place : (s : Settings) (a i : ℕ) → length s.identifiers ≡ 8 → place_of s a ≡ some i → (i < s.count) × (get_or s.identifiers i 0 ≡ a)
+  pub place : (s : Settings) (a i : ℕ) → length s.identifiers ≡ 8 → place_of s a ≡ Some i → (i < s.count) × (get_or s.identifiers i 0 ≡ a)
   -- and each one that they list is found, 0 too
-  pub found : (s : Settings) (a i : ℕ) → length s.identifiers ≡ 8 → i < s.count → i < 8 → get_or s.identifiers i 0 ≡ a → place_of s a ≢ none
+  pub found : (s : Settings) (a i : ℕ) → length s.identifiers ≡ 8 → i < s.count → i < 8 → get_or s.identifiers i 0 ≡ a → place_of s a ≢ None
   -- after any calls from it, each given what the last one left: the settings are those that it was made with, and each controller stands as its calls and
   -- answers tell
   pub settings : (s : Settings) (m : Given) (ks : List Call) → Sized s m → (fresh_change s m.marks).answer.number ≡ 0
@@ -323,9 +320,9 @@ pub record Demand2 : Type 1 where
   -- and so of a record that no session made, with its shares in any order and with any gaps
   pub unmoved : (l : Left) → Shaped in_words l → (k : Call) (b : ℕ) → k.id ≢ b → pending_of in_words (next in_words l k) b ≡ pending_of in_words l b
   -- there too every bit is accounted for
-  pub keeps : (l : Left) → Shaped in_words l → (a i : ℕ) → place_of l.device.settings a ≡ some i → Keeps l a i
+  pub keeps : (l : Left) → Shaped in_words l → (a i : ℕ) → place_of l.device.settings a ≡ Some i → Keeps l a i
   -- W8: and so is every field, and every byte of area and buffer, of a call to a queue, whatever its totals
-  pub queue_calls : (l : Left) → Shaped in_words l → (a i : ℕ) → place_of l.device.settings a ≡ some i → QueueCalls l.device (length l.marks) a i
+  pub queue_calls : (l : Left) → Shaped in_words l → (a i : ℕ) → place_of l.device.settings a ≡ Some i → QueueCalls l.device (length l.marks) a i
   -- W6: "the same however divided": where the data that two finishing parts complete are the same, in any two sessions and of any two controllers, so is what they
   -- yield
   pub divided : (s s' : Settings) (m m' : Given) (ks ks' : List Call) → Sized s m → Sized s' m'

@@ -2,8 +2,8 @@
 -- while the others get anything: if in neither a start for A is refused for the shared descriptor limit, every answer to A, every byte of A's reports and A's
 -- pending units agree, and equal what demand 2's rules give for A's calls alone." W12: A's calls name their manager, so the same calls are by the same managers.
 use Rattle.std.specs.Prelude.{ℕ, ◌≡◌, true, List, length}
-use Rattle.std.proofs.Math.Option.{some}
-use Rattle.std.proofs.Math.ListN.{get_elem?}
+use Rattle.std.specs.declared.option.Option.TheVariants.{Some}
+use Rattle.std.specs.List.{slice_get}
 use Rattle.rules.specs.Order.{Op, start, Part, part}
 use Rattle.rules.specs.Machine.{Call, number_of}
 use Rattle.rules.specs.History.{Did, only}
@@ -30,7 +30,7 @@ pub data Shared : Op → ℕ → Type 0 where
 -- the marks of two sessions may differ, as fresh makes them 0, and so may their areas; that they stand for as many words is meant, as fresh refuses another number of them
 pub record Demand3 (en : Engine) : Type 0 where
   -- what is asked of A's answers: that none is such a refusal, and nothing else
-  pub premise : (h : List Did) → ((i : ℕ) (d : Did) → get_elem? h i ≡ some d → Shared d.op (number_of d.answer) → ⊥) → unhindered h ≡ true
+  pub premise : (h : List Did) → ((i : ℕ) (d : Did) → slice_get h i ≡ Some d → Shared d.op (number_of d.answer) → ⊥) → unhindered h ≡ true
   pub together : (s : Settings) (a : ℕ) (m m' : Given) (ks ks' : List Call) → Sized s m → Sized s m' → en.words m.marks ≡ en.words m'.marks
       → only a ks ≡ only a ks' → unhindered (history_in en s m ks a) ≡ true → unhindered (history_in en s m' ks' a) ≡ true → Agree en s a m m' ks ks'
   pub alone : (s : Settings) (a : ℕ) (m : Given) (ks : List Call) → Sized s m

@@ -1,13 +1,13 @@
 -- W12, in plain words: the managers that settings name, each with its limit, and the calls that name one.
 use Rattle.std.specs.Prelude.{ℕ, ◌≡◌, List}
 use Rattle.rules.specs.Order.{Op, start, stop, receive, suspend, resume, Part, part}
-use Rattle.rules.specs.declared.Second.TheVariants.{Is}
+use Rattle.std.specs.declared.option.Option.TheVariants.{Some}
 use Rattle.rules.specs.declared.Settings.{Settings}
 
 -- "Settings name one or two managers", which "each have a descriptor limit"
 pub data Manages (s : Settings) : ℕ → ℕ → Type 0 where
   first : Manages s s.manager s.limit
-  second : (id limit : ℕ) → s.second ≡ Is id limit → Manages s id limit
+  second : (id limit : ℕ) → s.second ≡ Some (record { id = id; limit = limit }) → Manages s id limit
 
 -- an identifier is a manager's
 abbrev pub IsManager : Settings → ℕ → Type 0

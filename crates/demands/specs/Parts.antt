@@ -5,7 +5,8 @@ use Rattle.little.specs.Little.{number_at}
 use Rattle.rules.specs.Order.{Part}
 use Rattle.rules.specs.History.{Did, suspended_by, open_by, joins_with, joined_by}
 use Rattle.rules.specs.declared.Sequence.{Sequence}
-use Rattle.rules.specs.declared.Sequence.TheVariants.{Nothing, Open}
+use Rattle.std.specs.declared.option.Option.{Option}
+use Rattle.std.specs.declared.option.Option.TheVariants.{None, Some}
 use Rattle.rules.specs.declared.Device.{Device}
 use Rattle.calls.specs.Calls.{part_change}
 use Rattle.demands.specs.Managers.{IsManager}
@@ -53,18 +54,18 @@ pub record Fitting (h : List Did) (p : Part) : Type 0 where
   pub finished : IsFinal p → IsState (whole_by h p)
 
 -- a record with another sequence, and all else as it was
-abbrev pub arriving : Device → Sequence → Device
+abbrev pub arriving : Device → Option Sequence → Device
 arriving d q = record { settings = d.settings; controllers = d.controllers; sequence = q }
 
 -- of a controller a, after a session that left l and in which its calls and answers were h
 pub record Arrives (l : Left) (h : List Did) (a : ℕ) : Type 0 where
   -- the record says that a sequence of its own is open exactly if its calls and answers do, and where it ends; the area has its bytes so far
-  pub under_way : (open_by h ≡ true) ↔ (l.device.sequence ≡ Open a (length (joined_by h)))
+  pub under_way : (open_by h ≡ true) ↔ (l.device.sequence ≡ Some (record { owner = a; end = length (joined_by h) }))
   pub bytes : open_by h ≡ true → take (length (joined_by h)) l.area ≡ joined_by h
   -- a part is accepted exactly if a manager sends it, the controller is suspended, no sequence of another is open, and the part is fitting
   pub accepted : (m : ℕ) (p : Part)
       → ((part_change l.device (length l.marks) l.area m a p).answer.number ≡ 0)
-      ↔ (IsManager l.device.settings m × (suspended_by false h ≡ true) × ((owner end : ℕ) → l.device.sequence ≡ Open owner end → owner ≡ a) × Fitting h p)
+      ↔ (IsManager l.device.settings m × (suspended_by false h ≡ true) × ((owner end : ℕ) → l.device.sequence ≡ Some (record { owner = owner; end = end }) → owner ≡ a) × Fitting h p)
   -- "an accepted one [changes] only its own bytes of the area"
   pub own : (m : ℕ) (p : Part)
       → let r = part_change l.device (length l.marks) l.area m a p in
@@ -72,10 +73,10 @@ pub record Arrives (l : Left) (h : List Did) (a : ℕ) : Type 0 where
   -- one that is not the last yields nothing, and its sequence is open up to its end
   pub goes_on : (m : ℕ) (p : Part)
       → let r = part_change l.device (length l.marks) l.area m a p in
-      r.answer.number ≡ 0 → IsMore p → r.answer ≡ record { number = 0; whole = 0; device = arriving l.device (Open a (length (whole_by h p))) }
+      r.answer.number ≡ 0 → IsMore p → r.answer ≡ record { number = 0; whole = 0; device = arriving l.device (Some (record { owner = a; end = length (whole_by h p) })) }
   -- a last or only one "yields the assembled bytes": the data of its controller's accepted parts since and with the last first or only one; no sequence is open then
   pub yields : (m : ℕ) (p : Part)
       → let r = part_change l.device (length l.marks) l.area m a p in
       r.answer.number ≡ 0 → IsFinal p
-      → (r.answer ≡ record { number = 0; whole = length (whole_by h p); device = arriving l.device Nothing })
+      → (r.answer ≡ record { number = 0; whole = length (whole_by h p); device = arriving l.device None })
       × (take (length (whole_by h p)) r.area ≡ whole_by h p)

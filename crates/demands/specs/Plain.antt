@@ -1,7 +1,7 @@
 -- W9, as statements: the plain engine (`plain`), which holds marks one byte a unit, beside the other one (`tracker`), which holds them in words; and demands 1 to 3 of it.
 use Rattle.std.specs.Prelude.{ℕ, ◌+◌, ◌≤◌, ◌<◌, ◌≡◌, ◌≢◌, ◌↔◌, ◌⊎◌, true, false, List, [], ◌∷◌, length, get_or, replicate}
-use Rattle.std.proofs.Math.Option.{none, some}
-use Rattle.std.proofs.Math.ListN.{get_elem?}
+use Rattle.std.specs.declared.option.Option.TheVariants.{None, Some}
+use Rattle.std.specs.List.{slice_get}
 use Rattle.bits.specs.Flat.{flat}
 use Rattle.rules.specs.Lists.{sum}
 use Rattle.rules.specs.Settings.{place_of}
@@ -96,7 +96,7 @@ pub record BytesKept : Type 0 where
       (byte ≡ get_or bs i 0) ⊎ (byte ≡ 0)
   pub stopped : (d : Device) (bs : List ℕ) (b id i : ℕ) → let byte = get_or (stop_by in_bytes d bs b id).marks i 0 in (byte ≡ get_or bs i 0) ⊎ (byte ≡ 0)
   -- a start moves the others' bytes as they are
-  pub moved : (l : Left) → Shaped in_bytes l → (b a i : ℕ) (x : List ℕ) → place_of l.device.settings a ≡ some i
+  pub moved : (l : Left) → Shaped in_bytes l → (b a i : ℕ) (x : List ℕ) → place_of l.device.settings a ≡ Some i
       → let c = start_by in_bytes l.device l.marks b a x in
       c.answer.number ≡ 0 → (j m : ℕ) → j < 8 → j ≢ i → m < size_at l.device j
       → get_or c.marks (base_at c.answer.device j + m) 0 ≡ get_or l.marks (base_at l.device j + m) 0
@@ -121,7 +121,7 @@ pub record Plain : Type 1 where
   -- "a unit of a tracked range is pending exactly if an accepted write by its controller touched it after tracking last started and after it was last reported"; and
   -- "0 is clear, all else pending"
   pub pending : (s : Settings) (m : Given) (ks : List Call) → Sized s m → (fresh_by in_bytes s m.marks).answer.number ≡ 0 → (a i g : ℕ) (rs : List Range) (n : ℕ) (u : Unit)
-      → place_of s a ≡ some i → tracks_by none (history_in in_bytes s m ks a) ≡ some (g, rs) → get_elem? (units g rs) n ≡ some u
+      → place_of s a ≡ Some i → tracks_by None (history_in in_bytes s m ks a) ≡ Some (g, rs) → slice_get (units g rs) n ≡ Some u
       → let l = end_of in_bytes s m ks in
       (get_or l.marks (base_at l.device i + n) 0 ≢ 0) ↔ PendingBy (history_in in_bytes s m ks a) u
   -- no sequence of calls leads to an unsound record, or to an area of another size

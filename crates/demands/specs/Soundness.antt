@@ -1,6 +1,6 @@
 -- Refusal 1, in plain words: which records are sound, what an unsound one answers, and that no calls from a fresh device lead to one.
 use Rattle.std.specs.Prelude.{ℕ, ◌+◌, ◌-◌, ◌%◌, ◌^◌, ◌≤◌, ◌<◌, ◌≡◌, ◌≢◌, ◌⊎◌, ◌↔◌, true, false, cond, List, map, eqb, length, take, get_or}
-use Rattle.std.proofs.Math.Option.{some}
+use Rattle.std.specs.declared.option.Option.TheVariants.{Some}
 use Rattle.rules.specs.Lists.{sum}
 use Rattle.rules.specs.Settings.{settings_ok, place_of}
 use Rattle.rules.specs.Units.{units}
@@ -9,10 +9,7 @@ use Rattle.rules.specs.Machine.{refused, Call, lent}
 use Rattle.rules.specs.Demands.{Lawful}
 use Rattle.rules.specs.declared.Tracking.{Tracking}
 use Rattle.rules.specs.declared.Tracking.TheVariants.{Off, On}
-use Rattle.rules.specs.declared.Sequence.TheVariants.{Open}
 use Rattle.rules.specs.declared.Ring.{Ring}
-use Rattle.rules.specs.declared.Queue.TheVariants.{Is}
-use Rattle.rules.specs.declared.Second.TheVariants as second
 use Rattle.rules.specs.declared.Settings.{Settings}
 use Rattle.rules.specs.declared.Controller.{Controller}
 use Rattle.rules.specs.declared.Device.{Device}
@@ -29,19 +26,19 @@ pub record Settled (s : Settings) : Type 0 where
   pub manager : (i : ℕ) → i < s.count → get_or s.identifiers i 0 ≢ s.manager
   pub granularities : (s.least ≤ s.greatest) × (s.greatest ≤ 20)
   pub limit : s.limit ≤ 128
-  pub second : (id limit : ℕ) → s.second ≡ second.Is id limit → (id ≢ s.manager) × ((i : ℕ) → i < s.count → get_or s.identifiers i 0 ≢ id) × (limit ≤ 128)
+  pub second : (id limit : ℕ) → s.second ≡ Some (record { id = id; limit = limit }) → (id ≢ s.manager) × ((i : ℕ) → i < s.count → get_or s.identifiers i 0 ≢ id) × (limit ≤ 128)
   pub shelf : s.shelf ≤ 128
 
 -- a record has the places of its type
 pub record Whole (d : Device) : Type 0 where
   pub controllers : length d.controllers ≡ 8
-  pub ranges : (i : ℕ) → i < 8 → length (controller_at d (some i)).ranges ≡ 16
+  pub ranges : (i : ℕ) → i < 8 → length (controller_at d (Some i)).ranges ≡ 16
 
 -- W6: an open sequence that a sound record may have: "unsound if its owner isn't suspended or its end isn't whole dwords, 4 to 4,096 bytes"
 pub record LawfulSequence (d : Device) (owner end : ℕ) : Type 0 where
   pub place : ℕ
-  pub known : place_of d.settings owner ≡ some place
-  pub suspended : (controller_at d (some place)).suspended ≡ true
+  pub known : place_of d.settings owner ≡ Some place
+  pub suspended : (controller_at d (Some place)).suspended ≡ true
   pub dwords : end % 4 ≡ 0
   pub least : 4 ≤ end
   pub most : end ≤ 4096
@@ -54,22 +51,22 @@ pub record LawfulRing (r : Ring) : Type 0 where
 
 -- the controller at a place in use is tracked with granularity g and n ranges
 abbrev pub TracksAt : Device → ℕ → ℕ → ℕ → Type 0
-TracksAt d i g n = (i < d.settings.count) × ((controller_at d (some i)).tracking ≡ On g n)
+TracksAt d i g n = (i < d.settings.count) × ((controller_at d (Some i)).tracking ≡ On g n)
 
 -- how many units it then has, and where its share begins
 abbrev pub units_at : Device → ℕ → ℕ → ℕ → ℕ
-units_at d i g n = length (units g (take n (controller_at d (some i)).ranges))
+units_at d i g n = length (units g (take n (controller_at d (Some i)).ranges))
 
 abbrev pub base_at : Device → ℕ → ℕ
-base_at d i = (controller_at d (some i)).base
+base_at d i = (controller_at d (Some i)).base
 
 -- what a sound record is. Nothing is asked of unused places, of a base among them
 pub record Sound (d : Device) : Type 0 where
   pub settings : settings_ok d.settings ≡ true
   -- of a tracked controller by itself what a start asks: 7, 18 to 21 and 10
-  pub held : (i g n : ℕ) → TracksAt d i g n → Lawful d.settings g n (take n (controller_at d (some i)).ranges)
+  pub held : (i g n : ℕ) → TracksAt d i g n → Lawful d.settings g n (take n (controller_at d (Some i)).ranges)
   -- W12: "that manager is in the settings, its counts are within its limit, and all counts within the shelf's"
-  pub manager : (i g n : ℕ) → TracksAt d i g n → IsManager d.settings (controller_at d (some i)).manager
+  pub manager : (i g n : ℕ) → TracksAt d i g n → IsManager d.settings (controller_at d (Some i)).manager
   pub limit : (m limit : ℕ) → Manages d.settings m limit → managed_of d m ≤ limit
   pub shelf : counts_of d ≤ d.settings.shelf
   -- W7: "1 covers shares that overlap or leave these words and […] tracked units above 16,384 in all"
@@ -77,8 +74,8 @@ pub record Sound (d : Device) : Type 0 where
   pub apart : (i g n j f m : ℕ) → i ≢ j → TracksAt d i g n → TracksAt d j f m
       → (base_at d i + units_at d i g n ≤ base_at d j) ⊎ (base_at d j + units_at d j f m ≤ base_at d i)
   pub units : units_of d ≤ 16384
-  pub sequence : (owner end : ℕ) → d.sequence ≡ Open owner end → LawfulSequence d owner end
-  pub queues : (i : ℕ) (r : Ring) → i < d.settings.count → (controller_at d (some i)).queue ≡ Is r → LawfulRing r
+  pub sequence : (owner end : ℕ) → d.sequence ≡ Some (record { owner = owner; end = end }) → LawfulSequence d owner end
+  pub queues : (i : ℕ) (r : Ring) → i < d.settings.count → (controller_at d (Some i)).queue ≡ Some r → LawfulRing r
 
 -- how many ranges a controller holds, and how many for a manager (W12)
 abbrev pub ranges_in : Tracking → ℕ
@@ -93,7 +90,7 @@ ranges_for m c = cond (eqb c.manager m) (ranges_in c.tracking) 0
 pub record Shares (d : Device) : Type 0 where
   pub places : length (shares_of d) ≡ 8
   pub on : (i g n : ℕ) → TracksAt d i g n → get_or (shares_of d) i no_share ≡ record { base = base_at d i; size = units_at d i g n }
-  pub off : (i : ℕ) → i < d.settings.count → (controller_at d (some i)).tracking ≡ Off → (get_or (shares_of d) i no_share).size ≡ 0
+  pub off : (i : ℕ) → i < d.settings.count → (controller_at d (Some i)).tracking ≡ Off → (get_or (shares_of d) i no_share).size ≡ 0
   pub unused : (i : ℕ) → d.settings.count ≤ i → (get_or (shares_of d) i no_share).size ≡ 0
   -- "all tracked units together": of each share its bits, no more and no fewer; and the counts together
   pub units : units_of d ≡ sum (sizes_of d)

@@ -1,7 +1,9 @@
 -- A record, its marks, the area for a state and those of the queues, seen as a device of the rules (rules' `State`); and the calls of an engine, `tracker`'s or the plain
 -- one's (W9), seen as calls of the rules.
 use Rattle.std.specs.Prelude.{ℕ, suc, ◌*◌, Bool, false, ◌&&◌, ◌||◌, not, cond, List, [], ◌∷◌, ◌++◌, eqb, length, take, drop}
-use Rattle.std.proofs.Math.Option.{Option, none, some}
+use Rattle.std.specs.declared.option.Option.{Option}
+use Rattle.rules.specs.declared.Ring.{Ring}
+use Rattle.std.specs.declared.option.Option.TheVariants.{None, Some}
 use Rattle.rules.specs.Units.{units}
 use Rattle.rules.specs.Queue.{entry_bytes, Queued}
 use Rattle.rules.specs.Order.{Op, start, stop, write, receive, suspend, resume, part, queue, make, post}
@@ -11,8 +13,6 @@ use Rattle.rules.specs.Machine.{Marks, off, on, Slot, State, Answer, refused, do
 use Rattle.rules.specs.declared.Range.{Range}
 use Rattle.rules.specs.declared.Tracking.{Tracking}
 use Rattle.rules.specs.declared.Tracking.TheVariants.{Off, On}
-use Rattle.rules.specs.declared.Queue.{Queue}
-use Rattle.rules.specs.declared.Queue.TheVariants as made
 use Rattle.rules.specs.declared.Controller.{Controller}
 use Rattle.rules.specs.declared.Device.{Device}
 use Rattle.calls.specs.declared.Changed.{Changed}
@@ -21,7 +21,6 @@ use Rattle.rules.specs.Settings.{place_of}
 use Rattle.rules.specs.Lists.{is_some}
 use Rattle.rules.specs.declared.Settings.{Settings}
 use Rattle.rules.specs.declared.Sequence.{Sequence}
-use Rattle.rules.specs.declared.Sequence.TheVariants.{Nothing, Open}
 use Rattle.ring.specs.Ring.{queued}
 use Rattle.record.specs.Record.{front_of}
 use Rattle.calls.specs.Calls.{Engine, Change, start_by, stop_by, suspend_change, resume_change, Note, write_by, Receipt, receive_by, Arrival, part_change, queued_in, make_change, Posting, post_change, Taking, take_change}
@@ -34,9 +33,9 @@ marks_of en ws base Off rs = off
 marks_of en ws base (On g n) rs = on g (take n rs) (en.marks ws base (length (units g (take n rs))))
 
 -- W8: a controller's queue, whose entries stand in an area of its own, of which it has the first so many bytes
-abbrev pub queue_of : List ℕ → Queue → Option Queued
-queue_of x made.Nothing = none
-queue_of x (made.Is r) = some (record { size = r.size; entries = queued_in (front_of (entry_bytes * r.size) x) r; stopped = r.stopped })
+abbrev pub queue_of : List ℕ → Option Ring → Option Queued
+queue_of x None = None
+queue_of x (Some r) = Some (record { size = r.size; entries = queued_in (front_of (entry_bytes * r.size) x) r; stopped = r.stopped })
 
 -- W12: the manager that tracks it, 0 where none does
 abbrev pub manager_in : Tracking → ℕ → ℕ
@@ -56,12 +55,12 @@ slot_of en ws c f x =
 
 -- those of the controller at a place: it is the owner of the open sequence, or there are none
 abbrev pub is_at : Option ℕ → ℕ → Bool
-is_at none i = false
-is_at (some j) i = eqb j i
+is_at None i = false
+is_at (Some j) i = eqb j i
 
-abbrev pub front_at : Settings → Sequence → List ℕ → ℕ → Option (List ℕ)
-front_at s Nothing area i = none
-front_at s (Open owner end) area i = cond (is_at (place_of s owner) i) (some (front_of end area)) none
+abbrev pub front_at : Settings → Option Sequence → List ℕ → ℕ → Option (List ℕ)
+front_at s None area i = None
+front_at s (Some seq) area i = cond (is_at (place_of s seq.owner) i) (Some (front_of seq.end area)) None
 
 -- the controllers from a place on; each has the area of its place
 abbrev pub slots_from : Engine → List ℕ → (ℕ → Option (List ℕ)) → (ℕ → List ℕ) → ℕ → List Controller → List Slot
@@ -69,9 +68,9 @@ slots_from en ws f qs i [] = []
 slots_from en ws f qs i (c ∷ cs) = slot_of en ws c (f i) (qs i) ∷ slots_from en ws f qs (suc i) cs
 
 -- whether the owner of an open sequence is not in the settings
-abbrev pub stray_in : Settings → Sequence → Bool
-stray_in s Nothing = false
-stray_in s (Open owner end) = not (is_some (place_of s owner))
+abbrev pub stray_in : Settings → Option Sequence → Bool
+stray_in s None = false
+stray_in s (Some seq) = not (is_some (place_of s seq.owner))
 
 -- or the shares (W7) or the queues (W8) are not as they may be
 abbrev pub amiss_in : Device → Bool
@@ -126,13 +125,13 @@ arrives ws qs x a =
 
 -- W8: what a call to a queue is lent: the first so many bytes of the area of its controller's place
 abbrev pub lent_at : (ℕ → List ℕ) → Option ℕ → ℕ → List ℕ
-lent_at qs none bytes = front_of bytes []
-lent_at qs (some i) bytes = front_of bytes (qs i)
+lent_at qs None bytes = front_of bytes []
+lent_at qs (Some i) bytes = front_of bytes (qs i)
 
 -- areas in which these first bytes, at a place, are others
 abbrev pub handed_on : (ℕ → List ℕ) → Option ℕ → List ℕ → ℕ → List ℕ
-handed_on qs none x = qs
-handed_on qs (some i) x = λ j. cond (eqb j i) (x ++ drop (length x) (qs i)) (qs j)
+handed_on qs None x = qs
+handed_on qs (Some i) x = λ j. cond (eqb j i) (x ++ drop (length x) (qs i)) (qs j)
 
 -- a post hands its area on. (A refused one leaves it as it was lent: Demand1.)
 abbrev pub posts : List ℕ → List ℕ → (ℕ → List ℕ) → Option ℕ → List ℕ → Posting → Outcome

@@ -2,7 +2,8 @@
 use mathlib.Core.Path.{◌≡◌}
 use mathlib.Core.Bool.{Bool, true, false, cond}
 use mathlib.Core.List.{List, [], ◌∷◌}
-use mathlib.Core.Option.{Option, none, some}
+use Rattle.std.specs.declared.option.Option.{Option}
+use Rattle.std.specs.declared.option.Option.TheVariants.{None, Some}
 use Prim.Native.Nat.{ℕ, ◌*◌, ◌≤◌}
 use native.Mathlib.Omega.{arith}
 use lib.ListN.{length, length-take}
@@ -11,8 +12,7 @@ use Rattle.rules.specs.Settings.{place_of}
 use Rattle.rules.specs.Order.{queue_order}
 use Rattle.rules.specs.Order as order
 use Rattle.rules.specs.declared.Device.{Device}
-use Rattle.rules.specs.declared.Queue.{Queue}
-use Rattle.rules.specs.declared.Queue.TheVariants.{Nothing, Is}
+use Rattle.rules.specs.declared.Ring.{Ring}
 use Rattle.record.specs.Record.{controller_at, seen_in}
 use Rattle.calls.specs.declared.Taken.{Taken}
 use Rattle.calls.specs.Calls.{Taking, taking, take_in, take_done, take_change}
@@ -23,13 +23,13 @@ Fits x t = 32 * t.answer.count ≤ length x
 
 module _ (d : Device) (area : List ℕ) (asked : ℕ) (x : List ℕ) where
   -- as many are taken as fit, at most
-  queue-fits : (i : ℕ) (q : Queue) → Fits x (take_in d i area asked x q)
-  queue-fits i Nothing = omega arith
-  queue-fits i (Is r) = rw (length-take, length-take) (omega arith)
+  queue-fits : (i : ℕ) (q : Option Ring) → Fits x (take_in d i area asked x q)
+  queue-fits i None = omega arith
+  queue-fits i (Some r) = rw (length-take, length-take) (omega arith)
 
   done-fits : (p : Option ℕ) → Fits x (take_done d area asked x p)
-  done-fits none = omega arith
-  done-fits (some i) = queue-fits i (controller_at d (some i)).queue
+  done-fits None = omega arith
+  done-fits (Some i) = queue-fits i (controller_at d (Some i)).queue
 
   -- none are where it is refused
   verdict-fits : (ts : List Test) (t : Taking) → Fits x t → Fits x (verdict ts t (λ n i. taking n 0 false d x))

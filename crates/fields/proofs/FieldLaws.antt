@@ -1,16 +1,16 @@
--- Laws of `first_field`, `later_fields` and `same_bytes`: where a field ends, what follows it, and the loops that look for that. The crate's own.
+-- Laws of `first_field`, `later_fields` and `same_bytes`: where a field ends, and what follows it. The crate's own.
 -- Assumes nothing.
-use Prim.Native.Nat.{ℕ, suc, ◌+◌, ◌≤◌, ◌<◌}
-use mathlib.Core.Path.{◌≡◌, refl, ap}
-use mathlib.Core.Logic.{◌≢◌}
+use Prim.Native.Nat.{ℕ, suc, ◌+◌, ◌≤◌}
+use mathlib.Core.Path.{◌≡◌, refl, sym, ap, ◌∙◌}
 use mathlib.Core.Bool.{Bool, true, false, ◌&&◌, cond}
 use mathlib.Core.List.{List, [], ◌∷◌}
-use native.Mathlib.Numerals.{add-one}
 use native.Mathlib.Omega.{arith}
-use borrow.Author.Tests.{eq-eqb, ne_eqb}
-use lib.Dec.{eqb}
-use lib.ListN.{length, get_or, take, drop, length-drop, drop_of_length-le}
-use lib.Seq.{drop-cons}
+use borrow.Author.Tests.{ltb-false, ne_eqb}
+use lib.Dec.{eqb, ltb}
+use lib.ListN.{length, take, drop, drop_of_length-le}
+use Rattle.std.proofs.Common.{unwrap_or, bytes_eq, Some, None}
+use Rattle.std.specs.List.{position, position_or_len}
+use Rattle.std.proofs.lemmas.List.Recursion.{is_position_or_len}
 use Rattle.fields.specs.Fields.{first_field, later_fields, same_bytes}
 
 -- ---- first_field
@@ -23,9 +23,6 @@ first_field-length (b ∷ s) = go (eqb b 32) (first_field-length s)
     go : (t : Bool) → length (first_field s) ≤ length s → length (cond t [] (b ∷ first_field s)) ≤ suc (length s)
     go true ih = omega arith
     go false ih = omega arith
-
-pub first_field-within : (s : List ℕ) (from to : ℕ) → to ≡ from + length (first_field (drop from s)) → from ≤ length s → (from ≤ to) × (to ≤ length s)
-first_field-within s from to e h = (omega (arith, e), omega (arith, e, first_field-length (drop from s), length-drop from s))
 
 pub first_field-take : (s : List ℕ) → take (length (first_field s)) s ≡ first_field s
 unfolding first_field
@@ -46,19 +43,21 @@ first_field-stop (b ∷ s) = go (eqb b 32) refl (first_field-stop s)
     go true e ih = rw e
     go false e ih = ih
 
--- the loop that looks for a field's end e
-module _ (s : List ℕ) (i e : ℕ) where
-  pub field-stop : i < length s → get_or s i 0 ≡ 32 → e ≡ i + length (first_field (drop i s)) → i ≡ e
-  unfolding first_field
-  field-stop h space inv = let p = rw (drop-cons s i 0 h, eq-eqb (get_or s i 0) 32 space) at inv in omega arith
+-- where it ends: at the first space, or at the end
+pub first_field-space : (s : List ℕ) → length (first_field s) ≡ position_or_len (λ b. eqb b 32) s
+unfolding first_field
+first_field-space s = is_position_or_len (λ l. length (first_field l)) (λ b. eqb b 32) refl (λ b l. step (eqb b 32) b l) s
+  where
+    step : (t : Bool) (b : ℕ) (l : List ℕ) → length (cond t [] (b ∷ first_field l)) ≡ cond t 0 (1 + length (first_field l))
+    step true b l = refl
+    step false b l = omega arith
 
-  pub field-again : i < length s → get_or s i 0 ≢ 32 → e ≡ i + length (first_field (drop i s)) → e ≡ i + 1 + length (first_field (drop (i + 1) s))
-  unfolding first_field
-  field-again h other inv = let p = rw (drop-cons s i 0 h, ne_eqb (get_or s i 0) 32 other) at inv in rw add-one (omega arith)
-
-  pub field-over : length s ≤ i → e ≡ i + length (first_field (drop i s)) → i ≡ e
-  unfolding first_field
-  field-over h inv = let p = rw (drop_of_length-le s h) at inv in omega arith
+pub first_field-found : (s : List ℕ) → unwrap_or (position (λ b. eqb b 32) s) (length s) ≡ length (first_field s)
+first_field-found s = go (ltb (position_or_len (λ b. eqb b 32) s) (length s)) refl
+  where
+    go : (t : Bool) → ltb (position_or_len (λ b. eqb b 32) s) (length s) ≡ t → unwrap_or (cond t (Some (position_or_len (λ b. eqb b 32) s)) None) (length s) ≡ length (first_field s)
+    go true e = sym (first_field-space s)
+    go false e = omega (arith, ltb-false (position_or_len (λ b. eqb b 32) s) (length s) e, first_field-space s, first_field-length s)
 
 -- ---- later_fields
 
@@ -72,52 +71,49 @@ later_fields-skip (b ∷ s) = go (eqb b 32) refl (later_fields-skip s)
     go true e ih = rw e
     go false e ih = ih
 
--- at a space
-pub later_fields-at : (s : List ℕ) (at : ℕ) → at < length s → first_field (drop at s) ≡ [] → later_fields (drop at s) ≡ first_field (drop (at + 1) s) ∷ later_fields (drop (at + 1) s)
-unfolding first_field later_fields
-later_fields-at s at h e = rw (drop-cons s at 0 h, add-one) (go (eqb (get_or s at 0) 32) refl (rw (drop-cons s at 0 h) at e))
-  where
-    rest : List ℕ
-    rest = drop (suc at) s
-
-    go : (t : Bool) → eqb (get_or s at 0) 32 ≡ t → cond t [] (get_or s at 0 ∷ first_field (drop (suc at) s)) ≡ []
-        → cond t (first_field (drop (suc at) s) ∷ later_fields (drop (suc at) s)) (later_fields (drop (suc at) s)) ≡ first_field (drop (suc at) s) ∷ later_fields (drop (suc at) s)
-    go true p q = refl
-    go false p q = let z : ◌≡◌ {A = ℕ} 0 1 = cc in absurd (omega arith)
-
 pub later_fields-over : (s : List ℕ) (at : ℕ) → length s ≤ at → later_fields (drop at s) ≡ []
 unfolding later_fields
 later_fields-over s at h = rw (drop_of_length-le s h)
 
+-- ---- the fields that are left
+
+pub later_fields_none : (s : List ℕ) → length s ≡ 0 → later_fields s ≡ []
+later_fields_none s e = later_fields-over s 0 (omega arith)
+
+-- what is left is empty, or begins with a space, behind which the next field stands
+module _ (s after : List ℕ) (b : ℕ) (whole : s ≡ b ∷ after) (stop : first_field s ≡ []) where
+  space : eqb b 32 ≡ true
+  unfolding first_field
+  space = go (eqb b 32) (rw whole at stop)
+    where
+      go : (t : Bool) → cond t [] (b ∷ first_field after) ≡ [] → t ≡ true
+      go true q = refl
+      go false q = cc
+
+  pub field_next : (n : ℕ) → n ≡ length (first_field after) → later_fields s ≡ take n after ∷ later_fields (drop n after)
+  unfolding first_field later_fields
+  field_next n e = rw (whole, space, e, first_field-take after, ← later_fields-skip after)
+
+  pub field_rest : later_fields s ≡ first_field after ∷ later_fields after
+  unfolding first_field later_fields
+  field_rest = rw (whole, space)
+
+pub fields-empty : (s : List ℕ) → first_field s ≡ [] → eqb (length s) 0 ≡ eqb (length (later_fields s)) 0
+unfolding later_fields
+fields-empty [] stop = refl
+fields-empty (b ∷ s) stop = some (length s) ∙ sym (rw (field_rest (b ∷ s) s b refl stop) (some (length (later_fields s))))
+  where
+    some : (n : ℕ) → eqb (suc n) 0 ≡ false
+    some n = ne_eqb (suc n) 0 (λ e. absurd (omega arith))
+
+pub field-stop : (s : List ℕ) (n : ℕ) → n ≡ length (first_field s) → first_field (drop n s) ≡ []
+field-stop s n e = rw e (first_field-stop s)
+
 -- ---- same_bytes
 
-pub same_length : (a b : List ℕ) → length a ≢ length b → false ≡ same_bytes a b
+pub same_bytes-is : (a b : List ℕ) → same_bytes a b ≡ bytes_eq a b
 unfolding same_bytes
-same_length [] [] h = absurd (h refl)
-same_length [] (y ∷ b) h = refl
-same_length (x ∷ a) [] h = refl
-same_length (x ∷ a) (y ∷ b) h = go (eqb x y) (same_length a b (λ e. h (ap suc e)))
-  where
-    go : (t : Bool) → false ≡ same_bytes a b → false ≡ (t && same_bytes a b)
-    go true ih = ih
-    go false ih = refl
-
--- the loop that compares them
-module _ (a b : List ℕ) (i : ℕ) (e : length a ≡ length b) where
-  same_step : i < length a → same_bytes (drop i a) (drop i b) ≡ (eqb (get_or a i 0) (get_or b i 0) && same_bytes (drop (i + 1) a) (drop (i + 1) b))
-  unfolding same_bytes
-  same_step h = let k : i < length b = omega arith in rw (drop-cons a i 0 h, drop-cons b i 0 k, add-one)
-
-  pub same_differs : i < length a → get_or a i 0 ≢ get_or b i 0 → same_bytes (drop i a) (drop i b) ≡ same_bytes a b → false ≡ same_bytes a b
-  same_differs h other inv = rw (same_step h, ne_eqb (get_or a i 0) (get_or b i 0) other) at inv
-
-  pub same-again : i < length a → get_or a i 0 ≡ get_or b i 0 → same_bytes (drop i a) (drop i b) ≡ same_bytes a b → same_bytes (drop (i + 1) a) (drop (i + 1) b) ≡ same_bytes a b
-  same-again h equal inv = rw (same_step h, eq-eqb (get_or a i 0) (get_or b i 0) equal) at inv
-
-  pub same_over : length a ≤ i → same_bytes (drop i a) (drop i b) ≡ same_bytes a b → true ≡ same_bytes a b
-  unfolding same_bytes
-  same_over h inv = let k : length b ≤ i = omega arith in rw (drop_of_length-le a h, drop_of_length-le b k) at inv
-
--- what stands before the end of a line's first field is that field
-pub same-front : (s w : List ℕ) (to : ℕ) (r : Bool) → to ≡ 0 + length (first_field (drop 0 s)) → r ≡ same_bytes (take to s) w → r ≡ same_bytes (first_field s) w
-same-front s w to r e f = let p : to ≡ length (first_field s) = omega (arith, e) in rw (p, first_field-take s) at f
+same_bytes-is [] [] = refl
+same_bytes-is [] (y ∷ b) = refl
+same_bytes-is (x ∷ a) [] = refl
+same_bytes-is (x ∷ a) (y ∷ b) = ap (λ t. eqb x y && t) (same_bytes-is a b)

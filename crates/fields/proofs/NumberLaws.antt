@@ -1,18 +1,19 @@
--- Laws of numbers in fields: the loop that reads one, and `gathered`, which reads several. The crate's own. Assumes nothing.
+-- Laws of numbers in fields, and of the loop that reads one. The crate's own. Assumes nothing.
 use Prim.Native.Nat.{ℕ, ◌+◌, ◌-◌, ◌*◌, ◌≤◌, ◌<◌}
 use mathlib.Core.Path.{◌≡◌, refl, sym, ap, ◌∙◌}
+use mathlib.Core.Logic.{◌≢◌}
 use mathlib.Core.Bool.{Bool, true, false, ◌&&◌, not, cond}
 use mathlib.Core.List.{List, [], ◌∷◌}
 use native.Mathlib.Numerals.{add-one}
 use native.Mathlib.Omega.{arith}
-use borrow.Author.Tests.{le-leb, lt-leb, leb-true}
-use lib.Dec.{leb}
+use borrow.Author.Tests.{le-leb, lt-leb, leb-true, eq-eqb, eqb-true}
+use lib.Dec.{leb, eqb}
 use lib.ListN.{length, get_or, drop, drop_of_length-le}
 use lib.Seq.{drop-cons}
 use Rattle.rules.specs.Lists.{all}
-use Rattle.rules.proofs.ListLaws.{every-at, every-not, and_left}
+use Rattle.rules.proofs.ListLaws.{every-at, every-not}
 use Rattle.fields.specs.Fields.{is_digit, leading_zero, spelled, value, number_rules, is_number, number_of}
-use Rattle.fields.specs.declared.Number.TheVariants.{Is, None}
+use Rattle.std.proofs.Common.{Some, None}
 
 -- more digits spell no smaller number
 pub spelled-least : (v : ℕ) (s : List ℕ) → v ≤ spelled v s
@@ -20,8 +21,18 @@ unfolding spelled
 spelled-least v [] = omega arith
 spelled-least v (b ∷ s) = omega (arith, spelled-least (10 * v + (b - 48)) s)
 
-pub digit-least : (b : ℕ) → is_digit b ≡ true → 48 ≤ b
-digit-least b e = leb-true 48 b (and_left (leb 48 b) (leb b 57) e)
+-- ---- a zero before another byte
+
+pub leading_zero-is : (f : List ℕ) → 2 ≤ length f → get_or f 0 0 ≡ 48 → leading_zero f ≡ true
+leading_zero-is f h e = rw (le-leb 2 (length f) h, eq-eqb (get_or f 0 0) 48 e)
+
+pub no_leading_zero : (f : List ℕ) → (2 ≤ length f → get_or f 0 0 ≢ 48) → leading_zero f ≡ false
+no_leading_zero f h = go (leb 2 (length f)) (eqb (get_or f 0 0) 48) refl refl
+  where
+    go : (t u : Bool) → leb 2 (length f) ≡ t → eqb (get_or f 0 0) 48 ≡ u → (t && u) ≡ false
+    go false u p q = refl
+    go true false p q = refl
+    go true true p q = absurd (h (leb-true 2 (length f) p) (eqb-true (get_or f 0 0) 48 q))
 
 -- ---- a field that is no number
 
@@ -61,7 +72,7 @@ module _ (most : ℕ) (f : List ℕ) where
     spelled-again d h e inv = rw e (sym (spelled_step h) ∙ inv)
 
     pub number-whole : length f ≤ i → 1 ≤ length f → leading_zero f ≡ false → v ≤ most → spelled v (drop i f) ≡ value f → all is_digit (drop i f) ≡ all is_digit f
-        → Is v ≡ number_of most f
+        → Some v ≡ number_of most f
     unfolding number_of is_number spelled
     number-whole h some front fits inv digits =
         let p : v ≡ value f = rw (drop_of_length-le f h) at inv in
@@ -75,29 +86,26 @@ module _ (most : ℕ) (f : List ℕ) where
   unfolding number_of
   number-none = go (is_number most f)
     where
-      go : (t : Bool) → cond t (Is (value f)) None ≡ None → t ≡ false
+      go : (t : Bool) → cond t (Some (value f)) None ≡ None → t ≡ false
       go true e = let z : ◌≡◌ {A = ℕ} 0 1 = cc in absurd (omega arith)
       go false e = refl
 
-  pub number_is : (v : ℕ) → number_of most f ≡ Is v → is_number most f ≡ true
+  pub number_is : (v : ℕ) → number_of most f ≡ Some v → is_number most f ≡ true
   unfolding number_of
   number_is v = go (is_number most f)
     where
-      go : (t : Bool) → cond t (Is (value f)) None ≡ Is v → t ≡ true
+      go : (t : Bool) → cond t (Some (value f)) None ≡ Some v → t ≡ true
       go true e = refl
       go false e = let z : ◌≡◌ {A = ℕ} 0 1 = cc in absurd (omega arith)
 
-  pub number-value : (v : ℕ) → number_of most f ≡ Is v → v ≡ value f
+  pub number-value : (v : ℕ) → number_of most f ≡ Some v → v ≡ value f
   unfolding number_of
   number-value v = go (is_number most f)
     where
-      go : (t : Bool) → cond t (Is (value f)) None ≡ Is v → v ≡ value f
+      go : (t : Bool) → cond t (Some (value f)) None ≡ Some v → v ≡ value f
       go true e = cc
       go false e = let z : ◌≡◌ {A = ℕ} 0 1 = cc in absurd (omega arith)
 
   pub is_number-fits : is_number most f ≡ true → value f ≤ most
   unfolding is_number
   is_number-fits e = leb-true (value f) most (every-at (number_rules most f) 3 e)
-
-  pub number_fits : (v : ℕ) → number_of most f ≡ Is v → v ≤ most
-  number_fits v e = omega (arith, number-value v e, is_number-fits (number_is v e))

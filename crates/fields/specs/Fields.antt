@@ -1,9 +1,7 @@
 -- Document 01, "Session listing": the fields of a line, one space between, and the decimal numbers that they spell. A line is the list of its bytes.
 -- All of it is the library's interface. Which line is which call is not said here.
-use Rattle.std.specs.Prelude.{ℕ, ◌+◌, ◌-◌, ◌*◌, Bool, true, false, not, ◌&&◌, cond, List, [], ◌∷◌, leb, eqb, length, get_or}
+use Rattle.std.specs.Prelude.{ℕ, ◌+◌, ◌-◌, ◌*◌, Bool, true, false, not, ◌&&◌, cond, List, [], ◌∷◌, leb, eqb, length, get_or, Option, Some, None}
 use Rattle.rules.specs.Lists.{all, every}
-use Rattle.fields.specs.declared.Number.{Number}
-use Rattle.fields.specs.declared.Number.TheVariants.{Is, None}
 
 -- ---- fields: "one space between"
 
@@ -49,5 +47,10 @@ unfoldable pub is_number : ℕ → List ℕ → Bool
 is_number most f = every (number_rules most f)
 
 -- what a field says: its number, if it is one of at most so much
-unfoldable pub number_of : ℕ → List ℕ → Number
-number_of most f = cond (is_number most f) (Is (value f)) None
+unfoldable pub number_of : ℕ → List ℕ → Option ℕ
+number_of most f = cond (is_number most f) (Some (value f)) None
+
+-- what the next of some fields says: no number, where there is none
+abbrev pub next_number : ℕ → List (List ℕ) → Option ℕ
+next_number most [] = None
+next_number most (f ∷ fs) = number_of most f

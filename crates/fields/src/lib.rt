@@ -1,150 +1,119 @@
 // Fields of a line of text, with a space between two, and the numbers that they spell in decimal. Any bytes are met with an answer.
 #![tactic(auto)]
 
-ghost use Rattle.std.specs.Prelude.{◌≡◌, true, ◌+◌, ◌≤◌, ◌<◌, length, drop};
-ghost use Rattle.fields.specs.Fields.{first_field, is_digit, leading_zero, same_bytes, number_of};
+ghost use Rattle.std.specs.Prelude.{◌≡◌, [], ◌∷◌, ◌≤◌, ◌==◌, length, drop, IfSome, MatchOption};
+ghost use Rattle.fields.specs.Fields.{first_field, later_fields, leading_zero, same_bytes, number_of, next_number};
 
-// What a field says: a number, or none that fits.
-#[derive(Clone, Copy)]
-pub enum Number {
-    Is(u64),
-    None,
+use std::marker::Model;
+
+// The fields of a line behind its first one that are still to be read, first to last. A clause sees the list of them.
+#[derive(Drop)]
+pub struct Fields<'a> {
+    // Empty, or begins with the space before the next field.
+    rest: &'a [u8],
 }
 
-// A number in the field after a place: whether it is there and fits, and where its field ends.
-#[derive(Clone, Copy)]
-pub struct Taken {
-    pub ok: bool,
-    pub end: usize,
-    pub value: u64,
+impl<'a> Model for Fields<'a> {
+    ghost use Rattle.std.specs.Prelude.{ℕ, List, [], ◌≡◌};
+    ghost use Rattle.fields.specs.Fields.{first_field, later_fields};
+
+    ghost Value = { List (List ℕ) };
+
+    ghost view = { λ f. later_fields f.rest.now };
+
+    ghost invariant = { λ f. first_field f.rest.now ≡ [] };
+}
+
+impl<'a> Iterator for Fields<'a> {
+    type Item = &'a [u8];
+
+    ghost use Rattle.std.specs.Iterator.{YieldsFirstRef, item_count};
+
+    ghost next_gives = { YieldsFirstRef (λ f. f) };
+
+    ghost remaining = { item_count (λ f. f) };
+
+    // The next field.
+    fn next(&mut self) -> Option<&'a [u8]> {
+        let (_, after) = self.rest.split_first()?;
+        let (field, rest) = after.split_at(first_len(after));
+        self.rest = rest;
+        Some(field)
+    }
+}
+
+impl<'a> Fields<'a> {
+    // The number that the next field spells in decimal, if there is one, and it is at most `most`.
+    pub fn number(&mut self, most: u64) -> Option<u64>
+        ensures number { result ≡ next_number most self.old }
+        ensures fits { IfSome result (λ v. v ≤ most) }
+        ensures rest { self.new ≡ drop 1 self.old }
+    {
+        read_number(self.next()?, most)
+    }
+
+    // Whether no field is left.
+    pub fn is_empty(&self) -> bool
+        ensures { result ≡ (length self.now == 0) }
+    {
+        self.rest.is_empty()
+    }
+
+    // The rest of the line, from the next field on; none where no field is left.
+    pub fn rest(self) -> Option<&'a [u8]>
+        ensures { MatchOption result (self.entry ≡ []) (λ r. self.entry ≡ first_field r.now ∷ later_fields r.now) }
+    {
+        let (_, after) = self.rest.split_first()?;
+        Some(after)
+    }
 }
 
 // ---- fields
 
-// Where the field that starts at `from` ends: at the next space, or at the end of the line.
-pub fn field_end(line: &[u8], from: usize) -> usize
-    requires { from ≤ length line.now }
-    ensures { result ≡ from + length (first_field (drop from line.now)) }
+// How many bytes the first field of a line has: those before the first space, or all.
+fn first_len(line: &[u8]) -> usize
+    ensures { result ≡ length (first_field line.now) }
 {
-    let mut i = from;
-    while i < line.len() {
-        if line[i] == b' ' {
-            return i;
-        }
-        i = i + 1;
-    }
-    i
+    line.iter().position(|b| *b == b' ').unwrap_or(line.len())
 }
 
-// Whether two rows of bytes are the same.
-pub fn same(a: &[u8], b: &[u8]) -> bool
-    ensures { result ≡ same_bytes a.now b.now }
+// A line's first field, and its later ones.
+pub fn split(line: &[u8]) -> (&[u8], Fields<'_>)
+    ensures first { result.0.now ≡ first_field line.now }
+    ensures later { result.1 ≡ later_fields line.now }
 {
-    if a.len() != b.len() {
-        return false;
-    }
-    let mut i: usize = 0;
-    while i < a.len() {
-        if a[i] != b[i] {
-            return false;
-        }
-        i = i + 1;
-    }
-    true
+    let (first, rest) = line.split_at(first_len(line));
+    (first, Fields { rest })
 }
 
 // Whether a line's first field is this word.
 pub fn begins(line: &[u8], word: &[u8]) -> bool
     ensures { result ≡ same_bytes (first_field line.now) word.now }
 {
-    let end = field_end(line, 0);
-    same(&line[..end], word)
+    split(line).0 == word
 }
 
 // ---- numbers
 
-// A byte as a number of 64 bits.
-fn wide(b: u8) -> u64
-    ensures { result ≡ b }
-{
-    b as u64
-}
-
-// Whether a zero stands before another byte.
-fn leading_zero(field: &[u8]) -> bool
-    ensures { result ≡ leading_zero field.now }
-{
-    if field.len() < 2 {
-        return false;
-    }
-    field[0] == b'0'
-}
-
-// Whether a byte is a decimal digit.
-fn is_digit(b: u8) -> bool
-    ensures { result ≡ is_digit b }
-{
-    if b < b'0' {
-        return false;
-    }
-    b <= b'9'
-}
-
 // The number that a field spells in decimal, if it is at most `most`: digits alone, and no zero before another.
-pub fn read_number(field: &[u8], most: u64) -> Number
-    ensures { result ≡ number_of most field.now }
+pub fn read_number(field: &[u8], most: u64) -> Option<u64>
+    ensures number { result ≡ number_of most field.now }
+    ensures fits { IfSome result (λ v. v ≤ most) }
 {
-    let n = field.len();
-    if n == 0 {
-        return Number::None;
+    match field {
+        [] | [b'0', _, ..] => return None,
+        _ => {}
     }
-    if leading_zero(field) {
-        return Number::None;
-    }
-    let mut v: u64 = 0;
-    let mut i: usize = 0;
-    while i < n {
-        let b = field[i];
-        if !is_digit(b) {
-            return Number::None;
+    let mut value: u64 = 0;
+    for b in field {
+        if !b.is_ascii_digit() {
+            return None;
         }
-        let d = wide(b - b'0');
-        if most < d {
-            return Number::None;
+        let digit = u64::from(*b - b'0');
+        value = value.checked_mul(10)?.checked_add(digit)?;
+        if value > most {
+            return None;
         }
-        if (most - d) / 10 < v {
-            return Number::None;
-        }
-        v = 10 * v + d;
-        i = i + 1;
     }
-    Number::Is(v)
-}
-
-// The number in the field after the space at `at`, if it is at most `most`; where there is none, 0.
-pub fn take(line: &[u8], at: usize, most: u64) -> Taken
-    requires { at ≤ length line.now }
-    ensures { (at ≤ result.end) × (result.end ≤ length line.now) × (result.value ≤ most) × (result.ok ≡ true → at < result.end) }
-{
-    if at >= line.len() {
-        return Taken {
-            ok: false,
-            end: at,
-            value: 0,
-        };
-    }
-    let from = at + 1;
-    let to = field_end(line, from);
-    let Number::Is(value) = read_number(&line[from..to], most) else {
-        return Taken {
-            ok: false,
-            end: to,
-            value: 0,
-        };
-    };
-    Taken {
-        ok: true,
-        end: to,
-        value,
-    }
+    Some(value)
 }

@@ -2,10 +2,11 @@
 // an answer.
 #![tactic(auto)]
 
-ghost use Rattle.std.specs.Prelude.{◌≤◌, length};
-
-use output::{Buffer, Waiting};
+use fields::Fields;
+use hex_text::Hex;
 use rules::Settings;
+use std::io;
+use std::io::Write;
 
 // The most bytes of a file that a line may hold.
 const FILE_BYTES: usize = 64;
@@ -15,142 +16,86 @@ const OLD_BYTES: usize = 29;
 
 const NEW_BYTES: usize = 35;
 
-// Whether a line begins with one of these words.
-pub fn asks(line: &[u8]) -> bool {
-    if fields::begins(line, b"old") {
-        return true;
-    }
-    if fields::begins(line, b"new") {
-        return true;
-    }
-    fields::begins(line, b"save")
-}
-
 // ---- answers
 
-// Puts a number behind a space.
-fn put_next(out: &mut Buffer, waiting: Waiting, n: u16) -> Waiting {
-    playing::put_named(out, waiting, b" ", n as u64)
+// Puts what a done reader answers first: the numbers that both versions have.
+fn put_numbers<W: Write>(out: &mut W, s: &Settings) -> io::Result<()> {
+    let powers = u8::from(s.powers);
+    write!(
+        out,
+        "0 {} {} {} {powers} {}",
+        s.manager, s.least, s.greatest, s.limit
+    )
 }
 
-// Puts what a done reader answers first: the numbers that both versions have.
-fn put_numbers(out: &mut Buffer, waiting: Waiting, s: Settings) -> Waiting {
-    let a = playing::put_named(out, waiting, b"0 ", s.manager as u64);
-    let b = put_next(out, a, s.least as u16);
-    let c = put_next(out, b, s.greatest as u16);
-    let e = playing::put_named(out, c, b" ", playing::bit(s.powers));
-    put_next(out, e, s.limit)
+// Puts what version 2 alone has: the second manager and its limit, or where there is none the first manager and 0, and the shelf's limit.
+fn put_limits<W: Write>(out: &mut W, s: &Settings) -> io::Result<()> {
+    let place = settings_file::second_place(s.manager, s.second);
+    let limit = settings::second_limit(s.second);
+    write!(out, " {place} {limit} {}", s.shelf)
 }
 
 // Puts the identifiers in use, and ends the line.
-fn put_identifiers(out: &mut Buffer, waiting: Waiting, s: Settings) -> Waiting {
-    let mut waiting = waiting;
-    let mut i: usize = 0;
-    while i < 8 {
-        if i < s.count {
-            waiting = put_next(out, waiting, s.identifiers[i]);
-        }
-        i = i + 1;
+fn put_identifiers<W: Write>(out: &mut W, s: &Settings) -> io::Result<()> {
+    for id in s.identifiers.iter().take(s.count) {
+        write!(out, " {id}")?;
     }
-    output::put_byte(out, waiting, b'\n')
-}
-
-// Puts the second manager and its limit as a file has them: where there is none, the first manager and 0.
-fn put_second(out: &mut Buffer, waiting: Waiting, s: Settings) -> Waiting {
-    let second = s.second;
-    let place = settings_file::second_place(s.manager, second);
-    let limit = settings::second_limit(second);
-    let w = put_next(out, waiting, place);
-    put_next(out, w, limit)
-}
-
-// Puts the answer of the reader of version 1 to a file.
-fn put_old(file: &[u8], out: &mut Buffer, waiting: Waiting) -> Waiting {
-    let read = settings_file::read_v1(file);
-    if read.number != 0 {
-        return playing::put_answer(out, waiting, read.number);
-    }
-    let s = read.settings;
-    let w = put_numbers(out, waiting, s);
-    put_identifiers(out, w, s)
-}
-
-// Puts the answer of the reader of both versions to a file.
-fn put_new(file: &[u8], out: &mut Buffer, waiting: Waiting) -> Waiting {
-    let read = settings_file::read_file(file);
-    if read.number != 0 {
-        return playing::put_answer(out, waiting, read.number);
-    }
-    let s = read.settings;
-    let a = put_numbers(out, waiting, s);
-    let b = put_second(out, a, s);
-    let c = put_next(out, b, s.shelf);
-    put_identifiers(out, c, s)
-}
-
-// Puts the answer of the writer to a buffer as long as the file: a refused one's number alone.
-fn put_file(
-    file: &mut [u8],
-    version: u16,
-    s: Settings,
-    out: &mut Buffer,
-    waiting: Waiting,
-) -> Waiting {
-    let number = settings_file::write_file(file, version, s);
-    if number != 0 {
-        return playing::put_answer(out, waiting, number);
-    }
-    let w = output::put_bytes(out, waiting, b"0 ");
-    hex_text::put_line(out, w, file)
-}
-
-// Puts the answer of the writer.
-fn put_saved(version: u16, s: Settings, out: &mut Buffer, waiting: Waiting) -> Waiting {
-    if version == 1 {
-        let mut file = [0u8; OLD_BYTES];
-        return put_file(&mut file, version, s, out, waiting);
-    }
-    let mut file = [0u8; NEW_BYTES];
-    put_file(&mut file, version, s, out, waiting)
+    writeln!(out)
 }
 
 // ---- played
 
-// Plays an `old` or a `new`, whose file begins at `at`.
-fn read(line: &[u8], at: usize, out: &mut Buffer, waiting: Waiting) -> Waiting {
+// The file in the last field of a line, in hex: it is read into `file`.
+fn read<'a>(fields: Fields<'_>, file: &'a mut [u8]) -> Option<&'a [u8]> {
+    hex_text::read(fields.rest()?, file)
+}
+
+// Plays an `old` with these fields: puts the answer of the reader of version 1 to a file.
+pub fn old<W: Write>(fields: Fields<'_>, out: &mut W) -> io::Result<()> {
     let mut file = [0u8; FILE_BYTES];
-    let read = hex_text::take(line, at, &mut file);
-    if !read.ok {
-        return playing::put_bad(out, waiting);
+    let Some(file) = read(fields, &mut file) else {
+        return playing::put_bad(out);
+    };
+    let read = settings_file::read_v1(file);
+    if read.number != 0 {
+        return playing::put_number(out, read.number);
     }
-    let size = read.size;
-    if fields::begins(line, b"old") {
-        return put_old(&file[..size], out, waiting);
-    }
-    put_new(&file[..size], out, waiting)
+    put_numbers(out, &read.settings)?;
+    put_identifiers(out, &read.settings)
 }
 
-// Plays a `save`, whose numbers begin at `at`.
-fn save(line: &[u8], at: usize, out: &mut Buffer, waiting: Waiting) -> Waiting
-    requires { at ≤ length line.now }
-{
-    let version = fields::take(line, at, 65535);
-    if !version.ok {
-        return playing::put_bad(out, waiting);
+// Plays a `new` with these fields: puts the answer of the reader of both versions to a file.
+pub fn new<W: Write>(fields: Fields<'_>, out: &mut W) -> io::Result<()> {
+    let mut file = [0u8; FILE_BYTES];
+    let Some(file) = read(fields, &mut file) else {
+        return playing::put_bad(out);
+    };
+    let read = settings_file::read_file(file);
+    if read.number != 0 {
+        return playing::put_number(out, read.number);
     }
-    let read = settings_line::take(line, version.end);
-    if !read.ok {
-        return playing::put_bad(out, waiting);
-    }
-    let s = read.settings;
-    put_saved(version.value as u16, s, out, waiting)
+    put_numbers(out, &read.settings)?;
+    put_limits(out, &read.settings)?;
+    put_identifiers(out, &read.settings)
 }
 
-// Plays a line that begins with one of these words, and puts its answer. A line that is too long, or was cut for that, is bad by its file or by its identifiers.
-pub fn play(line: &[u8], out: &mut Buffer, waiting: Waiting) -> Waiting {
-    let end = fields::field_end(line, 0);
-    if fields::begins(line, b"save") {
-        return save(line, end, out, waiting);
+// The version and the settings in the fields of a `save`.
+fn read_save(mut fields: Fields<'_>) -> Option<(u16, Settings)> {
+    let version = fields.number(65535)? as u16;
+    let s = settings_line::take(fields)?;
+    Some((version, s))
+}
+
+// Plays a `save` with these fields: puts the answer of the writer to a buffer as long as the file, a refused one's number alone.
+pub fn save<W: Write>(fields: Fields<'_>, out: &mut W) -> io::Result<()> {
+    let Some((version, s)) = read_save(fields) else {
+        return playing::put_bad(out);
+    };
+    let mut file = [0u8; NEW_BYTES];
+    let bytes = if version == 1 { OLD_BYTES } else { NEW_BYTES };
+    let file = &mut file[..bytes];
+    match settings_file::write_file(file, version, s) {
+        0 => writeln!(out, "0 {}", Hex(file)),
+        number => playing::put_number(out, number),
     }
-    read(line, end, out, waiting)
 }

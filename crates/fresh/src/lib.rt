@@ -3,59 +3,52 @@
 #![tactic(auto)]
 
 ghost use Rattle.std.specs.Prelude.{◌≡◌, replicate};
-ghost use Rattle.rules.specs.declared.Sequence.TheVariants.{Nothing};
+ghost use Rattle.std.specs.declared.option.Option.TheVariants.{None};
 ghost use Rattle.rules.specs.Refusals.{refusal};
 ghost use Rattle.rules.specs.Order.{fresh_order};
 ghost use Rattle.rules.specs.Device.{fresh_controller, closed_device, fresh_of};
 ghost use Rattle.calls.specs.Calls.{fresh_change};
+ghost use Rattle.calls.specs.Inner.{changed_by};
 
 use calls::Changed;
-use rules::{Controller, Device, MARK_WORDS, Queue, Sequence, Settings, Tracking};
+use rules::{Controller, Device, MARK_WORDS, Refusal, Settings, Tracking};
 
 // A device of these settings on which nobody is tracked or suspended, no state is under way, and no queue is made.
 fn untracked(s: Settings) -> Device
-    ensures { result ≡ record { settings = s; controllers = replicate 8 fresh_controller; sequence = Nothing } }
+    ensures { result ≡ record { settings = s; controllers = replicate 8 fresh_controller; sequence = None } }
 {
-    let off = Tracking::Off;
-    let none = rules::no_ranges();
-    let queue = Queue::Nothing;
-    let c = Controller {
-        tracking: off,
-        manager: 0,
-        base: 0,
-        suspended: false,
-        ranges: none,
-        queue,
-    };
-    let sequence = Sequence::Nothing;
     Device {
         settings: s,
-        controllers: [c; 8],
-        sequence,
+        controllers: [Controller {
+            tracking: Tracking::Off,
+            manager: 0,
+            base: 0,
+            suspended: false,
+            ranges: rules::no_ranges(),
+            queue: None,
+        }; 8],
+        sequence: None,
     }
 }
 
 // The device of a refused fresh.
-fn closed() -> Device
+pub fn closed() -> Device
     ensures { result ≡ closed_device }
 {
     untracked(settings::no_settings())
 }
 
-// What a fresh answers on marks of so many words, however they are held: the refusal, and the device.
-pub fn made(s: Settings, words: usize) -> Changed
-    ensures { result ≡ record { number = refusal (fresh_order s words); device = fresh_of s words } }
+// What a fresh makes on marks of so many words, however they are held.
+pub fn try_fresh(s: Settings, words: usize) -> Result<Device, Refusal>
+    ensures { changed_by closed_device result ≡ record { number = refusal (fresh_order s words); device = fresh_of s words } }
 {
     if !settings::settings_ok(s) {
-        let device = closed();
-        return Changed { number: 16, device };
+        return Err(Refusal::Settings);
     }
     if words != MARK_WORDS {
-        let device = closed();
-        return Changed { number: 1, device };
+        return Err(Refusal::Unsound);
     }
-    let device = untracked(settings::clean(s));
-    Changed { number: 0, device }
+    Ok(untracked(settings::clean(s)))
 }
 
 // Makes a fresh device from settings: all marks are 0, nobody is tracked or suspended. Refused, in this order: 16 settings that break the rules, 1
@@ -63,10 +56,9 @@ pub fn made(s: Settings, words: usize) -> Changed
 pub fn fresh(s: Settings, marks: &mut [u64]) -> Changed
     ensures { (result ≡ (fresh_change s marks.old).answer) × (marks.new ≡ (fresh_change s marks.old).marks) }
 {
-    let answer = made(s, marks.len());
-    if answer.number != 0 {
-        return answer;
+    let made = try_fresh(s, marks.len());
+    if made.is_ok() {
+        bits::clear_span(marks, 0, 64 * MARK_WORDS);
     }
-    bits::clear_span(marks, 0, 64 * MARK_WORDS);
-    answer
+    calls::changed_by(closed(), made)
 }

@@ -1,172 +1,131 @@
-// Input on its way into lines: where a line ends, what of it is kept, and reading itself. What a line says is nothing to this.
+// Input on its way into lines, and answered line by line. What a line says is nothing to this.
 #![tactic(auto)]
 
-ghost use Rattle.std.specs.Prelude.{◌≡◌, ◌≤◌, length, take};
+ghost use Rattle.std.specs.Prelude.{◌≤◌, ◌≡◌, ◌+◌, length};
 
-use output::{Buffer, Waiting};
-use std::io::Read;
+use std::io;
+use std::io::{Read, Write};
 
-// Where a line ends in some input: at the next line feed, or at the end of the input.
-fn line_end(input: &[u8], from: usize) -> usize
-    requires { from ≤ length input.now }
-    ensures { (from ≤ result) × (result ≤ length input.now) }
-{
-    let mut i = from;
-    while i < input.len() {
-        if input[i] == b'\n' {
-            return i;
-        }
-        i = i + 1;
-    }
-    i
+// The bytes that are read at once, at most.
+const SIZE: usize = 65536;
+
+// The input that was read and is left to take in, `bytes[at..end]`, and where more comes from, unless it is over.
+#[derive(Drop)]
+struct Input<'a, R: Read> {
+    from: &'a mut R,
+    bytes: [u8; SIZE],
+    at: usize,
+    end: usize,
+    over: bool,
+    ghost left: { at ≤ end },
+    ghost within: { end ≤ 65536 },
 }
 
-// Puts bytes behind the `used` bytes of a line that are there, as many as there is room for: a line that fills its buffer is too long already.
-fn put_part(line: &mut [u8], used: usize, part: &[u8]) -> usize
+impl<R: Read> Input<'_, R> {
+    // What is left to take in.
+    fn left(&self) -> &[u8]
+        ensures { self.now.at + length result.now ≡ self.now.end }
+    {
+        &self.bytes[self.at..self.end]
+    }
+
+    // Takes in some of it.
+    fn skip(&mut self, n: usize)
+        requires { self.old.at + n ≤ self.old.end }
+        ensures at { self.new.at ≡ self.old.at + n }
+        ensures end { self.new.end ≡ self.old.end }
+    {
+        self.at += n;
+    }
+
+    // Reads once in place of what is left, and answers whether more came. The input is over where it ends, and where reading fails.
+    fn read(&mut self) -> bool {
+        if !self.over {
+            self.at = 0;
+            self.end = 0;
+            self.end = self.from.read(&mut self.bytes).unwrap_or(0);
+            self.over = self.end == 0;
+        }
+        !self.over
+    }
+}
+
+// What answers lines.
+pub trait Answers {
+    // Answers a line, and writes what it answers.
+    fn answer<W: Write>(&mut self, line: &[u8], out: &mut W) -> io::Result<()>;
+}
+
+// Lines of at most `LINE` bytes: a longer one is cut there.
+#[derive(Drop)]
+pub struct Lines<'a, R: Read, const LINE: usize> {
+    input: Input<'a, R>,
+    line: [u8; LINE],
+}
+
+// Puts bytes behind the `used` bytes of a line that are there, as many as there is room for, and answers how many are there now.
+fn append(line: &mut [u8], used: usize, part: &[u8]) -> usize
     requires { used ≤ length line.old }
     ensures { result ≤ length line.old }
 {
-    let mut n = line.len() - used;
-    if part.len() < n {
-        n = part.len();
-    }
-    let mut i: usize = 0;
-    while i < n {
-        line[used + i] = part[i];
-        i = i + 1;
-    }
+    let room = &mut line[used..];
+    let n = part.len().min(room.len());
+    room[..n].copy_from_slice(&part[..n]);
     used + n
 }
 
-// After a part of some input was taken in: the place behind it, how many bytes of a line are there, and whether they are a whole line.
-#[derive(Clone, Copy)]
-pub struct Taken {
-    pub at: usize,
-    pub used: usize,
-    pub whole: bool,
-}
-
-// Takes in the input from `at` to the next line feed, behind the `used` bytes of a line that are there. With no input left, what is there is the last line; an
-// empty rest is none.
-pub fn take_in(line: &mut [u8], used: usize, input: &[u8], at: usize) -> Taken
-    requires { used ≤ length line.old }
-    ensures { result.used ≤ length line.old }
-{
-    if input.len() <= at {
-        return Taken {
-            at,
-            used,
-            whole: 0 < used,
-        };
+impl<'a, R: Read, const LINE: usize> Lines<'a, R, LINE> {
+    // The lines that this reader gives.
+    pub fn new(from: &'a mut R) -> Lines<'a, R, LINE> {
+        Lines {
+            input: Input {
+                from,
+                bytes: [0; SIZE],
+                at: 0,
+                end: 0,
+                over: false,
+            },
+            line: [0; LINE],
+        }
     }
-    let end = line_end(input, at);
-    let used = put_part(line, used, &input[at..end]);
-    if end < input.len() {
-        return Taken {
-            at: end + 1,
-            used,
-            whole: true,
-        };
+
+    // The next line without its line feed, or none where the input is over: a rest that has no line feed is the last line. What was written is flushed before more
+    // input is waited for.
+    pub fn next_line<W: Write>(&mut self, out: &mut W) -> io::Result<Option<&[u8]>> {
+        let line = self.line.as_mut_slice();
+        let mut used = 0;
+        for _ in 0..u64::MAX {
+            if self.input.left().is_empty() {
+                out.flush()?;
+                if !self.input.read() {
+                    return Ok(if used == 0 { None } else { Some(&line[..used]) });
+                }
+            }
+            let left = self.input.left();
+            match left.iter().position(|b| *b == b'\n') {
+                Some(n) => {
+                    used = append(line, used, &left[..n]);
+                    self.input.skip(n + 1);
+                    return Ok(Some(&line[..used]));
+                }
+                None => {
+                    used = append(line, used, left);
+                    let n = left.len();
+                    self.input.skip(n);
+                }
+            }
+        }
+        Ok(None)
     }
-    Taken {
-        at: end,
-        used,
-        whole: false,
-    }
-}
 
-// Reads once, and answers how many bytes came: 0 at the end of the input, and where reading fails.
-pub fn read_some<R: Read>(from: &mut R, input: &mut [u8]) -> usize
-    ensures { (result ≤ length input.new) × (result ≡ length (take result input.new)) }
-{
-    match from.read(input) {
-        Ok(n) => n,
-        Err(_) => 0,
-    }
-}
-
-// The input that is left to take in, from a place to an end. Where it ends with 0 there is none any more.
-#[derive(Clone, Copy)]
-struct Left {
-    at: usize,
-    end: usize,
-}
-
-// The input that is left, or more of it, read from this reader, where none is.
-fn refill<R: Read>(from: &mut R, input: &mut [u8], at: usize, end: usize) -> Left
-    requires { end ≤ length input.old }
-    ensures { result.end ≤ length input.old }
-{
-    if at < end {
-        return Left { at, end };
-    }
-    let end = read_some(from, input);
-    Left { at: 0, end }
-}
-
-// How far reading is: the input that is left, how many bytes of a line are there, whether they are a whole one, and whether the input is over.
-#[derive(Clone, Copy)]
-pub struct Reading {
-    pub at: usize,
-    pub end: usize,
-    pub used: usize,
-    pub whole: bool,
-    pub over: bool,
-}
-
-// Reading before it begins.
-pub fn begin() -> Reading
-    ensures { (result.end ≡ 0) × (result.used ≡ 0) }
-{
-    Reading {
-        at: 0,
-        end: 0,
-        used: 0,
-        whole: false,
-        over: false,
-    }
-}
-
-// Writes out what was answered where no input is left, before more is waited for.
-pub fn settle(r: Reading, out: &Buffer, waiting: Waiting) -> Waiting {
-    if r.at < r.end {
-        return waiting;
-    }
-    output::flush(out, waiting)
-}
-
-// Whether a program ends: its input is over, or it can't answer any more.
-pub fn ends(r: Reading, waiting: Waiting) -> bool {
-    if r.over {
-        return true;
-    }
-    output::failed(waiting)
-}
-
-// How many bytes of the next line are there: none behind a whole one.
-fn begun(r: Reading) -> usize
-    ensures { result ≤ r.used }
-{
-    if r.whole {
-        return 0;
-    }
-    r.used
-}
-
-// A step of reading lines from this reader: to the next line feed, or to the end of what was read. Where the input is over, a rest is the last line.
-pub fn step<R: Read>(from: &mut R, input: &mut [u8], line: &mut [u8], r: Reading) -> Reading
-    requires { (r.end ≤ length input.old) × (r.used ≤ length line.old) }
-    ensures { (result.end ≤ length input.old) × (result.used ≤ length line.old) }
-{
-    let used = begun(r);
-    let left = refill(from, input, r.at, r.end);
-    let end = left.end;
-    let taken = take_in(line, used, &input[..end], left.at);
-    Reading {
-        at: taken.at,
-        end,
-        used: taken.used,
-        whole: taken.whole,
-        over: end == 0,
+    // Has each line answered, to the end of the input or until writing fails.
+    pub fn answer_all<A: Answers, W: Write>(&mut self, by: &mut A, out: &mut W) -> io::Result<()> {
+        for _ in 0..u64::MAX {
+            let Some(line) = self.next_line(out)? else {
+                break;
+            };
+            by.answer(line, out)?;
+        }
+        Ok(())
     }
 }

@@ -1,6 +1,6 @@
 -- Laws of `gathered`: the loop that reads a line's numbers, and what it comes to. The crate's own. Assumes nothing.
-use Prim.Native.Nat.{ℕ, zero, suc, ◌+◌, ◌-◌, ◌≤◌, ◌<◌}
-use mathlib.Core.Path.{◌≡◌, refl, sym, ap, ◌∙◌}
+use Prim.Native.Nat.{ℕ, zero, suc, ◌+◌, ◌≤◌, ◌<◌}
+use mathlib.Core.Path.{◌≡◌, refl, sym, ap}
 use mathlib.Core.Bool.{Bool, true, false, ◌&&◌, cond}
 use mathlib.Core.List.{List, [], ◌∷◌, map}
 use native.Mathlib.Nat.{add-zero}
@@ -8,83 +8,54 @@ use native.Mathlib.Numerals.{add-one}
 use native.Mathlib.Omega.{arith}
 use borrow.Author.Tests.{lt-ltb, le-ltb, ltb-true, ltb-false}
 use lib.Dec.{ltb}
-use lib.ListN.{length, get_or, take, drop, set, length-drop}
-use lib.Seq.{drop-drop}
+use lib.ListN.{length, get_or, set}
 use Rattle.little.specs.Little.{put}
 use Rattle.little.proofs.Put.{put-cons, put-nil}
 use Rattle.rules.proofs.ListLaws.{and_left, and_right}
-use Rattle.fields.specs.Fields.{first_field, later_fields, value, is_number, number_of}
+use Rattle.fields.specs.Fields.{value, is_number, number_of}
 use Rattle.listing.specs.Listing.{most_at, fitting}
 use Rattle.listing.specs.Inner.{Reading, gathered}
-use Rattle.fields.specs.declared.Number.{Number}
-use Rattle.fields.specs.declared.Number.TheVariants.{Is, None}
-use Rattle.listing.specs.declared.Numbers.{Numbers}
+use Rattle.std.proofs.Common.{Option, Some, None}
 use Rattle.listing.specs.declared.Word.{Word}
-use Rattle.fields.proofs.FieldLaws.{first_field-length, first_field-take, first_field-stop, later_fields-skip, later_fields-at, later_fields-over}
 use Rattle.fields.proofs.NumberLaws.{number-none, number_is, number-value, is_number-fits}
-
--- ---- the field between two places of a line
-
-module _ (s : List ℕ) (from to : ℕ) (e : to ≡ from + length (first_field (drop from s))) where
-  pub field-part : take (to - from) (drop from s) ≡ first_field (drop from s)
-  field-part = let n : to - from ≡ length (first_field (drop from s)) = omega arith in rw n (first_field-take (drop from s))
-
-  pub field-least : from ≤ to
-  field-least = omega arith
-
-  pub field-most : from ≤ length s → to ≤ length s
-  field-most h = omega (arith, first_field-length (drop from s), length-drop from s)
-
-  pub field_next : first_field (drop to s) ≡ []
-  field_next = rw (e, ← drop-drop (length (first_field (drop from s))) from s) (first_field-stop (drop from s))
-
-  pub fields-next : later_fields (drop from s) ≡ later_fields (drop to s)
-  fields-next = rw (e, ← drop-drop (length (first_field (drop from s))) from s) (later_fields-skip (drop from s))
 
 -- ---- the loop
 
 -- an answer and places that a reading answers and leaves
-abbrev pub Leaves : Numbers → List ℕ → Reading → Type 0
+abbrev pub Leaves : Option ℕ → List ℕ → Reading → Type 0
 Leaves r a whole = (r ≡ whole.answer) × (a ≡ whole.values)
 
-leaves : (r : Numbers) (a : List ℕ) (whole : Reading) → (record { answer = r; values = a }) ≡ whole → Leaves r a whole
+leaves : (r : Option ℕ) (a : List ℕ) (whole : Reading) → (record { answer = r; values = a }) ≡ whole → Leaves r a whole
 leaves r a whole e = (ap (λ (x : Reading). x.answer) e, ap (λ (x : Reading). x.values) e)
 
-module _ (w : Word) (s : List ℕ) (i at : ℕ) (a : List ℕ) (whole : Reading) (inv : gathered w i a (later_fields (drop at s)) ≡ whole) where
-  pub gathered-over : length s ≤ at → Leaves (record { ok = true; count = i }) a whole
+module _ (w : Word) (i : ℕ) (a : List ℕ) (whole : Reading) where
+  pub gathered-over : gathered w i a [] ≡ whole → Leaves (Some i) a whole
   unfolding gathered
-  gathered-over h = leaves _ _ _ (rw (later_fields-over s at h) at inv)
+  gathered-over inv = leaves _ _ _ inv
 
-  module _ (h : at < length s) (stop : first_field (drop at s) ≡ []) where
-    pub gathered-many : 34 ≤ i → Leaves (record { ok = false; count = i }) a whole
+  module _ (f : List ℕ) (fs : List (List ℕ)) (inv : gathered w i a (f ∷ fs) ≡ whole) where
+    pub gathered-many : 34 ≤ i → Leaves None a whole
     unfolding gathered
-    gathered-many many = leaves _ _ _ (rw (later_fields-at s at h stop, le-ltb i 34 many) at inv)
+    gathered-many many = leaves _ _ _ (rw (le-ltb i 34 many) at inv)
 
-    module _ (to m : ℕ) (r : Number) (e : to ≡ at + 1 + length (first_field (drop (at + 1) s))) (few : i < 34) (most : m ≡ most_at w i)
-        (told : r ≡ number_of m (take (to - (at + 1)) (drop (at + 1) s))) where
-      said : r ≡ number_of (most_at w i) (first_field (drop (at + 1) s))
-      said = rw (field-part s (at + 1) to e, most) at told
-
-      pub gathered_none : r ≡ None → Leaves (record { ok = false; count = i }) a whole
+    module _ (m : ℕ) (few : i < 34) (most : m ≡ most_at w i) where
+      pub gathered_none : None ≡ number_of m f → Leaves None a whole
       unfolding gathered
-      gathered_none n =
-          let q = number-none (most_at w i) (first_field (drop (at + 1) s)) (sym said ∙ n) in
-          leaves _ _ _ (rw (later_fields-at s at h stop, lt-ltb i 34 few, q) at inv)
+      gathered_none n = leaves _ _ _ (rw (lt-ltb i 34 few, number-none (most_at w i) f (rw most at (sym n))) at inv)
 
-      pub gathered-again : (v : ℕ) → r ≡ Is v → gathered w (i + 1) (set a i v) (later_fields (drop to s)) ≡ whole
+      pub gathered-again : (v : ℕ) → Some v ≡ number_of m f → gathered w (i + 1) (set a i v) fs ≡ whole
       unfolding gathered
       gathered-again v n =
-          let q = number_is (most_at w i) (first_field (drop (at + 1) s)) v (sym said ∙ n) in
-          let u = number-value (most_at w i) (first_field (drop (at + 1) s)) v (sym said ∙ n) in
-          rw (u, ← fields-next s (at + 1) to e) (rw (later_fields-at s at h stop, lt-ltb i 34 few, q) at inv)
+          let e = rw most at (sym n) in
+          rw (number-value (most_at w i) f v e) (rw (lt-ltb i 34 few, number_is (most_at w i) f v e) at inv)
 
 -- ---- what it comes to
 
 -- the numbers, where there are at most 34 fields and each fits; or that this is not so
-pub data Gathered (w : Word) (i : ℕ) (a : List ℕ) (fs : List (List ℕ)) (r : Numbers) (vs : List ℕ) : Type 0 where
-  all_fit : i + length fs ≤ 34 → fitting w i fs ≡ true → r ≡ (record { ok = true; count = i + length fs }) → vs ≡ put a i (map value fs) → Gathered w i a fs r vs
-  too_many : 34 < i + length fs → r.ok ≡ false → Gathered w i a fs r vs
-  unfit : fitting w i fs ≡ false → r.ok ≡ false → Gathered w i a fs r vs
+pub data Gathered (w : Word) (i : ℕ) (a : List ℕ) (fs : List (List ℕ)) (r : Option ℕ) (vs : List ℕ) : Type 0 where
+  all_fit : i + length fs ≤ 34 → fitting w i fs ≡ true → r ≡ Some (i + length fs) → vs ≡ put a i (map value fs) → Gathered w i a fs r vs
+  too_many : 34 < i + length fs → r ≡ None → Gathered w i a fs r vs
+  unfit : fitting w i fs ≡ false → r ≡ None → Gathered w i a fs r vs
 
 -- of a reading
 abbrev Comes : Word → ℕ → List ℕ → List (List ℕ) → Reading → Type 0
@@ -104,7 +75,7 @@ gathered-cases w i a (f ∷ fs) h = go (ltb i 34) (is_number (most_at w i) f) re
 
     go : (t u : Bool) → ltb i 34 ≡ t → is_number (most_at w i) f ≡ u
         → (i + 1 ≤ 34 → Comes w (i + 1) (set a i (value f)) fs (gathered w (i + 1) (set a i (value f)) fs))
-        → Comes w i a (f ∷ fs) (cond (t && u) (gathered w (i + 1) (set a i (value f)) fs) (record { answer = record { ok = false; count = i }; values = a }))
+        → Comes w i a (f ∷ fs) (cond (t && u) (gathered w (i + 1) (set a i (value f)) fs) (record { answer = None; values = a }))
     go false u p q rest = too_many (omega (arith, ltb-false i 34 p)) refl
     go true false p q rest = unfit (rw q) refl
     go true true p q rest = later _ (rest (omega (arith, ltb-true i 34 p))) q

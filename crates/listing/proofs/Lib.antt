@@ -1,4 +1,5 @@
 mod WordLaws
+mod CallLaws
 mod GatherLaws
 mod LineLaws
 pub mod BoundLaws

@@ -2,18 +2,17 @@
 // Any bytes are met with an answer. Nothing here plays a call.
 #![tactic(auto)]
 
-ghost use Rattle.std.specs.Prelude.{◌≡◌, [], ◌+◌, ◌*◌, ◌≤◌, ◌<◌, length, get_or, drop, replicate};
+ghost use Rattle.std.specs.Prelude.{◌≡◌, [], ◌+◌, ◌*◌, ◌/◌, ◌≤◌, ◌<◌, length, get_or, replicate};
 ghost use Rattle.little.specs.Little.{put, records_at};
 ghost use Rattle.rules.specs.StartData.{placed};
-ghost use Rattle.listing.specs.declared.Word.TheVariants as word;
-ghost use Rattle.fields.specs.Fields.{first_field, later_fields};
-ghost use Rattle.listing.specs.Listing.{word_of, most_at, takes_count, plain_line, pair_at, identifier_at, call_line, line_of};
-ghost use Rattle.listing.specs.Inner.{gathered, Taken};
+ghost use Rattle.listing.specs.Listing.{word_of, most_at, plain_line, pair_at, line_of};
+ghost use Rattle.listing.specs.Inner.{gathered, Fit, taken_line};
 
-use fields::Number;
+use fields::Fields;
 use rules::Range;
 
-// What a line asks for. `Dev` has its number of identifiers last, `Start` its number of pairs: they stand beside the call.
+// What a line asks for. `Dev` has its number of identifiers last, `Start` its number of pairs: they stand beside the call. `Bad` is no None, as it is the
+// listing's own word, and `CallsAre` speaks of `line_of`, which has it.
 #[derive(Clone, Copy)]
 pub enum Call {
     Bad,
@@ -55,7 +54,7 @@ pub struct Line {
     pub ranges: [Range; 16],
 }
 
-// The word that a line starts with.
+// The word that a line starts with. `Other` is no None, as `most_at`, `takes_count` and `call_line` of specs/Listing.antt name it.
 #[derive(Clone, Copy)]
 pub enum Word {
     Dev,
@@ -68,186 +67,91 @@ pub enum Word {
     Other,
 }
 
-// What was read of the numbers after a line's word: whether each field is one that fits, and how many were taken.
-#[derive(Clone, Copy)]
-pub struct Numbers {
-    pub ok: bool,
-    pub count: usize,
-}
-
 // ---- words
 
 // The word that a field is.
+#[tactic(auto, using(crate::proofs::WordLaws::word_of_reads, std::proofs::lemmas::Bool::Decides::nat_tests))]
 fn word_of(field: &[u8]) -> Word
     ensures { result ≡ word_of field.now }
 {
-    if fields::same(field, b"dev") {
-        return Word::Dev;
+    match field {
+        b"dev" => Word::Dev,
+        b"start" => Word::Start,
+        b"stop" => Word::Stop,
+        b"write" => Word::Write,
+        b"recv" => Word::Recv,
+        b"susp" => Word::Susp,
+        b"resume" => Word::Resume,
+        _ => Word::Other,
     }
-    if fields::same(field, b"start") {
-        return Word::Start;
-    }
-    if fields::same(field, b"stop") {
-        return Word::Stop;
-    }
-    if fields::same(field, b"write") {
-        return Word::Write;
-    }
-    if fields::same(field, b"recv") {
-        return Word::Recv;
-    }
-    if fields::same(field, b"susp") {
-        return Word::Susp;
-    }
-    if fields::same(field, b"resume") {
-        return Word::Resume;
-    }
-    Word::Other
 }
 
 // The greatest number that the place `i` after a word takes.
 fn greatest(word: Word, i: usize) -> u64
     ensures { result ≡ most_at word i }
 {
-    match word {
-        Word::Dev => {
-            if i == 1 {
-                return 255;
-            }
-            if i == 2 {
-                return 255;
-            }
-            if i == 3 {
-                return 1;
-            }
-            65535
-        }
-        Word::Start => {
-            if i == 0 {
-                return 65535;
-            }
-            if i == 1 {
-                return 255;
-            }
-            if i % 2 == 0 {
-                return 18446744073709551615;
-            }
-            4294967295
-        }
-        Word::Write => {
-            if i == 0 {
-                return 65535;
-            }
-            18446744073709551615
-        }
-        Word::Recv => {
-            if i == 0 {
-                return 65535;
-            }
-            4096
-        }
-        Word::Susp => {
-            if i == 0 {
-                return 65535;
-            }
-            255
-        }
-        Word::Stop => 65535,
-        Word::Resume => 65535,
-        Word::Other => 0,
+    match (word, i) {
+        (Word::Dev, 0 | 4..) => 65535,
+        (Word::Dev, 1 | 2) => 255,
+        (Word::Dev, 3) => 1,
+        (Word::Start | Word::Write | Word::Recv | Word::Susp, 0) => 65535,
+        (Word::Start, 1) => 255,
+        (Word::Start, 2..) if i % 2 == 0 => u64::MAX,
+        (Word::Start, 2..) => 4294967295,
+        (Word::Write, 1..) => u64::MAX,
+        (Word::Recv, 1..) => 4096,
+        (Word::Susp, 1..) => 255,
+        (Word::Stop | Word::Resume, _) => 65535,
+        (Word::Other, _) => 0,
     }
 }
 
-// Whether a word takes so many numbers.
-fn takes(word: Word, count: usize) -> bool
-    ensures { result ≡ takes_count word count }
+// Puts the numbers that the fields after a word spell into `values`, up to the first that is none, or does not fit, or has no place; how many there are, where
+// each field is a number that fits.
+fn read_numbers(fields: Fields, word: Word, values: &mut [u64; 34]) -> Option<usize>
+    ensures answer { result ≡ (gathered word 0 values.old fields.entry).answer }
+    ensures values { values.new ≡ (gathered word 0 values.old fields.entry).values }
 {
-    match word {
-        Word::Dev => {
-            if count < 5 {
-                return false;
-            }
-            count <= 13
+    let mut count = 0;
+    for field in fields {
+        if count == values.len() {
+            return None;
         }
-        Word::Start => {
-            if count < 2 {
-                return false;
-            }
-            if count % 2 != 0 {
-                return false;
-            }
-            count <= 34
-        }
-        Word::Stop => count == 1,
-        Word::Write => count == 3,
-        Word::Recv => count == 2,
-        Word::Susp => count == 2,
-        Word::Resume => count == 1,
-        Word::Other => false,
+        values[count] = fields::read_number(field, greatest(word, count))?;
+        count += 1;
     }
-}
-
-// Puts the numbers in the fields that follow the one that ends at `end` into `values`, up to the first that is none, or does not fit, or has no place.
-fn read_numbers(line: &[u8], end: usize, word: Word, values: &mut [u64; 34]) -> Numbers
-    requires { (end ≤ length line.now) × (first_field (drop end line.now) ≡ []) }
-    ensures { (result ≡ (gathered word 0 values.old (later_fields (drop end line.now))).answer)
-        × (values.new ≡ (gathered word 0 values.old (later_fields (drop end line.now))).values) }
-{
-    let mut i: usize = 0;
-    let mut at = end;
-    while at < line.len() {
-        if i >= 34 {
-            return Numbers {
-                ok: false,
-                count: i,
-            };
-        }
-        let from = at + 1;
-        let to = fields::field_end(line, from);
-        let Number::Is(v) = fields::read_number(&line[from..to], greatest(word, i)) else {
-            return Numbers {
-                ok: false,
-                count: i,
-            };
-        };
-        values[i] = v;
-        i = i + 1;
-        at = to;
-    }
-    Numbers { ok: true, count: i }
+    Some(count)
 }
 
 // ---- calls
 
-// The first `n` identifiers of a `dev`.
-fn identifiers_of(values: &[u64; 34], n: usize) -> [u16; 8]
-    requires { (n ≤ 8) × ((k : _) → k < n → get_or values.now (5 + k) 0 ≤ 65535) }
-    ensures { result ≡ put (replicate 8 0) 0 (records_at identifier_at 1 values.now 5 n) }
+// The identifiers of a `dev`.
+fn identifiers_of(numbers: &[u64]) -> [u16; 8]
+    requires few { length numbers.now ≤ 8 }
+    requires fit { (k : _) → k < length numbers.now → get_or numbers.now k 0 ≤ 65535 }
+    ensures { result ≡ put (replicate 8 0) 0 numbers.now }
 {
-    let mut a = [0u16; 8];
-    let mut i: usize = 0;
-    while i < n {
-        a[i] = values[5 + i] as u16;
-        i = i + 1;
+    let mut identifiers = [0; 8];
+    for (i, number) in numbers.iter().enumerate() {
+        identifiers[i] = *number as u16;
     }
-    a
+    identifiers
 }
 
-// The first `n` pairs of a `start`.
-fn ranges_of(values: &[u64; 34], n: usize) -> [Range; 16]
-    requires { (n ≤ 16) × ((k : _) → k < n → get_or values.now (2 + 2 * k + 1) 0 ≤ 4294967295) }
-    ensures { result ≡ placed (records_at pair_at 2 values.now 2 n) }
+// The pairs of a `start`.
+fn ranges_of(numbers: &[u64]) -> [Range; 16]
+    requires few { length numbers.now ≤ 32 }
+    requires fit { (k : _) → k < length numbers.now / 2 → get_or numbers.now (2 * k + 1) 0 ≤ 4294967295 }
+    ensures { result ≡ placed (records_at pair_at 2 numbers.now 0 (length numbers.now / 2)) }
 {
-    let mut a = rules::no_ranges();
-    let mut i: usize = 0;
-    while i < n {
-        let at = 2 + 2 * i;
-        let start = values[at];
-        let length = values[at + 1] as u32;
-        a[i] = Range { start, length };
-        i = i + 1;
+    let mut ranges = rules::no_ranges();
+    for i in 0..numbers.len() / 2 {
+        ranges[i] = Range {
+            start: numbers[2 * i],
+            length: numbers[2 * i + 1] as u32,
+        };
     }
-    a
+    ranges
 }
 
 // A line with a call that neither lists identifiers nor pairs.
@@ -261,88 +165,55 @@ fn plain(call: Call) -> Line
     }
 }
 
-// A `dev` with its numbers.
-fn dev_line(values: &[u64; 34], count: usize) -> Line
-    requires { Taken word.Dev count values.now }
-    ensures { result ≡ call_line word.Dev count values.now }
+// The line of a word with its numbers, if it takes so many.
+fn line_of(word: Word, numbers: &[u64]) -> Line
+    requires { Fit word numbers.now }
+    ensures { result ≡ taken_line word numbers.now }
 {
-    let n = count - 5;
-    let identifiers = identifiers_of(values, n);
-    let manager = values[0] as u16;
-    let least = values[1] as u8;
-    let greatest = values[2] as u8;
-    let powers = values[3] == 1;
-    let limit = values[4] as u16;
-    let call = Call::Dev {
-        manager,
-        least,
-        greatest,
-        powers,
-        limit,
-        count: n,
-    };
-    let ranges = rules::no_ranges();
-    Line {
-        call,
-        identifiers,
-        ranges,
-    }
-}
-
-// A `start` with its numbers.
-fn start_line(values: &[u64; 34], count: usize) -> Line
-    requires { Taken word.Start count values.now }
-    ensures { result ≡ call_line word.Start count values.now }
-{
-    let n = (count - 2) / 2;
-    let ranges = ranges_of(values, n);
-    let id = values[0] as u16;
-    let granularity = values[1] as u8;
-    let call = Call::Start {
-        id,
-        granularity,
-        count: n,
-    };
-    Line {
-        call,
-        identifiers: [0; 8],
-        ranges,
-    }
-}
-
-// The line of a word with its numbers.
-fn line_of(word: Word, count: usize, values: &[u64; 34]) -> Line
-    requires { Taken word count values.now }
-    ensures { result ≡ call_line word count values.now }
-{
-    match word {
-        Word::Dev => dev_line(values, count),
-        Word::Start => start_line(values, count),
-        Word::Stop => {
-            let id = values[0] as u16;
-            plain(Call::Stop(id))
+    match (word, numbers) {
+        (Word::Dev, [manager, least, greatest, powers, limit, identifiers @ ..])
+            if identifiers.len() <= 8 => {
+            Line {
+                call: Call::Dev {
+                    manager: *manager as u16,
+                    least: *least as u8,
+                    greatest: *greatest as u8,
+                    powers: *powers == 1,
+                    limit: *limit as u16,
+                    count: identifiers.len(),
+                },
+                identifiers: identifiers_of(identifiers),
+                ranges: rules::no_ranges(),
+            }
         }
-        Word::Write => {
-            let id = values[0] as u16;
-            let address = values[1];
-            let bytes = values[2];
-            plain(Call::Write { id, address, bytes })
-        }
-        Word::Recv => {
-            let id = values[0] as u16;
-            let size = values[1] as usize;
-            plain(Call::Recv { id, size })
-        }
-        Word::Susp => {
-            let id = values[0] as u16;
-            let kind = values[1] as u8;
-            plain(Call::Susp { id, kind })
-        }
-        Word::Resume => {
-            let id = values[0] as u16;
-            plain(Call::Resume(id))
-        }
-        Word::Other => plain(Call::Bad),
+        (Word::Start, [id, granularity, pairs @ ..]) if pairs.len() <= 32 && pairs.len() % 2 == 0 =>
+            {
+                Line {
+                    call: Call::Start {
+                        id: *id as u16,
+                        granularity: *granularity as u8,
+                        count: pairs.len() / 2,
+                    },
+                    identifiers: [0; 8],
+                    ranges: ranges_of(pairs),
+                }
+            }
+        (Word::Stop, [id]) => plain(Call::Stop(*id as u16)),
+        (Word::Write, [id, address, bytes]) => plain(Call::Write {
+            id: *id as u16,
+            address: *address,
+            bytes: *bytes,
+        }),
+        (Word::Recv, [id, size]) => plain(Call::Recv {
+            id: *id as u16,
+            size: *size as usize,
+        }),
+        (Word::Susp, [id, kind]) => plain(Call::Susp {
+            id: *id as u16,
+            kind: *kind as u8,
+        }),
+        (Word::Resume, [id]) => plain(Call::Resume(*id as u16)),
+        _ => plain(Call::Bad),
     }
 }
 
@@ -354,16 +225,11 @@ pub fn read_line(line: &[u8]) -> Line
     if line.len() > 1023 {
         return plain(Call::Bad);
     }
-    let end = fields::field_end(line, 0);
-    let word = word_of(&line[..end]);
-    let mut values = [0u64; 34];
-    let read = read_numbers(line, end, word, &mut values);
-    if !read.ok {
-        return plain(Call::Bad);
+    let (first, fields) = fields::split(line);
+    let word = word_of(first);
+    let mut values = [0; 34];
+    match read_numbers(fields, word, &mut values) {
+        Some(count) => line_of(word, &values[..count]),
+        None => plain(Call::Bad),
     }
-    let count = read.count;
-    if !takes(word, count) {
-        return plain(Call::Bad);
-    }
-    line_of(word, count, &values)
 }

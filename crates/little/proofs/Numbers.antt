@@ -1,10 +1,10 @@
 -- Laws of `number_at` and `number_bytes`, each for every width: how a number is made of parts, both round trips, numbers in a buffer.
 -- All but `number_at-cons` and `number_at-nil` is the library's interface. Assumes nothing.
-use Prim.Native.Nat.{ℕ, zero, suc, ◌+◌, ◌-◌, ◌*◌, ◌/◌, ◌%◌, ◌^◌, ◌≤◌, ◌<◌}
+use Prim.Native.Nat.{ℕ, zero, suc, ◌+◌, ◌*◌, ◌/◌, ◌%◌, ◌^◌, ◌≤◌, ◌<◌}
 use mathlib.Core.Path.{◌≡◌, refl, sym, ap, ◌∙◌}
 use mathlib.Core.List.{List, [], ◌∷◌, ◌++◌}
-use native.Mathlib.Nat.{zero-add, suc-add, add-zero, add-suc, pow-zero, pow-suc, pow-succ', one-mul, mul_assoc, mod-one, div-one, div-div-eq-div-mul, mod-eq_of_lt}
-use native.Mathlib.Numerals.{add-one, sub-one}
+use native.Mathlib.Nat.{zero-add, suc-add, add-zero, add-suc, pow-zero, pow-suc, pow-succ', one-mul, mul_assoc, mod-one, div-one, div-div-eq-div-mul, mod-eq_of_lt, pow-le-pow_right}
+use native.Mathlib.Numerals.{add-one}
 use native.Mathlib.Omega.{arith}
 use lib.ListN.{length, get_or, take, drop, set}
 use lib.Seq.{drop-cons, drop-drop, drop_at}
@@ -98,6 +98,12 @@ module _ (s : List ℕ) (bytes : (k : ℕ) → get_or s k 0 < 256) where
   number_at-bound at zero = rw pow-zero (omega arith)
   number_at-bound at (suc width) = rw pow-succ' (omega (arith, number_at-bound (suc at) width, bytes at))
 
+  -- fewer than 8 bytes leave room for one more below them
+  pub number_at-room : (at width : ℕ) → width ≤ 7 → number_at s at width < 2 ^ 56
+  number_at-room at width few =
+      let most : 256 ^ width ≤ 256 ^ 7 = pow-le-pow_right (lit< tt) few in
+      omega (arith, number_at-bound at width)
+
 -- ---- numbers in a buffer
 
 -- a number that is stored is read back, and one that stands apart from a store is as it was
@@ -123,12 +129,21 @@ pub put-number : (l : List ℕ) (at width v : ℕ) (b : List ℕ) → put l at (
 put-number l at width v b = rw (put-append, number_bytes-length)
 
 -- a turn of the loop that stores a number, and its end
-pub put-number-turn : (l : List ℕ) (i n v : ℕ) → 0 < n → put (set l i (v % 256)) (i + 1) (number_bytes (n - 1) (v / 256)) ≡ put l i (number_bytes n v)
+pub put-number-turn : (l : List ℕ) (i j m n v : ℕ) → j ≡ i + 1 → n ≡ m + 1 → put (set l i (v % 256)) j (number_bytes m (v / 256)) ≡ put l i (number_bytes n v)
 unfolding number_bytes put
-put-number-turn l i zero v h = absurd (omega arith)
-put-number-turn l i (suc n) v h = rw (add-one, sub-one)
+put-number-turn l i j m n v e q = rw (e, q, add-one i, add-one m)
 
 pub put-number-end : (l : List ℕ) (i n v : ℕ) → n ≤ 0 → put l i (number_bytes n v) ≡ l
 unfolding number_bytes put
 put-number-end l i zero v h = refl
 put-number-end l i (suc n) v h = absurd (omega arith)
+
+-- the start of the loop that reads one, and a turn, from its highest byte down
+pub number_at-none : (s : List ℕ) (at width : ℕ) → width ≤ 0 → 0 ≡ number_at s at width
+unfolding number_at
+number_at-none s at zero h = refl
+number_at-none s at (suc width) h = absurd (omega arith)
+
+pub number_at-turn : (s : List ℕ) (at j m n v : ℕ) → j ≡ at + 1 → n ≡ m + 1 → v ≡ number_at s j m → 256 * v + get_or s at 0 ≡ number_at s at n
+unfolding number_at
+number_at-turn s at j m n v e q f = rw (q, add-one m, f, e, add-one at) (omega arith)

@@ -5,8 +5,9 @@ use mathlib.Core.Path.{◌≡◌, refl, sym, ap, ◌∙◌}
 use mathlib.Core.List.{List, [], ◌∷◌, ◌++◌, append_assoc}
 use native.Mathlib.Nat.{zero-add, suc-add, add-zero, add-suc}
 use native.Mathlib.Omega.{arith}
+use borrow.Rule.Slice.PartMut.{put_mid}
 use lib.ListN.{length, get_or, take, drop, set, get_or-append}
-use lib.Seq.{sets-eq, length-sets, set_comm, drop_at, take_at, take-set-le, drop-set-lt, get_or-take, get_or-drop, length-take-le}
+use lib.Seq.{sets-eq, length-sets, set_comm, drop_at, take_at, drop-drop, take-set-le, drop-set-lt, get_or-take, get_or-drop, length-take-le}
 use Rattle.little.specs.Little.{put}
 
 module _ {ℓ} {A : Type ℓ} where
@@ -92,3 +93,7 @@ module _ {ℓ} {A : Type ℓ} where
   pub put_front : (l : List A) (n : ℕ) (a b : List A) → length a ≡ n → put (put l n b) 0 a ≡ put l 0 (a ++ b)
   put_front l n a b e =
       put-swap l 0 n a b (omega arith) ∙ ap (λ (k : ℕ). put (put l 0 a) k b) (sym e ∙ sym (zero-add (length a))) ∙ sym (put-append l 0 a b)
+
+-- what a copy to `l[at..at + k]` leaves of l, where the part holds `vs` after it
+pub put_mid-put : {A : Type 0} (l : List A) (at k : ℕ) (vs : List A) → length vs ≡ k → at + k ≤ length l → put_mid at k l vs ≡ put l at vs
+put_mid-put l at k vs e fits = sym (rw (put_is l at vs (omega arith), append_assoc, e, ← drop-drop k at l))

@@ -1,14 +1,14 @@
 -- Laws of `records` and `records_at`, for things of any type: where each record stands, the loops that write and that read them, both round trips.
 -- A law that ends in `-again` or `-done` is the one before it as `search` wants it in a loop's proof: its premises have the shape of what is known there,
 -- the invariant among them. All but `next` is the library's interface. Assumes nothing.
-use Prim.Native.Nat.{ℕ, zero, suc, ◌+◌, ◌-◌, ◌*◌, ◌≤◌, ◌<◌, min}
+use Prim.Native.Nat.{ℕ, zero, suc, ◌+◌, ◌-◌, ◌*◌, ◌≤◌, ◌<◌}
 use mathlib.Core.Path.{◌≡◌, refl, sym, ap, ◌∙◌}
 use mathlib.Core.List.{List, [], ◌∷◌, ◌++◌, append-nil, append_assoc}
 use native.Mathlib.Nat.{add-zero, add_comm, add_assoc, mul-zero, mul-suc, sub-zero}
 use native.Mathlib.Numerals.{add-one}
 use native.Mathlib.Omega.{arith}
-use lib.ListN.{length, get_or, take, drop, set, length-append, length-take, drop_of_length-le}
-use lib.Seq.{drop-cons, drop-drop, drop_at, drop-nil, take-add, take_at, take-nil, get_or-take, ext_get_or, drop-append_seam}
+use lib.ListN.{length, get_or, take, drop, set, length-append, drop_of_length-le}
+use lib.Seq.{drop-cons, drop-drop, drop_at, drop-nil, take-add, take_at, take-nil, ext_get_or, drop-append_seam}
 use Rattle.little.specs.Little.{put, records, records_at}
 use Rattle.little.proofs.Put.{put-append, put-cons, put-nil}
 
@@ -36,15 +36,9 @@ module _ {A : Type 0} (f : A → List ℕ) where
   records-append [] ys = refl
   records-append (x ∷ xs) ys = rw (records-append xs ys, append_assoc)
 
-  -- the end of a loop that writes the first n of xs
-  pub records-end : (xs : List A) (l : List ℕ) (at i n : ℕ) → min n (length xs) ≤ i → put l at (records f (drop i (take n xs))) ≡ l
-  records-end xs l at i n h =
-      let past : length (take n xs) ≤ i = omega (arith, length-take n xs) in
-      let none : drop i (take n xs) ≡ [] = drop_of_length-le (take n xs) past in
-      rw (none, records-nil) (put-nil l at)
-
-  pub records-done : (xs : List A) (l whole : List ℕ) (at i n : ℕ) → n ≤ i → put l at (records f (drop i (take n xs))) ≡ whole → l ≡ whole
-  records-done xs l whole at i n h inv = sym (records-end xs l at i n (omega arith)) ∙ inv
+  -- the end of a loop that writes xs
+  pub records-done : (xs : List A) (l whole : List ℕ) (at i : ℕ) → length xs ≤ i → put l at (records f (drop i xs)) ≡ whole → l ≡ whole
+  records-done xs l whole at i h inv = sym (rw (drop_of_length-le xs h, records-nil) (put-nil l at)) ∙ inv
 
 -- records of w bytes each
 module _ {A : Type 0} (f : A → List ℕ) (w : ℕ) (size : (x : A) → length (f x) ≡ w) where
@@ -88,17 +82,12 @@ module _ {A : Type 0} (f : A → List ℕ) (w : ℕ) (size : (x : A) → length 
       → drop (at + w * i) s ≡ f (get_or xs i d) ++ (records f (drop (i + 1) xs) ++ q)
   records-here s q at xs i d h e = rw (← drop-drop (w * i) at s, e) (records-at xs q i d h)
 
-  -- a turn of a loop that writes the first n of xs: the i-th is stored at `at`, the others are left
-  pub records-turn : (d : A) (xs : List A) (l : List ℕ) (at i n : ℕ) → i < n → i < length xs
-      → put (put l at (f (get_or xs i d))) (at + w) (records f (drop (i + 1) (take n xs))) ≡ put l at (records f (drop i (take n xs)))
-  records-turn d xs l at i n h k =
-      let there : i < length (take n xs) = omega (arith, length-take n xs) in
-      rw (drop-cons (take n xs) i d there, get_or-take n xs i d h, records-cons, put-append, size, add-one)
-
-  -- the same, with n at most the array's length
-  pub records-again : (d : A) (xs : List A) (l l' whole : List ℕ) (at i n : ℕ) → i < n → n ≤ length xs → l' ≡ put l at (f (get_or xs i d))
-      → put l at (records f (drop i (take n xs))) ≡ whole → put l' (at + w) (records f (drop (i + 1) (take n xs))) ≡ whole
-  records-again d xs l l' whole at i n h k e inv = rw e (records-turn d xs l at i n h (omega arith) ∙ inv)
+  -- a turn of a loop that writes xs from `at` on: the i-th is stored, the others are left
+  pub records-again : (d : A) (xs : List A) (l l' whole : List ℕ) (at i : ℕ) → i < length xs → l' ≡ put l (at + w * i) (f (get_or xs i d))
+      → put l (at + w * i) (records f (drop i xs)) ≡ whole → put l' (at + w * (i + 1)) (records f (drop (i + 1) xs)) ≡ whole
+  records-again d xs l l' whole at i h e inv =
+      let step : at + w * (i + 1) ≡ at + w * i + w = omega arith in
+      rw (e, step) (sym (rw (drop-cons xs i d h, records-cons, put-append, size, add-one)) ∙ inv)
 
   -- one record more after those that are there
   pub records-snoc : (xs : List A) (x : A) (l : List ℕ) (at : ℕ) → put (put l at (records f xs)) (at + w * length xs) (f x) ≡ put l at (records f (xs ++ x ∷ []))

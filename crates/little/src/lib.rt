@@ -1,46 +1,120 @@
-// Little-endian numbers of 1, 2, 4 and 8 bytes, read from and written to lent bytes.
+// Little-endian numbers, read from and written to lent bytes: a u8, u16, u32 or u64, or one of any number of bytes.
 // Each function's index is its caller's to keep: the bytes asked for lie in the slice. A writer leaves every other byte as it was.
 #![tactic(auto)]
 
-ghost use Rattle.std.specs.Prelude.{◌≡◌, ◌+◌, ◌≤◌, length};
+ghost use Rattle.std.specs.Prelude.{◌≡◌, ℕ, ◌+◌, ◌^◌, ◌<◌, ◌≤◌, length};
+ghost use Rattle.std.proofs.Common.{rules};
 ghost use Rattle.little.specs.Little.{number_at, number_bytes, put};
 
-// The byte at index `at`.
-pub fn read_u8(s: &[u8], at: usize) -> u8
-    requires { at + 1 ≤ length s.now }
-    ensures { result ≡ number_at s.now at 1 }
-{
-    s[at]
+// An unsigned number that is stored in so many bytes.
+pub trait Number: Copy {
+    const BYTES: usize;
+
+    ghost BYTES: { ℕ };
+
+    ghost value: { Self → ℕ };
+
+    // The number that `v` is, which has no more bytes.
+    fn of(v: u64) -> Self
+        requires { v < 256 ^ BYTES }
+        ensures { value result ≡ v };
+
+    fn wide(self) -> u64
+        ensures { result ≡ value self };
+
+    ghost few: { BYTES ≤ 8 };
 }
 
-// The number in the 2 bytes from index `at` on.
-pub fn read_u16(s: &[u8], at: usize) -> u16
-    requires { at + 2 ≤ length s.now }
-    ensures { result ≡ number_at s.now at 2 }
-{
-    let low = read_u8(s, at);
-    let high = read_u8(s, at + 1);
-    (low as u16) + 256 * (high as u16)
+impl Number for u8 {
+    const BYTES: usize = 1;
+
+    ghost BYTES = { 1 };
+
+    ghost value = { λ v. v };
+
+    ghost few = { Prim.search rules };
+
+    fn of(v: u64) -> u8 {
+        v as u8
+    }
+
+    fn wide(self) -> u64 {
+        self as u64
+    }
 }
 
-// The number in the 4 bytes from index `at` on.
-pub fn read_u32(s: &[u8], at: usize) -> u32
-    requires { at + 4 ≤ length s.now }
-    ensures { result ≡ number_at s.now at 4 }
-{
-    let low = read_u16(s, at);
-    let high = read_u16(s, at + 2);
-    (low as u32) + 65536 * (high as u32)
+impl Number for u16 {
+    const BYTES: usize = 2;
+
+    ghost BYTES = { 2 };
+
+    ghost value = { λ v. v };
+
+    ghost few = { Prim.search rules };
+
+    fn of(v: u64) -> u16 {
+        v as u16
+    }
+
+    fn wide(self) -> u64 {
+        self as u64
+    }
 }
 
-// The number in the 8 bytes from index `at` on.
-pub fn read_u64(s: &[u8], at: usize) -> u64
-    requires { at + 8 ≤ length s.now }
-    ensures { result ≡ number_at s.now at 8 }
+impl Number for u32 {
+    const BYTES: usize = 4;
+
+    ghost BYTES = { 4 };
+
+    ghost value = { λ v. v };
+
+    ghost few = { Prim.search rules };
+
+    fn of(v: u64) -> u32 {
+        v as u32
+    }
+
+    fn wide(self) -> u64 {
+        self as u64
+    }
+}
+
+impl Number for u64 {
+    const BYTES: usize = 8;
+
+    ghost BYTES = { 8 };
+
+    ghost value = { λ v. v };
+
+    ghost few = { Prim.search rules };
+
+    fn of(v: u64) -> u64 {
+        v
+    }
+
+    fn wide(self) -> u64 {
+        self
+    }
+}
+
+// The number in the `width` bytes from index `at` on, at most 8.
+fn read_number(s: &[u8], at: usize, width: usize) -> u64
+    requires { (at + width ≤ length s.now) × (width ≤ 8) }
+    ensures { result ≡ number_at s.now at width }
 {
-    let low = read_u32(s, at);
-    let high = read_u32(s, at + 4);
-    (low as u64) + 4294967296 * (high as u64)
+    let mut v: u64 = 0;
+    for i in (0..width).rev() {
+        v = 256 * v + (s[at + i] as u64);
+    }
+    v
+}
+
+// The number in its bytes from index `at` on.
+pub fn read<N: Number>(s: &[u8], at: usize) -> N
+    requires { at + N.BYTES ≤ length s.now }
+    ensures { N.value result ≡ number_at s.now at N.BYTES }
+{
+    N::of(read_number(s, at, N::BYTES))
 }
 
 // Stores the lowest `width` bytes of `v` from index `at` on, lowest first. Past the eighth byte they are zeros.
@@ -48,45 +122,17 @@ pub fn put_number(buf: &mut [u8], at: usize, width: usize, v: u64)
     requires { at + width ≤ length buf.old }
     ensures { buf.new ≡ put buf.old at (number_bytes width v) }
 {
-    let mut i = at;
-    let mut left = width;
     let mut rest = v;
-    while 0 < left {
-        buf[i] = (rest % 256) as u8;
-        rest = rest / 256;
-        i = i + 1;
-        left = left - 1;
+    for i in 0..width {
+        buf[at + i] = (rest % 256) as u8;
+        rest /= 256;
     }
 }
 
-// Stores `v` in the byte at index `at`.
-pub fn put_u8(buf: &mut [u8], at: usize, v: u8)
-    requires { at + 1 ≤ length buf.old }
-    ensures { buf.new ≡ put buf.old at (number_bytes 1 v) }
+// Stores `v` in its bytes from index `at` on.
+pub fn write<N: Number>(buf: &mut [u8], at: usize, v: N)
+    requires { at + N.BYTES ≤ length buf.old }
+    ensures { buf.new ≡ put buf.old at (number_bytes N.BYTES (N.value v)) }
 {
-    put_number(buf, at, 1, v as u64);
-}
-
-// Stores `v` in the 2 bytes from index `at` on.
-pub fn put_u16(buf: &mut [u8], at: usize, v: u16)
-    requires { at + 2 ≤ length buf.old }
-    ensures { buf.new ≡ put buf.old at (number_bytes 2 v) }
-{
-    put_number(buf, at, 2, v as u64);
-}
-
-// Stores `v` in the 4 bytes from index `at` on.
-pub fn put_u32(buf: &mut [u8], at: usize, v: u32)
-    requires { at + 4 ≤ length buf.old }
-    ensures { buf.new ≡ put buf.old at (number_bytes 4 v) }
-{
-    put_number(buf, at, 4, v as u64);
-}
-
-// Stores `v` in the 8 bytes from index `at` on.
-pub fn put_u64(buf: &mut [u8], at: usize, v: u64)
-    requires { at + 8 ≤ length buf.old }
-    ensures { buf.new ≡ put buf.old at (number_bytes 8 v) }
-{
-    put_number(buf, at, 8, v);
+    put_number(buf, at, N::BYTES, v.wide());
 }

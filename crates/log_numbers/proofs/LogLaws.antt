@@ -3,53 +3,41 @@
 use mathlib.Core.Path.{◌≡◌, refl, sym, ap, ◌∙◌}
 use mathlib.Core.Logic.{◌≢◌, inl, inr}
 use mathlib.Core.Bool.{Bool, true, false, ◌&&◌, cond}
-use Prim.Native.Nat.{ℕ, ◌+◌, ◌-◌, ◌^◌, ◌≤◌, ◌<◌}
+use Prim.Native.Nat.{ℕ, ◌+◌, ◌<◌}
 use native.Mathlib.Omega.{arith}
 use lib.ListN.{length, set, length-set}
 use lib.Seq.{get_or-set_same, get_or-set_other}
 use Rattle.rules.specs.Totals.{Shown, known, unknown, is_counted, shown_of}
 use Rattle.rules.specs.Demands.{Passes}
-use Rattle.rules.proofs.TotalLaws.{shown_of-known, shown_of-passed, shown_of-unknown}
+use Rattle.rules.proofs.TotalLaws.{shown_of-passed, shown_of-unknown}
 use Rattle.log_numbers.specs.Log.{showing, added_to, empty_account, totals_at, booked_at}
+use Rattle.std.specs.declared.option.Option.{Option}
 use Rattle.log_numbers.specs.declared.Totals.{Totals}
-use Rattle.log_numbers.specs.declared.Totals.TheVariants.{Known, Unknown}
+use Rattle.std.specs.declared.option.Option.TheVariants.{None, Some}
 use Rattle.log_numbers.specs.declared.Log.{Log}
 
 -- ---- what totals show
 
-abbrev pub shown : Totals → Shown
-shown (Known m r d) = known m r d
-shown Unknown = unknown
+abbrev pub shown : Option Totals → Shown
+shown (Some n) = known n.marked n.reported n.dropped
+shown None = unknown
 
 pub shown-showing : (s : Shown) → shown (showing s) ≡ s
 shown-showing (known m r d) = refl
 shown-showing unknown = refl
 
-pub showing-shown : (t : Totals) → showing (shown t) ≡ t
-showing-shown (Known m r d) = refl
-showing-shown Unknown = refl
+pub showing-shown : (t : Option Totals) → showing (shown t) ≡ t
+showing-shown (Some n) = refl
+showing-shown None = refl
 
 -- ---- the turns of `added`
 
-module _ (t : Totals) (m r d a b c : ℕ) (e : t ≡ Known m r d) where
+module _ (t : Option Totals) (m r d a b c : ℕ) (e : t ≡ Some (record { marked = m; reported = r; dropped = d })) where
   abbrev sums : Shown
   sums = shown_of (m + a) (r + b) (d + c)
 
-  passed : Passes (m + a) (r + b) (d + c) → Unknown ≡ added_to t a b c
+  passed : Passes (m + a) (r + b) (d + c) → None ≡ added_to t a b c
   passed p = rw e (sym (ap showing (shown_of-unknown (m + a) (r + b) (d + c) p)))
-
-  pub added-marked : (2 ^ 64 - 1) - m < a → Unknown ≡ added_to t a b c
-  added-marked h = passed (inl (omega arith))
-
-  pub added-reported : (2 ^ 64 - 1) - r < b → Unknown ≡ added_to t a b c
-  added-reported h = passed (inr (inl (omega arith)))
-
-  pub added-dropped : (2 ^ 64 - 1) - d < c → Unknown ≡ added_to t a b c
-  added-dropped h = passed (inr (inr (omega arith)))
-
-  pub added-all : m < 2 ^ 64 → r < 2 ^ 64 → d < 2 ^ 64 → a ≤ (2 ^ 64 - 1) - m → b ≤ (2 ^ 64 - 1) - r → c ≤ (2 ^ 64 - 1) - d
-      → Known (m + a) (r + b) (d + c) ≡ added_to t a b c
-  added-all f g h x y z = rw e (sym (ap showing (shown_of-known (m + a) (r + b) (d + c) (omega arith) (omega arith) (omega arith))))
 
 -- ---- totals that show what the rules show of three numbers do so of the three with more
 
@@ -74,14 +62,14 @@ module _ (m r d a b c : ℕ) where
       go (known x y z) e = let k = known_is x y z (sym e) in rw (k.0, k.1, k.2)
       go unknown e = sym (ap showing (shown_of-unknown (m + a) (r + b) (d + c) (later (shown_of-passed m r d e))))
 
-  pub added_to-shows : (t : Totals) → shown t ≡ shown_of m r d → shown (added_to t a b c) ≡ shown_of (m + a) (r + b) (d + c)
+  pub added_to-shows : (t : Option Totals) → shown t ≡ shown_of m r d → shown (added_to t a b c) ≡ shown_of (m + a) (r + b) (d + c)
   added_to-shows t e =
       ap (λ x. shown (added_to x a b c)) (sym (showing-shown t) ∙ ap showing e) ∙ ap shown added_to-showing ∙ shown-showing (shown_of (m + a) (r + b) (d + c))
 
 -- ---- an entry in the log
 
 module _ (l : Log) (i a b c : ℕ) where
-  pub booked-is : (x : Totals) → x ≡ added_to (totals_at l i) a b c → record { accounts = set l.accounts i (record { totals = x }) } ≡ booked_at l i a b c
+  pub booked-is : (x : Option Totals) → x ≡ added_to (totals_at l i) a b c → record { accounts = set l.accounts i (record { totals = x }) } ≡ booked_at l i a b c
   booked-is x e = rw e
 
   pub booked_at-length : length (booked_at l i a b c).accounts ≡ length l.accounts

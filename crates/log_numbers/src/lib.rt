@@ -8,17 +8,18 @@ ghost use Rattle.std.specs.Prelude.{◌≡◌, ◌<◌};
 ghost use Rattle.log_numbers.specs.Log.{empty_log, added_to, booked_at};
 ghost use Rattle.log_numbers.specs.Sums.{no_sums, plus_in, summed_with};
 
-// A controller's units newly marked, reported and dropped; or unknown, all three, once one would have passed 2^64 - 1.
+// A controller's units newly marked, reported and dropped.
 #[derive(Clone, Copy)]
-pub enum Totals {
-    Known(u64, u64, u64),
-    Unknown,
+pub struct Totals {
+    pub marked: u64,
+    pub reported: u64,
+    pub dropped: u64,
 }
 
-// A controller's account.
+// A controller's account: its totals; none, as all three are unknown, once one would have passed 2^64 - 1.
 #[derive(Clone, Copy)]
 pub struct Account {
-    pub totals: Totals,
+    pub totals: Option<Totals>,
 }
 
 // The accounts stand in the order of the controllers' identifiers in the settings.
@@ -33,29 +34,32 @@ pub struct Log {
 pub fn empty() -> Log
     ensures { result ≡ empty_log }
 {
-    let totals = Totals::Known(0, 0, 0);
-    let account = Account { totals };
-    let accounts = [account; 8];
-    Log { accounts }
+    let nothing = Totals {
+        marked: 0,
+        reported: 0,
+        dropped: 0,
+    };
+    let account = Account {
+        totals: Some(nothing),
+    };
+    Log {
+        accounts: [account; 8],
+    }
 }
 
 // Totals with so many units more. Where one of the three would pass 2^64 - 1 all are unknown, and they stay so.
-pub fn added(t: Totals, marked: u64, reported: u64, dropped: u64) -> Totals
+pub fn added(t: Option<Totals>, marked: u64, reported: u64, dropped: u64) -> Option<Totals>
     ensures { result ≡ added_to t marked reported dropped }
 {
-    let Totals::Known(m, r, d) = t else {
-        return Totals::Unknown;
-    };
-    if u64::MAX - m < marked {
-        return Totals::Unknown;
-    }
-    if u64::MAX - r < reported {
-        return Totals::Unknown;
-    }
-    if u64::MAX - d < dropped {
-        return Totals::Unknown;
-    }
-    Totals::Known(m + marked, r + reported, d + dropped)
+    let was = t?;
+    let marked = was.marked.checked_add(marked)?;
+    let reported = was.reported.checked_add(reported)?;
+    let dropped = was.dropped.checked_add(dropped)?;
+    Some(Totals {
+        marked,
+        reported,
+        dropped,
+    })
 }
 
 // A log with so many units more in the account at place i. Every other account stays as it was.
@@ -64,8 +68,7 @@ pub fn booked(l: Log, i: usize, marked: u64, reported: u64, dropped: u64) -> Log
     ensures { result ≡ booked_at l i marked reported dropped }
 {
     let was = l.accounts[i];
-    let t = was.totals;
-    let totals = added(t, marked, reported, dropped);
+    let totals = added(was.totals, marked, reported, dropped);
     let mut e = l;
     e.accounts[i] = Account { totals };
     e
@@ -73,64 +76,46 @@ pub fn booked(l: Log, i: usize, marked: u64, reported: u64, dropped: u64) -> Log
 
 // ---- sums over controllers
 
-// A sum over controllers; or unknown, once it holds an unknown or would have passed 2^64 - 1.
-#[derive(Clone, Copy)]
-pub enum Sum {
-    Known(u64),
-    Unknown,
-}
-
-// The sums of the three totals, each by itself.
+// The sums of the three totals, each by itself: none, as it is unknown, once it holds an unknown or would have passed 2^64 - 1.
 #[derive(Clone, Copy)]
 pub struct Sums {
-    pub marked: Sum,
-    pub reported: Sum,
-    pub dropped: Sum,
+    pub marked: Option<u64>,
+    pub reported: Option<u64>,
+    pub dropped: Option<u64>,
 }
 
 // The sums over no controller.
 pub fn no_sums() -> Sums
     ensures { result ≡ no_sums }
 {
-    let zero = Sum::Known(0);
     Sums {
-        marked: zero,
-        reported: zero,
-        dropped: zero,
+        marked: Some(0),
+        reported: Some(0),
+        dropped: Some(0),
     }
 }
 
 // A sum with n more. Where it would pass 2^64 - 1 it is unknown, and it stays so.
-fn plus(s: Sum, n: u64) -> Sum
+fn plus(s: Option<u64>, n: u64) -> Option<u64>
     ensures { result ≡ plus_in s n }
 {
-    let Sum::Known(m) = s else {
-        return Sum::Unknown;
-    };
-    if u64::MAX - m < n {
-        return Sum::Unknown;
-    }
-    Sum::Known(m + n)
+    s?.checked_add(n)
 }
 
 // The sums with one controller's totals more. Totals that are unknown make all three unknown.
-pub fn summed(s: Sums, t: Totals) -> Sums
+pub fn summed(s: Sums, t: Option<Totals>) -> Sums
     ensures { result ≡ summed_with s t }
 {
-    let Totals::Known(m, r, d) = t else {
-        let nothing = Sum::Unknown;
+    let Some(t) = t else {
         return Sums {
-            marked: nothing,
-            reported: nothing,
-            dropped: nothing,
+            marked: None,
+            reported: None,
+            dropped: None,
         };
     };
-    let was_marked = s.marked;
-    let was_reported = s.reported;
-    let was_dropped = s.dropped;
-    let marked = plus(was_marked, m);
-    let reported = plus(was_reported, r);
-    let dropped = plus(was_dropped, d);
+    let marked = plus(s.marked, t.marked);
+    let reported = plus(s.reported, t.reported);
+    let dropped = plus(s.dropped, t.dropped);
     Sums {
         marked,
         reported,

@@ -3,14 +3,14 @@
 use mathlib.Core.Path.{◌≡◌, refl, sym, ap, subst, ◌∙◌}
 use mathlib.Core.Logic.{◌≢◌}
 use mathlib.Core.Bool.{Bool, true, false, ◌&&◌, cond}
-use mathlib.Core.List.{List, [], ◌∷◌}
-use Prim.Native.Nat.{ℕ, ◌+◌, ◌<◌, ◌≤◌, ◌^◌, min}
+use mathlib.Core.List.{List, ◌∷◌}
+use Prim.Native.Nat.{ℕ, ◌+◌, ◌<◌, ◌≤◌, min}
 use native.Mathlib.Numerals.{add-one}
 use native.Mathlib.Omega.{arith}
 use lib.Dec.{ltb, eqb}
-use lib.ListN.{length, get_or, take, drop, length-take}
-use lib.Seq.{drop-cons, drop-length, get_or-take}
-use borrow.Author.Tests.{ltb-false, eqb-true, eqb-false, eq-eqb, ne_eqb}
+use lib.ListN.{length, get_or, take, drop}
+use lib.Seq.{drop-cons, drop-length}
+use borrow.Author.Tests.{ltb-false, eqb-true, eqb-false}
 use Rattle.rules.specs.declared.Device.{Device}
 use Rattle.rules.specs.Refusals.{refusal}
 use Rattle.rules.specs.Settings.{place_of}
@@ -23,8 +23,8 @@ use Rattle.calls.specs.declared.Batched.{Batched}
 use Rattle.calls.specs.Calls.{Engine, Note, write_by, write_in, batch_by}
 use Rattle.booking.specs.Booking.{booked_by, write_log, notes_log, batch_log}
 use Rattle.writes.specs.Inner.{begin_of, is_due, tally_of}
-use Rattle.writes.proofs.BatchLaws.{due-left, due-cut, due-is, tally-cut, tally-done, take-least}
-use Rattle.writes.proofs.Turns.{Sized, no_record, Facts, μ, starts, sound-now, fits_in, nearer, turned, stopped}
+use Rattle.writes.proofs.BatchLaws.{due-refused, due-left, due-cut, due-is, due-over, tally-cut, tally-done, take-least}
+use Rattle.writes.proofs.Turns.{Sized, no_record, Answered, Going, going-refused, going-first, going-over, going-on, going-cut, going-next}
 
 module _ (en : Engine) (d : Device) (m₀ : List ℕ) (l₀ : Log) (rs : List WriteRecord) where
   abbrev n : ℕ
@@ -96,72 +96,54 @@ module _ (en : Engine) (d : Device) (m₀ : List ℕ) (l₀ : Log) (rs : List Wr
   pub books-end : (b : Batched) (m : List ℕ) (l : Log) → is_due b n ≡ false → Books b m l → l ≡ batch_log en l₀ d m₀ rs
   books-end b m l off inv = sym (ap (λ (y : Bool). cond y (notes_log en l d m (drop b.done rs)) l) off) ∙ inv
 
--- ---- the loop over the first `total` of some records, which are held by value
+-- ---- the loop over the list
 
-module _ (en : Engine) (sized : Sized en) (d : Device) (m₀ : List ℕ) (l₀ : Log) (list : List WriteRecord) (total : ℕ) where
-  abbrev rs : List WriteRecord
-  rs = take total list
+module _ (en : Engine) (sized : Sized en) (d : Device) (m₀ : List ℕ) (l₀ : Log) (rs : List WriteRecord) where
+  abbrev pub Logged : Batched → List ℕ → Log → Type 0
+  Logged b m l = Answered en sized d m₀ rs b m × (l ≡ batch_log en l₀ d m₀ rs)
 
-  -- its invariant and its measure
-  pub record Logs (b : Batched) (m : List ℕ) (l : Log) : Type 0 where
-    pub whole : length rs ≡ total
-    pub same : length m ≡ length m₀
-    pub facts : Facts en sized d m₀ rs b m
+  -- its invariant: i notes are done and booked
+  pub record Logs (i : ℕ) (b : Batched) (m : List ℕ) (l : Log) : Type 0 where
+    pub going : Going en sized d m₀ rs i b m
     pub books : Books en d m₀ l₀ rs b m l
 
-  abbrev pub μ-logs : Batched → ℕ
-  μ-logs b = μ en sized d m₀ rs b
+  module _ (b : Batched) (e : b ≡ begin_of d (en.words m₀) (length rs)) where
+    at-first : Books en d m₀ l₀ rs b m₀ l₀
+    at-first = rw e (books-start en d m₀ l₀ rs)
 
-  pub logs-start : (b : Batched) → total ≤ length list → b ≡ begin_of d (en.words m₀) total → Logs b m₀ l₀
-  logs-start b h e =
-      let z : length rs ≡ total = omega (arith, length-take total list) in
-      rw e (subst (λ (k : ℕ). Logs (begin_of d (en.words m₀) k) m₀ l₀) z (record { whole = z; same = refl; facts = starts en sized d m₀ rs; books = books-start en d m₀ l₀ rs }))
+    pub logs-refused : b.number ≢ 0 → Logged b m₀ l₀
+    logs-refused h = (going-refused en sized d m₀ rs b e h, books-end en d m₀ l₀ rs b m₀ l₀ (sym (due-refused b (length rs) h)) at-first)
 
-  module _ (b : Batched) (m : List ℕ) (l : Log) (h : Logs b m l) (on : is_due b total ≡ true) where
-    abbrev given : WriteRecord
-    given = get_or list b.done no_record
+    pub logs-first : b.number ≡ 0 → Logs 0 b m₀ l₀
+    logs-first h = record { going = going-first en sized d m₀ rs b e h; books = at-first }
 
-    due-now : is_due b (length rs) ≡ true
-    due-now = rw h.whole on
+  module _ (i : ℕ) (b : Batched) (m : List ℕ) (l : Log) (g : Logs i b m l) where
+    pub logs-over : length rs ≤ i → Logged b m l
+    logs-over h =
+        (going-over en sized d m₀ rs i b m g.going h, books-end en d m₀ l₀ rs b m l (due-over b (length rs) (omega (arith, g.going.done))) g.books)
 
-    pub logs-inside : b.done < total
-    logs-inside = (due-is b total on).2
+    -- a note's answer w, the marks m' and the log l' after it, and the tally b'
+    module _ (inside : i < length rs) where
+      abbrev given : WriteRecord
+      given = get_or rs i no_record
 
-    pub logs-sound : sound_with d (en.words m) ≡ true
-    logs-sound = sound-now en sized d m₀ rs b m h.same due-now h.facts
+      module _ (w : Written) (m' : List ℕ) (is-w : w ≡ (write_by en d m given.id (write_in given)).answer) (is_m : m' ≡ (write_by en d m given.id (write_in given)).marks)
+          (l' : Log) (is-l : l' ≡ booked_by l (place_of d.settings given.id) w.number w.count 0 0) (b' : Batched) (is_b : b' ≡ tally_of b w) where
+        after : Books en d m₀ l₀ rs b' m' l'
+        after =
+            books-turned en d m₀ l₀ rs b m l (going-on en sized d m₀ rs i b m g.going inside) g.books w m' b' l' (rw g.going.done is-w) (rw g.going.done is_m) is_b (rw g.going.done is-l)
 
-    given_is : get_or rs b.done no_record ≡ given
-    given_is = get_or-take total list b.done no_record logs-inside
+        pub logs-cut : b'.refusal ≢ 0 → Logged b' m' l'
+        logs-cut h =
+            (going-cut en sized d m₀ rs i b m g.going inside w m' is-w is_m b' is_b h, books-end en d m₀ l₀ rs b' m' l' (sym (due-cut b' (length rs) h)) after)
 
-    -- the note's answer and the marks after it
-    module _ (w : Written) (m' : List ℕ) (is-w : w ≡ (write_by en d m given.id (write_in given)).answer) (is_m : m' ≡ (write_by en d m given.id (write_in given)).marks) where
-      w-is : w ≡ (write_by en d m (get_or rs b.done no_record).id (write_in (get_or rs b.done no_record))).answer
-      w-is = rw given_is is-w
+        pub logs-next : b'.refusal ≡ 0 → length m' ≡ length m₀ → Logs (i + 1) b' m' l'
+        logs-next h s = record { going = going-next en sized d m₀ rs i b m g.going inside w m' is-w is_m b' is_b h s; books = after }
 
-      m-is : m' ≡ (write_by en d m (get_or rs b.done no_record).id (write_in (get_or rs b.done no_record))).marks
-      m-is = rw given_is is_m
-
-      pub logs-fit : (b.done + 1 < 2 ^ 64) × (b.count + w.count < 2 ^ 64)
-      logs-fit = fits_in en sized d m₀ rs b m h.same due-now h.facts w w-is
-
-      module _ (b' : Batched) (is_b : b' ≡ tally_of b w) where
-        pub logs-less : μ-logs b' < μ-logs b
-        logs-less = nearer en sized d m₀ rs b m h.same due-now h.facts w m' b' w-is m-is is_b
-
-        pub logs-next : (l' : Log) → l' ≡ booked_by l (place_of d.settings given.id) w.number w.count 0 0 → length m' ≡ length m₀ → Logs b' m' l'
-        logs-next l' is-l same =
-            record {
-              whole = h.whole;
-              same = same;
-              facts = turned en sized d m₀ rs b m h.same due-now h.facts w m' b' w-is m-is is_b;
-              books = books-turned en d m₀ l₀ rs b m l due-now h.books w m' b' l' w-is m-is is_b (rw given_is is-l);
-            }
-
-  -- the contract, where the loop is left
-  pub logs-end : (n : ℕ) (b : Batched) (m : List ℕ) (l : Log) → length list ≡ 1025 → total ≡ min n 1025 → is_due b total ≡ false → Logs b m l
-      → (b ≡ (batch_by en d m₀ (take n list)).answer) × (m ≡ (batch_by en d m₀ (take n list)).marks) × (l ≡ batch_log en l₀ d m₀ (take n list))
-  logs-end n b m l long t off h =
-      let o : is_due b (length rs) ≡ false = rw h.whole off in
-      let e = stopped en sized d m₀ rs b m o h.facts in
-      subst (λ (xs : List WriteRecord). (b ≡ (batch_by en d m₀ xs).answer) × (m ≡ (batch_by en d m₀ xs).marks) × (l ≡ batch_log en l₀ d m₀ xs)) (take-least n total list long t)
-      (e.0, e.1, books-end en d m₀ l₀ rs b m l o h.books)
+-- the first n of 1,025 records are the first min n 1,025
+pub logged_of : (en : Engine) (sized : Sized en) (d : Device) (m₀ : List ℕ) (l₀ : Log) (list : List WriteRecord) (n k : ℕ) (b : Batched) (m : List ℕ) (l : Log)
+    → length list ≡ 1025 → k ≡ min n 1025 → Logged en sized d m₀ l₀ (take k list) b m l
+    → (b ≡ (batch_by en d m₀ (take n list)).answer) × (m ≡ (batch_by en d m₀ (take n list)).marks) × (l ≡ batch_log en l₀ d m₀ (take n list))
+logged_of en sized d m₀ l₀ list n k b m l long e h =
+    subst (λ (xs : List WriteRecord). (b ≡ (batch_by en d m₀ xs).answer) × (m ≡ (batch_by en d m₀ xs).marks) × (l ≡ batch_log en l₀ d m₀ xs)) (take-least n k list long e)
+    (h.0.0, h.0.1, h.1)

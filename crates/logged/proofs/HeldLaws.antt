@@ -2,7 +2,8 @@
 use mathlib.Core.Path.{◌≡◌, refl, sym, ap, ◌∙◌}
 use mathlib.Core.Bool.{Bool, true, false}
 use mathlib.Core.List.{List, [], ◌∷◌}
-use mathlib.Core.Option.{Option, none, some}
+use Rattle.std.specs.declared.option.Option.{Option}
+use Rattle.std.specs.declared.option.Option.TheVariants.{None, Some}
 use Prim.Native.Nat.{ℕ, ◌-◌, ◌≤◌}
 use native.Mathlib.Omega.{arith}
 use lib.Dec.{eqb}
@@ -16,11 +17,12 @@ use Rattle.rules.specs.Units.{Unit, units, pending}
 use Rattle.rules.specs.Order.{stop_order}
 use Rattle.rules.specs.declared.Controller.{Controller}
 use Rattle.rules.specs.declared.Device.{Device}
+use Rattle.rules.specs.declared.Refusal.{Refusal}
 use Rattle.rules.specs.declared.Tracking.TheVariants.{Off, On}
 use Rattle.rules.proofs.RefusalLaws.{verdict-both}
 use Rattle.log_numbers.specs.declared.Log.{Log}
 use Rattle.record.specs.Record.{no_controller, sound_with, place_at, where_is, seen_in}
-use Rattle.record.specs.declared.Place.TheVariants.{At, Refused}
+use Rattle.std.specs.declared.result.Result.TheVariants.{Err, Ok}
 use Rattle.record.proofs.RecordLaws.{where_is-at}
 use Rattle.calls.specs.declared.Changed.{Changed}
 use Rattle.calls.specs.Calls.{Engine, Change, changed, stop_done, stop_by}
@@ -50,15 +52,15 @@ module _ (en : Engine) (d : Device) (ws : List ℕ) (id : ℕ) where
   words = en.words ws
 
   -- of a controller that is not in the settings of a sound record
-  pub held-nowhere : (n : ℕ) → where_is d words id ≡ Refused n → sound_with d words ≡ true → 0 ≡ units_held en d ws id
+  pub held-nowhere : (r : Refusal) → where_is d words id ≡ Err r → sound_with d words ≡ true → 0 ≡ units_held en d ws id
   unfolding where_is units_held
   held-nowhere n e s = go (place_of d.settings id) refl (rw s at e)
     where
-      go : (p : Option ℕ) → place_of d.settings id ≡ p → place_at p ≡ Refused n → 0 ≡ units_held en d ws id
-      go none f r = rw f
-      go (some i) f r = let x : ◌≡◌ {A = ℕ} 0 1 = cc in absurd (omega arith)
+      go : (p : Option ℕ) → place_of d.settings id ≡ p → place_at p ≡ Err n → 0 ≡ units_held en d ws id
+      go None f r = rw f
+      go (Some i) f r = let x : ◌≡◌ {A = ℕ} 0 1 = cc in absurd (omega arith)
 
-  module _ (i : ℕ) (e : where_is d words id ≡ At i) where
+  module _ (i : ℕ) (e : where_is d words id ≡ Ok i) where
     abbrev it : Controller
     it = get_or d.controllers i no_controller
 

@@ -2,20 +2,20 @@
 use mathlib.Core.Path.{◌≡◌, refl, sym, ap, ◌∙◌}
 use mathlib.Core.Bool.{Bool, true, false, cond}
 use mathlib.Core.List.{List, [], ◌∷◌, map}
-use mathlib.Core.Option.{Option, none, some}
+use Rattle.std.specs.declared.option.Option.{Option}
+use Rattle.std.specs.declared.option.Option.TheVariants.{None, Some}
 use Prim.Native.Nat.{ℕ, ◌+◌, ◌*◌, ◌^◌, ◌≤◌, ◌<◌}
 use native.Mathlib.Omega.{arith}
-use lib.Dec.{leb, eqb}
-use lib.ListN.{length, get_or, take}
+use lib.Dec.{eqb}
+use lib.ListN.{length, take}
 use lib.Seq.{take-nil}
 use borrow.Author.Tests.{leb-true, eqb-true, eqb-false}
-use Rattle.little.specs.Little.{put, records_at}
-use Rattle.little.proofs.Put.{put-length}
+use Rattle.little.specs.Little.{records_at}
 use Rattle.rules.specs.Lists.{sum}
 use Rattle.rules.specs.Settings.{most_units, place_of}
 use Rattle.rules.specs.Units.{units}
 use Rattle.rules.specs.Ranges.{rows_ok}
-use Rattle.rules.specs.Report.{Descriptor, room, report_on, report_bytes}
+use Rattle.rules.specs.Report.{Descriptor, room}
 use Rattle.rules.specs.Order.{receive_order}
 use Rattle.rules.specs.Machine.{no_report}
 use Rattle.rules.specs.Totals.{report_units}
@@ -27,8 +27,8 @@ use Rattle.rules.proofs.RefusalLaws.{verdict-both}
 use Rattle.rules.proofs.RunLaws.{pending-length-le}
 use Rattle.rules.proofs.TotalLaws.{report_units-cleared}
 use Rattle.log_numbers.specs.declared.Log.{Log}
-use Rattle.record.specs.Record.{no_controller, sound_with, controller_at, where_is, seen_in}
-use Rattle.record.specs.declared.Place.TheVariants.{At}
+use Rattle.record.specs.Record.{sound_with, controller_at, where_is, seen_in}
+use Rattle.std.specs.declared.result.Result.TheVariants.{Ok}
 use Rattle.record.proofs.RecordLaws.{where_is-at}
 use Rattle.report_reader.proofs.ReadBack.{lists_back}
 use Rattle.calls.specs.declared.Received.{Received}
@@ -47,7 +47,7 @@ few-units : (g n : ℕ) (rs : List Range) → (1 ≤ length rs → length (units
 few-units g n [] h = rw (take-nil n) (omega arith)
 few-units g n (r ∷ rs) h = h (omega arith)
 
-located : (d : Device) (words id i : ℕ) → sound_with d words ≡ true → place_of d.settings id ≡ some i → where_is d words id ≡ At i
+located : (d : Device) (words id i : ℕ) → sound_with d words ≡ true → place_of d.settings id ≡ Some i → where_is d words id ≡ Ok i
 unfolding where_is
 located d words id i s e = rw (s, e)
 
@@ -68,24 +68,24 @@ module _ (en : Engine) (ws : List ℕ) (id : ℕ) (x : List ℕ) where
 
     module _ (d : Device) (there : length d.controllers ≡ 8) (s : sound_with d (en.words ws) ≡ true) where
       -- what the controller at a place holds keeps them
-      lists_at : (i : ℕ) → place_of d.settings id ≡ some i → (t : Tracking) → (controller_at d (some i)).tracking ≡ t
-          → Lists (receive_in en ws (controller_at d (some i)).base id (controller_at d (some i)).suspended t (controller_at d (some i)).ranges x)
+      lists_at : (i : ℕ) → place_of d.settings id ≡ Some i → (t : Tracking) → (controller_at d (Some i)).tracking ≡ t
+          → Lists (receive_in en ws (controller_at d (Some i)).base id (controller_at d (Some i)).suspended t (controller_at d (Some i)).ranges x)
       lists_at i e Off f = lists-none
       lists_at i e (On g n) f =
           let h = held_at d (en.words ws) id i at (omega (arith, there, (where_is-at d (en.words ws) id i at).below)) g n f in
-          lists-on (controller_at d (some i)).base g n (controller_at d (some i)).suspended (controller_at d (some i)).ranges h.small h.rows few
+          lists-on (controller_at d (Some i)).base g n (controller_at d (Some i)).suspended (controller_at d (Some i)).ranges h.small h.rows few
         where
-          at : where_is d (en.words ws) id ≡ At i
+          at : where_is d (en.words ws) id ≡ Ok i
           at = located d (en.words ws) id i s e
 
-          few : length (units g (take n (controller_at d (some i)).ranges)) ≤ most_units
+          few : length (units g (take n (controller_at d (Some i)).ranges)) ≤ most_units
           few =
-              few-units g n (controller_at d (some i)).ranges
-              (λ some. omega (arith, share-within d (en.words ws) id i at (omega (arith, there, (where_is-at d (en.words ws) id i at).below)) g n f some))
+              few-units g n (controller_at d (Some i)).ranges
+              (λ Some. omega (arith, share-within d (en.words ws) id i at (omega (arith, there, (where_is-at d (en.words ws) id i at).below)) g n f Some))
 
       lists-done : (p : Option ℕ) → place_of d.settings id ≡ p → Lists (receive_done en d ws id x p)
-      lists-done none e = lists-none
-      lists-done (some i) e = lists_at i e (controller_at d (some i)).tracking refl
+      lists-done None e = lists-none
+      lists-done (Some i) e = lists_at i e (controller_at d (Some i)).tracking refl
 
 module _ (en : Engine) (d : Device) (ws : List ℕ) (m id : ℕ) (x : List ℕ) (small : id < 2 ^ 16) (there : length d.controllers ≡ 8) where
   abbrev it : Receipt

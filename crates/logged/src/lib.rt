@@ -7,44 +7,40 @@ ghost use Rattle.record.specs.Record.{sound_with, where_is};
 ghost use Rattle.calls.specs.Calls.{in_words, fresh_change, stop_change, write_note, batch_change, receive_receipt};
 ghost use Rattle.booking.specs.Booking.{fresh_log, stop_log, write_log, batch_log, receive_log, units_held, reading_at};
 
-use booking::{LoggedBatch, LoggedChange, LoggedReport, LoggedWrite, Reading};
-use calls::WriteRecord;
+use booking::{Logged, Reading};
+use calls::{Batched, Changed, Received, WriteRecord, Written};
 use log_numbers::Log;
-use record::Place;
 use rules::{Bytes, Device, Settings, Tracking};
 
 // Makes a fresh device, and with it a log in which nothing is booked.
-pub fn fresh(l: Log, s: Settings, marks: &mut [u64]) -> LoggedChange
+pub fn fresh(l: Log, s: Settings, marks: &mut [u64]) -> Logged<Changed>
     ensures { (result.answer ≡ (fresh_change s marks.old).answer)
         × (marks.new ≡ (fresh_change s marks.old).marks)
         × (result.log ≡ fresh_log in_words l s marks.old) }
 {
     let answer = fresh::fresh(s, marks);
     let log = booking::begun(l, answer.number);
-    LoggedChange { answer, log }
+    Logged { answer, log }
 }
 
 // How many units of a controller are pending, on a record that is sound.
 fn pending_units(d: Device, marks: &[u64], id: u16) -> usize
     ensures { sound_with d (length marks.now) ≡ true → result ≡ units_held in_words d marks.now id }
 {
-    let place = record::locate(d, marks.len(), id);
-    let Place::At(i) = place else {
+    let Ok(i) = record::locate(d, marks.len(), id) else {
         return 0;
     };
     let c = d.controllers[i];
-    let t = c.tracking;
-    let Tracking::On(g, n) = t else {
+    let Tracking::On(g, n) = c.tracking else {
         return 0;
     };
-    let ranges = calls::ranges_of(c);
-    let units = ranges::units_in(g, n as usize, ranges);
+    let units = ranges::units_in(g, n as usize, c.ranges);
     let from = c.base as usize;
     bits::count_span(marks, from, from + units.0 as usize)
 }
 
 // Stops a manager's tracking of a controller. What was still pending is booked as dropped.
-pub fn stop(l: Log, d: Device, marks: &mut [u64], manager: u16, id: u16) -> LoggedChange
+pub fn stop(l: Log, d: Device, marks: &mut [u64], manager: u16, id: u16) -> Logged<Changed>
     ensures { (result.answer ≡ (stop_change d marks.old manager id).answer)
         × (marks.new ≡ (stop_change d marks.old manager id).marks)
         × (result.log ≡ stop_log in_words l d marks.old manager id) }
@@ -52,18 +48,25 @@ pub fn stop(l: Log, d: Device, marks: &mut [u64], manager: u16, id: u16) -> Logg
     let dropped = pending_units(d, marks, id);
     let answer = track_send::stop(d, marks, manager, id);
     let log = booking::book(l, d.settings, id, answer.number, 0, 0, dropped);
-    LoggedChange { answer, log }
+    Logged { answer, log }
 }
 
 // Notes a write. What was not pending before is booked as marked.
-pub fn write(l: Log, d: Device, marks: &mut [u64], id: u16, at: u64, bytes: Bytes) -> LoggedWrite
+pub fn write(
+    l: Log,
+    d: Device,
+    marks: &mut [u64],
+    id: u16,
+    at: u64,
+    bytes: Bytes,
+) -> Logged<Written>
     ensures { (result.answer ≡ (write_note d marks.old id (record { address = at; bytes = bytes.0 })).answer)
         × (marks.new ≡ (write_note d marks.old id (record { address = at; bytes = bytes.0 })).marks)
         × (result.log ≡ write_log in_words l d marks.old id (record { address = at; bytes = bytes.0 })) }
 {
     let answer = writes::write(d, marks, id, at, bytes);
     let log = booking::book(l, d.settings, id, answer.number, answer.count, 0, 0);
-    LoggedWrite { answer, log }
+    Logged { answer, log }
 }
 
 // Notes the first n of some writes one after another, and books each by itself.
@@ -73,22 +76,26 @@ pub fn batch_of(
     marks: &mut [u64],
     list: [WriteRecord; 1025],
     n: usize,
-) -> LoggedBatch
+) -> Logged<Batched>
     ensures { (result.answer ≡ (batch_change d marks.old (take n list)).answer)
         × (marks.new ≡ (batch_change d marks.old (take n list)).marks)
         × (result.log ≡ batch_log in_words l d marks.old (take n list)) }
 {
-    let total = writes::listed(n);
-    let mut answer = writes::begin(d, marks.len(), total);
+    let notes = &list[..n.min(1025)];
+    let mut answer = writes::begin(d, marks.len(), notes.len());
     let mut log = l;
-    while writes::due(answer, total) {
-        let i = answer.done;
-        let w = list[i];
+    if answer.number != 0 {
+        return Logged { answer, log };
+    }
+    for w in notes {
         let r = writes::note(d, marks, w.id, w.address, w.bytes);
         log = booking::book(log, d.settings, w.id, r.number, r.count, 0, 0);
         answer = writes::tally(answer, r);
+        if answer.refusal != 0 {
+            return Logged { answer, log };
+        }
     }
-    LoggedBatch { answer, log }
+    Logged { answer, log }
 }
 
 // Reports a controller's pending runs to its manager. The units of the runs that the report lists are booked as reported.
@@ -99,7 +106,7 @@ pub fn receive(
     manager: u16,
     id: u16,
     buffer: &mut [u8],
-) -> LoggedReport
+) -> Logged<Received>
     ensures { (result.answer ≡ (receive_receipt d marks.old manager id buffer.old).answer)
         × (marks.new ≡ (receive_receipt d marks.old manager id buffer.old).marks)
         × (buffer.new ≡ (receive_receipt d marks.old manager id buffer.old).buffer)
@@ -108,7 +115,7 @@ pub fn receive(
     let answer = track_receive::receive(d, marks, manager, id, buffer);
     let reported = booking::units_listed(answer, buffer);
     let log = booking::book(l, d.settings, id, answer.number, 0, reported, 0);
-    LoggedReport { answer, log }
+    Logged { answer, log }
 }
 
 // A controller's totals. Refused, in this order: 1, 2.

@@ -2,7 +2,7 @@
 // pieces themselves.
 #![tactic(auto)]
 
-ghost use Rattle.std.specs.Prelude.{◌≡◌, true, [], ◌∷◌, ◌+◌, ◌^◌, ◌<◌, ◌≤◌, min, length, take};
+ghost use Rattle.std.specs.Prelude.{◌≡◌, true, [], ◌∷◌, ◌+◌, ◌^◌, ◌<◌, ◌≤◌, length, take};
 ghost use Rattle.bits.specs.Flat.{flat};
 ghost use Rattle.bits.specs.Share.{Holds, get_share, put_share};
 ghost use Rattle.rules.specs.Settings.{unit_size};
@@ -11,15 +11,8 @@ ghost use Rattle.rules.specs.Ranges.{rows_ok};
 ghost use Rattle.pieces.specs.Pieces.{units_left};
 ghost use Rattle.marking.specs.Note.{write_to, Touched, units_of, mark_in, newly_in};
 
-use pieces::{NextPiece, Span};
+use pieces::Span;
 use rules::{Bytes, Range, Units};
-
-// One more than n, or `most` where that is less.
-fn one_more(n: Units, most: Units) -> Units
-    ensures { result.0 ≡ min (n.0 + 1) most.0 }
-{
-    if n.0 < most.0 { Units(n.0 + 1) } else { most }
-}
 
 // The units of a range that the bytes from `at` to `last` touch.
 fn touched(g: u8, r: Range, at: u64, last: u64) -> Span
@@ -32,8 +25,9 @@ fn touched(g: u8, r: Range, at: u64, last: u64) -> Span
             to: Units(0),
         };
     }
+    let whole = measures::whole_units(g, Bytes(last - r.start));
     let most = measures::length_of(r);
-    let to = one_more(measures::whole_units(g, Bytes(last - r.start)), most);
+    let to = Units(whole.0.saturating_add(1).min(most.0));
     if at <= r.start {
         return Span { from: Units(0), to };
     }
@@ -87,16 +81,13 @@ fn mark_pieces(
     let mut bit = from;
     let mut i = row;
     let mut unit = Units(0);
-    loop {
-        let NextPiece::Is(piece) = pieces::next_piece(g, n, ranges, i, unit) else {
-            return sum;
-        };
-        let r = piece.range;
-        sum += mark_range(marks, bit, g, r, at, last);
-        bit += r.length as usize;
+    while let Some(piece) = pieces::next_piece(g, n, ranges, i, unit) {
+        sum += mark_range(marks, bit, g, piece.range, at, last);
+        bit += piece.range.length as usize;
         i = piece.row;
         unit = piece.next;
     }
+    sum
 }
 
 // Where a range ends that begins with unit `first`. Units are counted from address 0.
@@ -127,8 +118,7 @@ pub fn mark_ranges(
     let mut count: usize = 0;
     let mut from = base;
     let mut end = Units(0);
-    let mut row: usize = 0;
-    while row < n {
+    for row in 0..n {
         let r = ranges[row];
         let first = measures::whole_units(g, Bytes(r.start));
         if first.0 < end.0 {
@@ -137,7 +127,6 @@ pub fn mark_ranges(
         count += mark_range(marks, from, g, r, at, last);
         from += r.length as usize;
         end = end_of(first, r);
-        row += 1;
     }
     count
 }

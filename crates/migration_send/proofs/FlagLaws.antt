@@ -1,33 +1,24 @@
 -- What a suspend and a resume answer, case by case of its table. Assumes nothing.
 use mathlib.Core.Path.{◌≡◌, ap, ◌∙◌}
-use mathlib.Core.Logic.{◌≢◌}
 use mathlib.Core.Bool.{true, false, ◌||◌, or-true, or-false}
 use Prim.Native.Nat.{ℕ, ◌<◌}
 use lib.Dec.{eqb}
 use lib.ListN.{get_or, drop}
 use lib.Seq.{set-get_or}
-use borrow.Author.Tests.{lt-leb, eq-eqb, ne_eqb}
+use borrow.Author.Tests.{lt-leb}
 use Rattle.rules.specs.Settings.{is_manager, place_of}
 use Rattle.rules.specs.Order.{suspend_order, resume_order}
+use Rattle.rules.specs.Refusals.{number_of}
+use Rattle.rules.specs.declared.Refusal.{Refusal}
 use Rattle.rules.specs.declared.Sequence.{Sequence}
-use Rattle.rules.specs.declared.Sequence.TheVariants.{Nothing, Open}
+use Rattle.std.specs.declared.option.Option.{Option}
 use Rattle.rules.specs.declared.Controller.{Controller}
 use Rattle.rules.specs.declared.Device.{Device}
 use Rattle.record.specs.Record.{no_controller, controller_at, with_controller, with_sequence, where_by, seen_in}
-use Rattle.record.specs.declared.Place.TheVariants.{At, Refused}
+use Rattle.std.specs.declared.result.Result.TheVariants.{Err, Ok}
 use Rattle.record.proofs.RecordLaws.{Located, where_is-at, where_by-tests, where_by-at}
 use Rattle.calls.specs.Calls.{flagged, flag_done, dropped, resume_done, suspend_change, resume_change}
 use Rattle.calls.specs.declared.Changed.{Changed}
-
--- the sequence without one of a controller's own
-pub without-none : (id : ℕ) (q : Sequence) → q ≡ Nothing → q ≡ dropped id q
-without-none id q e = rw e
-
-pub without-own : (id : ℕ) (q : Sequence) (owner end : ℕ) → q ≡ Open owner end → owner ≡ id → Nothing ≡ dropped id q
-without-own id q owner end e s = rw (e, eq-eqb owner id s)
-
-pub without_other : (id : ℕ) (q : Sequence) (owner end : ℕ) → q ≡ Open owner end → owner ≢ id → q ≡ dropped id q
-without_other id q owner end e s = rw (e, ne_eqb owner id s)
 
 -- a record with a controller put back as it was
 controller-same : (d : Device) (i : ℕ) → with_controller d i (get_or d.controllers i no_controller) ≡ d
@@ -39,18 +30,18 @@ module _ (d : Device) (words m id : ℕ) where
   abbrev answer : ℕ → Device → Changed
   answer n d = record { number = n; device = d }
 
-  pub suspend-refused : (kind n : ℕ) → where_by d words m id ≡ Refused n → suspend_change d words m id kind ≡ answer n d
+  pub suspend-refused : (kind : ℕ) (r : Refusal) → where_by d words m id ≡ Err r → suspend_change d words m id kind ≡ answer (number_of r) d
   unfolding suspend_change
-  suspend-refused kind n e =
-      where_by-tests d words m id n e (drop 3 (suspend_order d.settings m (seen_in d words (place_of d.settings id)) kind))
+  suspend-refused kind r e =
+      where_by-tests d words m id r e (drop 3 (suspend_order d.settings m (seen_in d words (place_of d.settings id)) kind))
       (flag_done d (place_of d.settings id) ((controller_at d (place_of d.settings id)).suspended || eqb kind 1)) (λ n i. answer n d)
 
-  pub resume-refused : (n : ℕ) → where_by d words m id ≡ Refused n → resume_change d words m id ≡ answer n d
+  pub resume-refused : (r : Refusal) → where_by d words m id ≡ Err r → resume_change d words m id ≡ answer (number_of r) d
   unfolding resume_change
-  resume-refused n e =
-      where_by-tests d words m id n e (drop 3 (resume_order d.settings m (seen_in d words (place_of d.settings id)))) (resume_done d id (place_of d.settings id)) (λ n i. answer n d)
+  resume-refused r e =
+      where_by-tests d words m id r e (drop 3 (resume_order d.settings m (seen_in d words (place_of d.settings id)))) (resume_done d id (place_of d.settings id)) (λ n i. answer n d)
 
-  module _ (i : ℕ) (e : where_by d words m id ≡ At i) where
+  module _ (i : ℕ) (e : where_by d words m id ≡ Ok i) where
     l : Located d words id i
     l = where_is-at d words id i (where_by-at d words m id i e).1
 
@@ -78,7 +69,7 @@ module _ (d : Device) (words m id : ℕ) where
     unfolding resume_change
     resume-running f = rw (l.place, l.seen, by, f)
 
-    pub resume-done : it.suspended ≡ true → (q : Sequence) → q ≡ dropped id d.sequence
+    pub resume-done : it.suspended ≡ true → (q : Option Sequence) → q ≡ dropped id d.sequence
         → resume_change d words m id ≡ answer 0 (with_sequence (with_controller d i (flagged it false)) q)
     unfolding resume_change
     resume-done f q s = rw (l.place, l.seen, by, f, s)

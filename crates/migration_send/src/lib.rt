@@ -4,38 +4,32 @@
 
 ghost use Rattle.std.specs.Prelude.{◌≡◌, length};
 ghost use Rattle.calls.specs.Calls.{dropped, suspend_change, resume_change};
+ghost use Rattle.calls.specs.Inner.{changed_by};
 
 use calls::Changed;
-use record::Place;
-use rules::{Device, Sequence};
+use rules::{Device, Refusal, Sequence};
+
+// What a suspend makes of the record.
+fn try_suspend(d: Device, words: usize, manager: u16, id: u16, kind: u8) -> Result<Device, Refusal>
+    ensures { changed_by d result ≡ suspend_change d words manager id kind }
+{
+    let i = record::locate_by(d, words, manager, id)?;
+    if kind > 1 {
+        return Err(Refusal::Kind);
+    }
+    if kind == 0 {
+        return Ok(d);
+    }
+    let mut e = d;
+    e.controllers[i].suspended = true;
+    Ok(e)
+}
 
 // `suspend` on marks of so many words, however they are held.
 pub fn suspend_on(d: Device, words: usize, manager: u16, id: u16, kind: u8) -> Changed
     ensures { result ≡ suspend_change d words manager id kind }
 {
-    let place = record::locate_by(d, words, manager, id);
-    let Place::At(i) = place else {
-        let number = calls::number_of(place);
-        return Changed { number, device: d };
-    };
-    if kind > 1 {
-        return Changed {
-            number: 15,
-            device: d,
-        };
-    }
-    if kind == 0 {
-        return Changed {
-            number: 0,
-            device: d,
-        };
-    }
-    let mut e = d;
-    e.controllers[i].suspended = true;
-    Changed {
-        number: 0,
-        device: e,
-    }
+    calls::changed_by(d, try_suspend(d, words, manager, id, kind))
 }
 
 // Suspends a controller, whichever manager asks: type 1 suspends, also where it is suspended already; type 0 is a notice and changes nothing. Pending units stay. Refused, in
@@ -47,46 +41,31 @@ pub fn suspend(d: Device, marks: &[u64], manager: u16, id: u16, kind: u8) -> Cha
 }
 
 // The sequence without one of this controller's own.
-fn without(q: Sequence, id: u16) -> Sequence
-    ensures { result ≡ dropped id q }
+fn without(sequence: Option<Sequence>, id: u16) -> Option<Sequence>
+    ensures { result ≡ dropped id sequence }
 {
-    let Sequence::Open(owner, end) = q else {
-        return q;
-    };
-    if owner == id {
-        return Sequence::Nothing;
+    sequence.filter(|q| q.owner != id)
+}
+
+// What a resume makes of the record.
+fn try_resume(d: Device, words: usize, manager: u16, id: u16) -> Result<Device, Refusal>
+    ensures { changed_by d result ≡ resume_change d words manager id }
+{
+    let i = record::locate_by(d, words, manager, id)?;
+    if !d.controllers[i].suspended {
+        return Err(Refusal::Running);
     }
-    q
+    let mut e = d;
+    e.controllers[i].suspended = false;
+    e.sequence = without(d.sequence, id);
+    Ok(e)
 }
 
 // `resume` on marks of so many words, however they are held.
 pub fn resume_on(d: Device, words: usize, manager: u16, id: u16) -> Changed
     ensures { result ≡ resume_change d words manager id }
 {
-    let place = record::locate_by(d, words, manager, id);
-    let Place::At(i) = place else {
-        let number = calls::number_of(place);
-        return Changed { number, device: d };
-    };
-    let c = d.controllers[i];
-    if !c.suspended {
-        return Changed {
-            number: 13,
-            device: d,
-        };
-    }
-    let mut e = d;
-    e.controllers[i].suspended = false;
-    let settings = e.settings;
-    let controllers = e.controllers;
-    let q = e.sequence;
-    let sequence = without(q, id);
-    let device = Device {
-        settings,
-        controllers,
-        sequence,
-    };
-    Changed { number: 0, device }
+    calls::changed_by(d, try_resume(d, words, manager, id))
 }
 
 // Resumes a controller, whichever manager asks: a state of its own that arrives in parts is dropped. Pending units stay. Refused, in this order: 1, 2 (also an unknown

@@ -5,8 +5,8 @@ use Rattle.rules.specs.Units.{Unit, units_of_row, covers, uncovered, units_from}
 use Rattle.rules.specs.StartData.{no_range}
 use Rattle.rules.specs.declared.Range.{Range}
 use Rattle.pieces.specs.declared.Piece.{Piece}
-use Rattle.pieces.specs.declared.NextPiece.{NextPiece}
-use Rattle.pieces.specs.declared.NextPiece.TheVariants.{Is, Nothing}
+use Rattle.std.specs.declared.option.Option.{Option}
+use Rattle.std.specs.declared.option.Option.TheVariants.{None, Some}
 
 -- the range of a row; past the last there is none, of length 0
 abbrev pub row_of : List Range → ℕ → Range
@@ -52,6 +52,6 @@ pub record PieceFound (size : ℕ) (rs : List Range) (i j : ℕ) (p : Piece) : T
   -- it is a longest one: the row's next unit belongs to another range
   pub cut : p.next.0 < (row_of rs p.row).length → uncovered size (take p.row rs) (unit_of size (row_of rs p.row) p.next.0) ≡ false
 
-abbrev pub NextIs : ℕ → List Range → ℕ → ℕ → NextPiece → Type 0
-NextIs size rs i j (Is p) = PieceFound size rs i j p
-NextIs size rs i j Nothing = units_left size rs i j ≡ []
+abbrev pub NextIs : ℕ → List Range → ℕ → ℕ → Option Piece → Type 0
+NextIs size rs i j (Some p) = PieceFound size rs i j p
+NextIs size rs i j None = units_left size rs i j ≡ []

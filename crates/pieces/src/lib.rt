@@ -33,28 +33,18 @@ pub struct Piece {
     pub range: Range,
 }
 
-#[derive(Clone, Copy)]
-pub enum NextPiece {
-    Is(Piece),
-    Nothing,
-}
-
 // How much a is above b, or 0.
 fn above(a: Units, b: Units) -> Units
     ensures { result.0 ≡ a.0 - b.0 }
 {
-    if b.0 < a.0 {
-        Units(a.0 - b.0)
-    } else {
-        Units(0)
-    }
+    Units(a.0.saturating_sub(b.0))
 }
 
 // The less of two lengths.
 fn least(a: Units, b: Units) -> Units
     ensures { result.0 ≡ min a.0 b.0 }
 {
-    if a.0 < b.0 { a } else { b }
+    Units(a.0.min(b.0))
 }
 
 // Which units of a range another range covers. Both begin at a multiple of the unit, so units are counted from address 0.
@@ -74,10 +64,7 @@ fn overlap(g: u8, r: Range, q: Range) -> Span
 fn among(s: Span, at: Units) -> bool
     ensures { result ≡ (leb s.from.0 at.0 && ltb at.0 s.to.0) }
 {
-    if at.0 < s.from.0 {
-        return false;
-    }
-    at.0 < s.to.0
+    s.from.0 <= at.0 && at.0 < s.to.0
 }
 
 // Where units from `at` to `to` are cut by some others that begin further on: at the first of these, if that is before `to`.
@@ -85,9 +72,10 @@ fn cut_before(s: Span, at: Units, to: Units) -> Units
     ensures { result.0 ≡ cut_before s.from.0 at.0 to.0 }
 {
     if s.from.0 <= at.0 {
-        return to;
+        to
+    } else {
+        least(s.from, to)
     }
-    least(s.from, to)
 }
 
 // The stretch of a row's range from its unit `at` on.
@@ -97,8 +85,7 @@ fn stretch_from(g: u8, ranges: [Range; 16], row: usize, at: Units) -> Stretch
 {
     let r = ranges[row];
     let mut to = measures::length_of(r);
-    let mut i: usize = 0;
-    while i < row {
+    for i in 0..row {
         let s = overlap(g, r, ranges[i]);
         if among(s, at) {
             let end = least(s.to, to);
@@ -108,7 +95,6 @@ fn stretch_from(g: u8, ranges: [Range; 16], row: usize, at: Units) -> Stretch
             };
         }
         to = cut_before(s, at, to);
-        i += 1;
     }
     Stretch { to, own: true }
 }
@@ -124,8 +110,8 @@ pub fn part(g: u8, r: Range, s: Span) -> Range
     Range { start, length }
 }
 
-// The next piece of the first n ranges, from unit `at` of a row on.
-pub fn next_piece(g: u8, n: usize, ranges: [Range; 16], row: usize, at: Units) -> NextPiece
+// The next piece of the first n ranges, from unit `at` of a row on. A loop by hand, as it goes on within a row as often as an earlier range cuts it: no range has such steps.
+pub fn next_piece(g: u8, n: usize, ranges: [Range; 16], row: usize, at: Units) -> Option<Piece>
     requires { (g ≤ 20) × (n ≤ 16) × (rows_ok g (take n ranges) ≡ true) × (at.0 ≤ (row_of (take n ranges) row).length) }
     ensures { NextIs (unit_size g) (take n ranges) row at.0 result }
 {
@@ -139,7 +125,7 @@ pub fn next_piece(g: u8, n: usize, ranges: [Range; 16], row: usize, at: Units) -
             let to = s.to;
             if s.own {
                 let range = part(g, r, Span { from: j, to });
-                return NextPiece::Is(Piece {
+                return Some(Piece {
                     row: i,
                     next: to,
                     range,
@@ -151,5 +137,5 @@ pub fn next_piece(g: u8, n: usize, ranges: [Range; 16], row: usize, at: Units) -
             j = Units(0);
         }
     }
-    NextPiece::Nothing
+    None
 }

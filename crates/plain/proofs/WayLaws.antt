@@ -15,7 +15,7 @@ use Rattle.rules.specs.declared.Tracking.TheVariants.{On}
 use Rattle.rules.proofs.RowLaws.{rows_ok-front}
 use Rattle.measures.proofs.MeasureLaws.{bytes_of-pos}
 use Rattle.record.specs.Record.{no_controller, where_is}
-use Rattle.record.specs.declared.Place.TheVariants.{At}
+use Rattle.std.specs.declared.result.Result.TheVariants.{Ok}
 use Rattle.record.proofs.RecordLaws.{where_is-at}
 use Rattle.calls.proofs.PlaceLaws.{held_at, share-within}
 use Rattle.track_receive.proofs.ReceiveLaws.{reported-few}
@@ -35,7 +35,7 @@ pub record Way (size n : ℕ) (rs : List Range) (area : List ℕ) (base : ℕ) :
   pub within : base + length (units_from size 0 [] (take n rs)) ≤ length area
   pub ends : Ends size rs n
 
-module _ (d : Device) (area : List ℕ) (id i : ℕ) (e : where_is d (words_for (length area)) id ≡ At i) (there : i < length d.controllers) (g n : ℕ) (t : (get_or d.controllers i no_controller).tracking ≡ On g n) where
+module _ (d : Device) (area : List ℕ) (id i : ℕ) (e : where_is d (words_for (length area)) id ≡ Ok i) (there : i < length d.controllers) (g n : ℕ) (t : (get_or d.controllers i no_controller).tracking ≡ On g n) where
   abbrev rs : List Range
   rs = (get_or d.controllers i no_controller).ranges
 

@@ -1,17 +1,16 @@
 // The plain engine (document 02, W9): every call of `tracker`, on one byte a unit, 0 clear and all else pending, in a lent area of 16,384 bytes. It is there to be read: each call
-// asks its refusals in document 01's order, and marks are gone over one unit at a time. What checks settings, ranges, the record and structures, and what writes a report's
+// asks its refusals in document 01's order, and marks are gone over one unit at a time. What checks settings, ranges, the record, structures and a start, and what writes a report's
 // bytes, is shared with the other engine, and so are the calls that touch no mark. Each contract is an equation with a function of the calls, for marks held in bytes.
 #![tactic(auto)]
 
 ghost use Rattle.std.specs.Prelude.{◌≡◌, ◌+◌, ◌≤◌, length, take};
 ghost use Rattle.pool.specs.Pool.{Packs};
-ghost use Rattle.writes.specs.Inner.{begin_of};
 ghost use Rattle.calls.specs.Calls.{fresh_by, start_by, stop_by, write_by, batch_by, receive_by, suspend_change, resume_change, part_change, make_change, post_change, take_change};
+ghost use Rattle.calls.specs.Inner.{changed_by, started_by, written_by, received_by};
 ghost use Rattle.plain.specs.Bytes.{words_for, cleared_bytes, packed_bytes, in_bytes};
 
 use calls::{Batched, Changed, Posted, Received, Started, StateSet, Taken, WriteRecord, Written};
-use record::Place;
-use rules::{Bytes, Device, Header, MARK_WORDS, Settings, Tracking, Units};
+use rules::{Bytes, Device, MARK_WORDS, Refusal, RowRefusal, Settings, Tracking, Units};
 
 // The bytes of the lent area: one for each unit that the pool may have.
 pub const AREA_BYTES: usize = 16384;
@@ -23,7 +22,7 @@ pub fn words_for(bytes: usize) -> usize
     if bytes == AREA_BYTES { MARK_WORDS } else { 0 }
 }
 
-// Makes the bytes of n units from a place on 0, one unit at a time.
+// Makes the bytes of n units from a place on 0, one unit at a time, as document 02 asks of this engine; so it is a loop and no `fill`.
 fn clear(area: &mut [u8], base: usize, n: usize)
     requires { base + n ≤ length area.old }
     ensures { area.new ≡ cleared_bytes area.old base n }
@@ -41,12 +40,11 @@ pub fn fresh(s: Settings, area: &mut [u8]) -> Changed
     ensures { (result ≡ (fresh_by in_bytes s area.old).answer) × (area.new ≡ (fresh_by in_bytes s area.old).marks) }
 {
     let bytes = area.len();
-    let answer = fresh::made(s, words_for(bytes));
-    if answer.number != 0 {
-        return answer;
+    let made = fresh::try_fresh(s, words_for(bytes));
+    if made.is_ok() {
+        clear(area, 0, bytes);
     }
-    clear(area, 0, bytes);
-    answer
+    calls::changed_by(fresh::closed(), made)
 }
 
 // ---- start and stop
@@ -67,9 +65,25 @@ fn pack(area: &mut [u8], bases: [usize; 8], sizes: [usize; 8], new: usize)
             place += 1;
         }
     }
-    for i in 0..AREA_BYTES {
-        area[i] = packed[i];
-    }
+    area.copy_from_slice(&packed);
+}
+
+// What a start makes of the record and of the area.
+fn try_start(
+    d: Device,
+    area: &mut [u8],
+    manager: u16,
+    id: u16,
+    data: &[u8],
+) -> Result<Device, RowRefusal>
+    ensures { (started_by d result ≡ (start_by in_bytes d area.old manager id «data».now).answer) × (area.new ≡ (start_by in_bytes d area.old manager id «data».now).marks) }
+{
+    let start = track_send::admit(d, words_for(area.len()), manager, id, data)?;
+    let shares = record::shares(d);
+    let units = ranges::units_in(start.granularity, start.count as usize, start.ranges);
+    let sizes = track_send::sizes_with(shares, start.place, units.0 as usize);
+    pack(area, track_send::bases_of(shares), sizes, start.place);
+    Ok(track_send::recorded(d, manager, start, sizes))
 }
 
 // Starts tracking a controller for a manager from a start structure. Refused, in this order: 1, 2 (also an unknown manager), 4 suspended, 3 already tracked, by either manager, 8 no whole header, 6 version, then what `listed_refusal` asks:
@@ -77,37 +91,24 @@ fn pack(area: &mut [u8], bases: [usize; 8], sizes: [usize; 8], new: usize)
 pub fn start(d: Device, area: &mut [u8], manager: u16, id: u16, data: &[u8]) -> Started
     ensures { (result ≡ (start_by in_bytes d area.old manager id «data».now).answer) × (area.new ≡ (start_by in_bytes d area.old manager id «data».now).marks) }
 {
-    let place = record::locate_by(d, words_for(area.len()), manager, id);
-    let Place::At(i) = place else {
-        return track_send::refused(d, calls::number_of(place), 0);
-    };
+    calls::started_by(d, try_start(d, area, manager, id, data))
+}
+
+// What a stop makes of the record and of the area.
+fn try_stop(d: Device, area: &mut [u8], manager: u16, id: u16) -> Result<Device, Refusal>
+    ensures { (changed_by d result ≡ (stop_by in_bytes d area.old manager id).answer) × (area.new ≡ (stop_by in_bytes d area.old manager id).marks) }
+{
+    let i = record::locate_by(d, words_for(area.len()), manager, id)?;
     let c = d.controllers[i];
     if c.suspended {
-        return track_send::refused(d, 4, 0);
+        return Err(Refusal::Suspended);
     }
-    let t = c.tracking;
-    let Tracking::Off = t else {
-        return track_send::refused(d, 3, 0);
+    let Tracking::On(g, n) = calls::tracking_by(c, manager) else {
+        return Err(Refusal::Untracked);
     };
-    let header = start_data::read_header(data);
-    let Header::Is(g, n) = header else {
-        return track_send::refused(d, track_send::header_number(header), 0);
-    };
-    let refusal = track_send::listed_refusal(d, manager, g, n, data);
-    if refusal.number != 0 {
-        return track_send::refused(d, refusal.number, refusal.row);
-    }
-    let ranges = start_data::read_ranges(data, n as usize);
-    let shares = record::shares(d);
-    let units = ranges::units_in(g, n as usize, ranges);
-    let sizes = track_send::sizes_with(shares, i, units.0 as usize);
-    pack(area, track_send::bases_of(shares), sizes, i);
-    let device = track_send::recorded(d, manager, i, g, n as u8, ranges, sizes);
-    Started {
-        number: 0,
-        row: 0,
-        device,
-    }
+    let units = ranges::units_in(g, n as usize, calls::ranges_of(c));
+    clear(area, c.base as usize, units.0 as usize);
+    Ok(track_send::forgotten(d, i))
 }
 
 // Stops tracking a controller: its ranges are forgotten and its bytes are 0. Refused, in this order: 1, 2 (also an unknown manager), 4 suspended, 5 not tracked by
@@ -115,33 +116,30 @@ pub fn start(d: Device, area: &mut [u8], manager: u16, id: u16, data: &[u8]) -> 
 pub fn stop(d: Device, area: &mut [u8], manager: u16, id: u16) -> Changed
     ensures { (result ≡ (stop_by in_bytes d area.old manager id).answer) × (area.new ≡ (stop_by in_bytes d area.old manager id).marks) }
 {
-    let place = record::locate_by(d, words_for(area.len()), manager, id);
-    let Place::At(i) = place else {
-        let number = calls::number_of(place);
-        return Changed { number, device: d };
-    };
-    let c = d.controllers[i];
-    if c.suspended {
-        return Changed {
-            number: 4,
-            device: d,
-        };
-    }
-    let t = calls::tracking_by(c, manager);
-    let Tracking::On(g, n) = t else {
-        return Changed {
-            number: 5,
-            device: d,
-        };
-    };
-    let ranges = calls::ranges_of(c);
-    let units = ranges::units_in(g, n as usize, ranges);
-    clear(area, c.base as usize, units.0 as usize);
-    let device = track_send::forgotten(d, i);
-    Changed { number: 0, device }
+    calls::changed_by(d, try_stop(d, area, manager, id))
 }
 
 // ---- write, and a batch of writes
+
+// What a note comes to.
+fn try_write(d: Device, area: &mut [u8], id: u16, at: u64, bytes: Bytes) -> Result<usize, Refusal>
+    ensures { (written_by result ≡ (write_by in_bytes d area.old id (record { address = at; bytes = bytes.0 })).answer)
+        × (area.new ≡ (write_by in_bytes d area.old id (record { address = at; bytes = bytes.0 })).marks) }
+{
+    let i = record::locate(d, words_for(area.len()), id)?;
+    let c = d.controllers[i];
+    writes::note_refusal(c.suspended, at, bytes)?;
+    if bytes.0 == 0 {
+        return Ok(0);
+    }
+    let Tracking::On(g, n) = c.tracking else {
+        return Ok(0);
+    };
+    let ranges = calls::ranges_of(c);
+    let size = measures::bytes_of(g, Units(1));
+    let last = at + (bytes.0 - 1);
+    Ok(plain_marks::mark_units(area, c.base as usize, size.0, n as usize, ranges, at, last))
+}
 
 // Notes that controller `id` wrote `bytes` bytes at address `at`. Answers how many units were not pending before. Refused, in this order: 1, 2, 4 suspended, 14 a written range
 // that ends past 2^64.
@@ -149,49 +147,7 @@ pub fn write(d: Device, area: &mut [u8], id: u16, at: u64, bytes: Bytes) -> Writ
     ensures { (result ≡ (write_by in_bytes d area.old id (record { address = at; bytes = bytes.0 })).answer)
         × (area.new ≡ (write_by in_bytes d area.old id (record { address = at; bytes = bytes.0 })).marks) }
 {
-    let place = record::locate(d, words_for(area.len()), id);
-    let Place::At(i) = place else {
-        let number = calls::number_of(place);
-        return Written { number, count: 0 };
-    };
-    let c = d.controllers[i];
-    let number = writes::note_number(c.suspended, at, bytes);
-    if number != 0 {
-        return Written { number, count: 0 };
-    }
-    let length = bytes.0;
-    if length == 0 {
-        return Written {
-            number: 0,
-            count: 0,
-        };
-    }
-    let t = c.tracking;
-    let Tracking::On(g, n) = t else {
-        return Written {
-            number: 0,
-            count: 0,
-        };
-    };
-    let ranges = calls::ranges_of(c);
-    let size = measures::bytes_of(g, Units(1));
-    let count = plain_marks::mark_units(
-        area,
-        c.base as usize,
-        size.0,
-        n as usize,
-        ranges,
-        at,
-        at + (length - 1),
-    );
-    Written { number: 0, count }
-}
-
-// A batch of `total` records on an area of so many bytes, before its first note. Refused, in this order: 1, 22 more than 1,024 records.
-fn begin(d: Device, bytes: usize, total: usize) -> Batched
-    ensures { result ≡ begin_of d (words_for bytes) total }
-{
-    writes::begin(d, words_for(bytes), total)
+    calls::written_by(try_write(d, area, id, at, bytes))
 }
 
 // Notes the writes of a list one after another, as `write` does, up to the first that is refused; that cuts the batch, and the batch is done. Refused, in this order: 1, 22 more
@@ -199,51 +155,48 @@ fn begin(d: Device, bytes: usize, total: usize) -> Batched
 pub fn batch(d: Device, area: &mut [u8], list: &[WriteRecord]) -> Batched
     ensures { (result ≡ (batch_by in_bytes d area.old list.now).answer) × (area.new ≡ (batch_by in_bytes d area.old list.now).marks) }
 {
-    let mut b = begin(d, area.len(), list.len());
-    while writes::due(b, list.len()) {
-        let w = list[b.done];
-        let r = write(d, area, w.id, w.address, w.bytes);
-        b = writes::tally(b, r);
+    let mut b = writes::begin(d, words_for(area.len()), list.len());
+    if b.number != 0 {
+        return b;
+    }
+    for w in list {
+        b = writes::tally(b, write(d, area, w.id, w.address, w.bytes));
+        if b.refusal != 0 {
+            return b;
+        }
     }
     b
-}
-
-// A batch of the first n of some records that are held by value.
-fn batch_front(d: Device, area: &mut [u8], list: [WriteRecord; 1025], n: usize) -> Batched
-    requires { n ≤ 1025 }
-    ensures { (result ≡ (batch_by in_bytes d area.old (take n list)).answer) × (area.new ≡ (batch_by in_bytes d area.old (take n list)).marks) }
-{
-    batch(d, area, &list[..n])
 }
 
 // A batch of the first n of some records, for a caller that holds them by value. There is room for one more than a batch may have, so that a list that is too long is seen.
 pub fn batch_of(d: Device, area: &mut [u8], list: [WriteRecord; 1025], n: usize) -> Batched
     ensures { (result ≡ (batch_by in_bytes d area.old (take n list)).answer) × (area.new ≡ (batch_by in_bytes d area.old (take n list)).marks) }
 {
-    batch_front(d, area, list, writes::listed(n))
+    batch(d, area, &list[..n.min(1025)])
 }
 
 // ---- receive
 
-// Reports to the manager that tracks it the controller's first pending runs into the buffer, as many as it holds, and makes their bytes 0. The answer also says how many groups of 64 units were examined (W10).
-// Refused, in this order: 1, 2 (also an unknown manager), 5 not tracked by this manager, 8 a buffer below 32 bytes.
-pub fn receive(d: Device, area: &mut [u8], manager: u16, id: u16, buffer: &mut [u8]) -> Received
-    ensures { (result ≡ (receive_by in_bytes d area.old manager id buffer.old).answer)
+// What a receive comes to.
+fn try_receive(
+    d: Device,
+    area: &mut [u8],
+    manager: u16,
+    id: u16,
+    buffer: &mut [u8],
+) -> Result<Received, Refusal>
+    ensures { (received_by result ≡ (receive_by in_bytes d area.old manager id buffer.old).answer)
         × (area.new ≡ (receive_by in_bytes d area.old manager id buffer.old).marks)
         × (buffer.new ≡ (receive_by in_bytes d area.old manager id buffer.old).buffer) }
 {
-    let place = record::locate_by(d, words_for(area.len()), manager, id);
-    let Place::At(i) = place else {
-        return track_receive::nothing(calls::number_of(place));
-    };
+    let i = record::locate_by(d, words_for(area.len()), manager, id)?;
     let c = d.controllers[i];
-    let t = calls::tracking_by(c, manager);
-    let Tracking::On(g, n) = t else {
-        return track_receive::nothing(5);
+    let Tracking::On(g, n) = calls::tracking_by(c, manager) else {
+        return Err(Refusal::Untracked);
     };
     let size = buffer.len();
     if size < 32 {
-        return track_receive::nothing(8);
+        return Err(Refusal::Short);
     }
     let ranges = calls::ranges_of(c);
     let unit = measures::bytes_of(g, Units(1));
@@ -256,16 +209,25 @@ pub fn receive(d: Device, area: &mut [u8], manager: u16, id: u16, buffer: &mut [
         buffer,
         (size - 16) / 16,
     );
-    let suspended = c.suspended;
-    report_data::put_header(buffer, id, suspended, listed.more, listed.runs as u32, g);
-    Received {
+    report_data::put_header(buffer, id, c.suspended, listed.more, listed.runs as u32, g);
+    Ok(Received {
         number: 0,
-        suspended,
+        suspended: c.suspended,
         more: listed.more,
         granularity: g,
         runs: listed.runs,
         groups: listed.groups,
-    }
+    })
+}
+
+// Reports to the manager that tracks it the controller's first pending runs into the buffer, as many as it holds, and makes their bytes 0. The answer also says how many groups of 64 units were examined (W10).
+// Refused, in this order: 1, 2 (also an unknown manager), 5 not tracked by this manager, 8 a buffer below 32 bytes.
+pub fn receive(d: Device, area: &mut [u8], manager: u16, id: u16, buffer: &mut [u8]) -> Received
+    ensures { (result ≡ (receive_by in_bytes d area.old manager id buffer.old).answer)
+        × (area.new ≡ (receive_by in_bytes d area.old manager id buffer.old).marks)
+        × (buffer.new ≡ (receive_by in_bytes d area.old manager id buffer.old).buffer) }
+{
+    calls::received_by(try_receive(d, area, manager, id, buffer))
 }
 
 // ---- the calls that touch no mark: the other engine's, of as many words as the area stands for

@@ -1,13 +1,14 @@
 // Lines with logs made by hand, played as the program `hand_logs` does, with the same answers, on the plain engine (document 02, W9).
 #![tactic(auto)]
 
+use engines::Plain;
 use output::Buffer;
 use plain::AREA_BYTES;
 
+// A failed write ends the program, and nobody is told.
 fn main(rt: HostRuntime) {
-    let mut from = rt.stdin();
+    let mut area = [0u8; AREA_BYTES];
+    let engine = Plain { area: &mut area };
     let mut out = Buffer::new(rt.stdout());
-    let mut marks = [0u64; 0];
-    let mut bytes = [0u8; AREA_BYTES];
-    hand_lines::run(&mut from, &mut marks, &mut bytes, &mut out);
+    let _ = hand_lines::run(engine, &mut rt.stdin(), &mut out);
 }

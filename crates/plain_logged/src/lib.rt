@@ -7,34 +7,31 @@ ghost use Rattle.calls.specs.Calls.{fresh_by, stop_by, write_by, batch_by, recei
 ghost use Rattle.plain.specs.Bytes.{words_for, in_bytes};
 ghost use Rattle.booking.specs.Booking.{fresh_log, stop_log, write_log, batch_log, receive_log, units_held, reading_at};
 
-use booking::{LoggedBatch, LoggedChange, LoggedReport, LoggedWrite, Reading};
-use calls::WriteRecord;
+use booking::{Logged, Reading};
+use calls::{Batched, Changed, Received, WriteRecord, Written};
 use log_numbers::Log;
-use record::Place;
 use rules::{Bytes, Device, Settings, Tracking};
 
 // Makes a fresh device, and with it a log in which nothing is booked.
-pub fn fresh(l: Log, s: Settings, area: &mut [u8]) -> LoggedChange
+pub fn fresh(l: Log, s: Settings, area: &mut [u8]) -> Logged<Changed>
     ensures { (result.answer ≡ (fresh_by in_bytes s area.old).answer)
         × (area.new ≡ (fresh_by in_bytes s area.old).marks)
         × (result.log ≡ fresh_log in_bytes l s area.old) }
 {
     let answer = plain::fresh(s, area);
     let log = booking::begun(l, answer.number);
-    LoggedChange { answer, log }
+    Logged { answer, log }
 }
 
 // How many units of a controller are pending, on a record that is sound.
 fn pending_units(d: Device, area: &[u8], id: u16) -> usize
     ensures { sound_with d (words_for (length area.now)) ≡ true → result ≡ units_held in_bytes d area.now id }
 {
-    let place = record::locate(d, plain::words_for(area.len()), id);
-    let Place::At(i) = place else {
+    let Ok(i) = record::locate(d, plain::words_for(area.len()), id) else {
         return 0;
     };
     let c = d.controllers[i];
-    let t = c.tracking;
-    let Tracking::On(g, n) = t else {
+    let Tracking::On(g, n) = c.tracking else {
         return 0;
     };
     let ranges = calls::ranges_of(c);
@@ -43,7 +40,7 @@ fn pending_units(d: Device, area: &[u8], id: u16) -> usize
 }
 
 // Stops a manager's tracking of a controller. What was still pending is booked as dropped.
-pub fn stop(l: Log, d: Device, area: &mut [u8], manager: u16, id: u16) -> LoggedChange
+pub fn stop(l: Log, d: Device, area: &mut [u8], manager: u16, id: u16) -> Logged<Changed>
     ensures { (result.answer ≡ (stop_by in_bytes d area.old manager id).answer)
         × (area.new ≡ (stop_by in_bytes d area.old manager id).marks)
         × (result.log ≡ stop_log in_bytes l d area.old manager id) }
@@ -51,18 +48,18 @@ pub fn stop(l: Log, d: Device, area: &mut [u8], manager: u16, id: u16) -> Logged
     let dropped = pending_units(d, area, id);
     let answer = plain::stop(d, area, manager, id);
     let log = booking::book(l, d.settings, id, answer.number, 0, 0, dropped);
-    LoggedChange { answer, log }
+    Logged { answer, log }
 }
 
 // Notes a write. What was not pending before is booked as marked.
-pub fn write(l: Log, d: Device, area: &mut [u8], id: u16, at: u64, bytes: Bytes) -> LoggedWrite
+pub fn write(l: Log, d: Device, area: &mut [u8], id: u16, at: u64, bytes: Bytes) -> Logged<Written>
     ensures { (result.answer ≡ (write_by in_bytes d area.old id (record { address = at; bytes = bytes.0 })).answer)
         × (area.new ≡ (write_by in_bytes d area.old id (record { address = at; bytes = bytes.0 })).marks)
         × (result.log ≡ write_log in_bytes l d area.old id (record { address = at; bytes = bytes.0 })) }
 {
     let answer = plain::write(d, area, id, at, bytes);
     let log = booking::book(l, d.settings, id, answer.number, answer.count, 0, 0);
-    LoggedWrite { answer, log }
+    Logged { answer, log }
 }
 
 // Notes the first n of some writes one after another, and books each by itself.
@@ -72,22 +69,26 @@ pub fn batch_of(
     area: &mut [u8],
     list: [WriteRecord; 1025],
     n: usize,
-) -> LoggedBatch
+) -> Logged<Batched>
     ensures { (result.answer ≡ (batch_by in_bytes d area.old (take n list)).answer)
         × (area.new ≡ (batch_by in_bytes d area.old (take n list)).marks)
         × (result.log ≡ batch_log in_bytes l d area.old (take n list)) }
 {
-    let total = writes::listed(n);
-    let mut answer = writes::begin(d, plain::words_for(area.len()), total);
+    let notes = &list[..n.min(1025)];
+    let mut answer = writes::begin(d, plain::words_for(area.len()), notes.len());
     let mut log = l;
-    while writes::due(answer, total) {
-        let i = answer.done;
-        let w = list[i];
+    if answer.number != 0 {
+        return Logged { answer, log };
+    }
+    for w in notes {
         let r = plain::write(d, area, w.id, w.address, w.bytes);
         log = booking::book(log, d.settings, w.id, r.number, r.count, 0, 0);
         answer = writes::tally(answer, r);
+        if answer.refusal != 0 {
+            return Logged { answer, log };
+        }
     }
-    LoggedBatch { answer, log }
+    Logged { answer, log }
 }
 
 // Reports a controller's pending runs to its manager. The units of the runs that the report lists are booked as reported.
@@ -98,7 +99,7 @@ pub fn receive(
     manager: u16,
     id: u16,
     buffer: &mut [u8],
-) -> LoggedReport
+) -> Logged<Received>
     ensures { (result.answer ≡ (receive_by in_bytes d area.old manager id buffer.old).answer)
         × (area.new ≡ (receive_by in_bytes d area.old manager id buffer.old).marks)
         × (buffer.new ≡ (receive_by in_bytes d area.old manager id buffer.old).buffer)
@@ -107,7 +108,7 @@ pub fn receive(
     let answer = plain::receive(d, area, manager, id, buffer);
     let reported = booking::units_listed(answer, buffer);
     let log = booking::book(l, d.settings, id, answer.number, 0, reported, 0);
-    LoggedReport { answer, log }
+    Logged { answer, log }
 }
 
 // A controller's totals. Refused, in this order: 1, 2.

@@ -16,10 +16,7 @@ fn covers(r: Range, address: u64, size: u64) -> bool
     requires { 0 < size }
     ensures { result ≡ covers size r address }
 {
-    if address < r.start {
-        return false;
-    }
-    (address - r.start) / size < r.length as u64
+    address >= r.start && (address - r.start) / size < r.length as u64
 }
 
 // Whether a range that is listed before a row covers the byte at an address.
@@ -40,10 +37,7 @@ fn touches(address: u64, size: u64, at: u64, last: u64) -> bool
     requires { (0 < size) × (at ≤ last) × (address + size ≤ 2 ^ 64) }
     ensures { result ≡ touches (write_to at last) (record { row = 0; address = address; size = size }) }
 {
-    if last < address {
-        return false;
-    }
-    at <= address + (size - 1)
+    address <= last && at <= address + (size - 1)
 }
 
 // Marks every unit of the first n ranges that the bytes from `at` to `last` touch, and counts those that were clear. A clear byte becomes 1, one that is

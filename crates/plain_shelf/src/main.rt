@@ -1,31 +1,14 @@
 // The plain shelf program: plays a shelf listing as the program `shelf` does, with the same answers, on the plain engine (document 02, W9).
 #![tactic(auto)]
 
-use output::{Buffer, Waiting};
+use engines::Plain;
+use output::Buffer;
 use plain::AREA_BYTES;
-use queues::AREAS_BYTES;
-use rules::STATE_BYTES;
 
-// The area of bytes is lent, and no mark words. A line's buffer has a byte more than a line may have, so that one which is cut is still too long.
+// A failed write ends the program, and nobody is told.
 fn main(rt: HostRuntime) {
-    let mut marks = [0u64; 0];
-    let mut bytes = [0u8; AREA_BYTES];
-    let mut area = [0u8; STATE_BYTES];
-    let mut areas = [0u8; AREAS_BYTES];
-    let mut line = [0u8; 16384];
-    let mut input = [0u8; 65536];
-    let mut from = rt.stdin();
+    let mut area = [0u8; AREA_BYTES];
+    let engine = Plain { area: &mut area };
     let mut out = Buffer::new(rt.stdout());
-    listings::run(
-        true,
-        &mut from,
-        &mut marks,
-        &mut bytes,
-        &mut area,
-        &mut areas,
-        &mut line,
-        &mut input,
-        &mut out,
-        Waiting::Bytes(0),
-    );
+    let _ = listings::play_shelf(engine, &mut rt.stdin(), &mut out);
 }

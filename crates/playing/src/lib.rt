@@ -4,461 +4,256 @@
 ghost use Rattle.std.specs.Prelude.{◌≡◌, ◌+◌, ◌*◌, ◌≤◌, length};
 ghost use Rattle.listing.specs.Listing.{Bounded};
 
-use calls::{Received, Written};
+use calls::{Received, Started, Written};
+use engines::Engine;
+use lines::Answers;
 use listing::{Call, Line};
 use log_numbers::Log;
-use output::{Buffer, Waiting};
-use rules::{Bytes, Device, Range, Second, Settings};
+use rules::{Bytes, Device, Range, Settings};
+use std::io;
+use std::io::Write;
 
-// After a line that may change the device, and leaves the log as it is: the device, and the answers that wait.
-#[derive(Clone, Copy)]
-pub struct Played {
-    pub device: Device,
-    pub waiting: Waiting,
-}
-
-// After a line that may change the log, and leaves the device as it is: the log, and the answers that wait.
-#[derive(Clone, Copy)]
-pub struct Booked {
-    pub log: Log,
-    pub waiting: Waiting,
-}
-
-// After any line: the device, its log, and the answers that wait.
-#[derive(Clone, Copy)]
-pub struct After {
+// What lines are played on: a device and its log, and the engine that has its marks.
+#[derive(Drop)]
+pub struct Player<E: Engine> {
+    pub engine: E,
     pub device: Device,
     pub log: Log,
-    pub waiting: Waiting,
-}
-
-// After a line that left the log as it was.
-pub fn with_log(l: Log, played: Played) -> After {
-    let device = played.device;
-    let waiting = played.waiting;
-    After {
-        device,
-        log: l,
-        waiting,
-    }
 }
 
 // ---- text
 
-// Puts a name between spaces, and its number.
-pub fn put_named(out: &mut Buffer, waiting: Waiting, name: &[u8], n: u64) -> Waiting {
-    let a = output::put_bytes(out, waiting, name);
-    output::put_number(out, a, n)
-}
-
 // Puts a line that is a number alone.
-pub fn put_answer(out: &mut Buffer, waiting: Waiting, number: u8) -> Waiting {
-    let a = output::put_number(out, waiting, number as u64);
-    output::put_byte(out, a, b'\n')
+pub fn put_number<W: Write>(out: &mut W, number: u8) -> io::Result<()> {
+    writeln!(out, "{number}")
 }
 
 // Puts the answer to a bad line.
-pub fn put_bad(out: &mut Buffer, waiting: Waiting) -> Waiting {
-    output::put_bytes(out, waiting, b"bad\n")
+pub fn put_bad<W: Write>(out: &mut W) -> io::Result<()> {
+    writeln!(out, "bad")
 }
 
 // Puts a start's answer: where a rule of ranges is broken, 18 to 21, the row stands after the number.
-fn put_started(out: &mut Buffer, waiting: Waiting, number: u8, row: u8) -> Waiting {
-    if number < 18 {
-        return put_answer(out, waiting, number);
+fn put_started<W: Write>(out: &mut W, started: Started) -> io::Result<()> {
+    let number = started.number;
+    match number {
+        18..=21 => writeln!(out, "{number} {}", started.row),
+        _ => put_number(out, number),
     }
-    if number > 21 {
-        return put_answer(out, waiting, number);
-    }
-    let a = output::put_number(out, waiting, number as u64);
-    let b = output::put_byte(out, a, b' ');
-    put_answer(out, b, row)
 }
 
-// A bool as a number.
-pub fn bit(b: bool) -> u64 {
-    if b { 1 } else { 0 }
+// Puts a write's answer: a done one's count too.
+fn put_written<W: Write>(out: &mut W, written: Written) -> io::Result<()> {
+    match written.number {
+        0 => writeln!(out, "0 {}", written.count),
+        number => put_number(out, number),
+    }
+}
+
+// Puts a line for each of a report's first `runs` descriptors: its address and its length in units.
+fn put_descriptors<W: Write>(out: &mut W, report: &[u8], runs: usize) -> io::Result<()>
+    requires { 16 + 16 * runs ≤ length report.now }
+{
+    for i in 0..runs {
+        let at = 16 + 16 * i;
+        let address = little::read::<u64>(report, at);
+        let length = little::read::<u32>(report, at + 8);
+        writeln!(out, "{address} {length}")?;
+    }
+    Ok(())
+}
+
+// Puts a receive's answer: a refused one's number alone; what a done one's header says, how many groups it examined (W10), where these are shown, and its descriptors.
+fn put_received<W: Write>(
+    out: &mut W,
+    received: Received,
+    report: &[u8],
+    groups: bool,
+) -> io::Result<()>
+    requires { received.number ≡ 0 → 16 + 16 * received.runs ≤ length report.now }
+{
+    if received.number != 0 {
+        return put_number(out, received.number);
+    }
+    let suspended = u8::from(received.suspended);
+    let more = u8::from(received.more);
+    let granularity = received.granularity;
+    let runs = received.runs;
+    write!(
+        out,
+        "0 susp {suspended} more {more} gran {granularity} runs {runs}"
+    )?;
+    if groups {
+        write!(out, " groups {}", received.groups)?;
+    }
+    writeln!(out)?;
+    put_descriptors(out, report, runs)
 }
 
 // ---- calls
 
-// A device of which every call answers 1, as before a done `dev`.
-pub fn none(marks: &mut [u64], bytes: &mut [u8]) -> Device {
-    let s = settings::no_settings();
-    let made = engines::fresh(s, marks, bytes);
-    made.device
-}
-
-// Plays a line that makes a device with these settings: refused, it keeps the device there was, and its log.
-pub fn dev(
-    l: Log,
-    d: Device,
-    marks: &mut [u64],
-    bytes: &mut [u8],
-    s: Settings,
-    out: &mut Buffer,
-    waiting: Waiting,
-) -> After {
-    let logged = engines::fresh_logged(l, s, marks, bytes);
-    let made = logged.answer;
-    let log = logged.log;
-    let number = made.number;
-    let waiting = put_answer(out, waiting, number);
-    if number != 0 {
-        return After {
-            device: d,
-            log,
-            waiting,
-        };
+impl<E: Engine> Player<E> {
+    // On a device of which every call answers 1, as before a done `dev`.
+    pub fn new(mut engine: E) -> Player<E> {
+        let made = engine.fresh(settings::no_settings());
+        Player {
+            engine,
+            device: made.device,
+            log: log_numbers::empty(),
+        }
     }
-    let device = made.device;
-    After {
-        device,
-        log,
-        waiting,
+
+    // Plays a line that makes a device with these settings: refused, it keeps the device there was, and its log.
+    pub fn dev<W: Write>(&mut self, s: Settings, out: &mut W) -> io::Result<()> {
+        let logged = self.engine.fresh_logged(self.log, s);
+        self.log = logged.log;
+        let made = logged.answer;
+        if made.number == 0 {
+            self.device = made.device;
+        }
+        put_number(out, made.number)
     }
-}
 
-// Plays a `start` of `count` ranges, by way of the bytes of a start structure.
-fn start(
-    d: Device,
-    marks: &mut [u64],
-    bytes: &mut [u8],
-    manager: u16,
-    id: u16,
-    granularity: u8,
-    count: usize,
-    ranges: [Range; 16],
-    out: &mut Buffer,
-    waiting: Waiting,
-) -> Played
-    requires { count ≤ 16 }
-{
-    let mut data = [0u8; 200];
-    start_data::write_start(&mut data, granularity, count as u32, ranges);
-    let started = engines::start(d, marks, bytes, manager, id, &data);
-    let waiting = put_started(out, waiting, started.number, started.row);
-    let device = started.device;
-    Played { device, waiting }
-}
-
-// Plays a `stop`.
-fn stop(
-    l: Log,
-    d: Device,
-    marks: &mut [u64],
-    bytes: &mut [u8],
-    manager: u16,
-    id: u16,
-    out: &mut Buffer,
-    waiting: Waiting,
-) -> After {
-    let logged = engines::stop_logged(l, d, marks, bytes, manager, id);
-    let changed = logged.answer;
-    let log = logged.log;
-    let waiting = put_answer(out, waiting, changed.number);
-    let device = changed.device;
-    After {
-        device,
-        log,
-        waiting,
+    // Plays a `start` of `count` ranges, by way of the bytes of a start structure.
+    fn start<W: Write>(
+        &mut self,
+        manager: u16,
+        id: u16,
+        granularity: u8,
+        count: usize,
+        ranges: [Range; 16],
+        out: &mut W,
+    ) -> io::Result<()>
+        requires { count ≤ 16 }
+    {
+        let mut data = [0u8; 200];
+        start_data::write_start(&mut data, granularity, count as u32, ranges);
+        let started = self.engine.start(self.device, manager, id, &data);
+        self.device = started.device;
+        put_started(out, started)
     }
-}
 
-// Plays a `susp`.
-fn suspend(
-    d: Device,
-    marks: &[u64],
-    bytes: &[u8],
-    manager: u16,
-    id: u16,
-    kind: u8,
-    out: &mut Buffer,
-    waiting: Waiting,
-) -> Played {
-    let changed = engines::suspend(d, marks, bytes, manager, id, kind);
-    let waiting = put_answer(out, waiting, changed.number);
-    let device = changed.device;
-    Played { device, waiting }
-}
-
-// Plays a `resume`.
-fn resume(
-    d: Device,
-    marks: &[u64],
-    bytes: &[u8],
-    manager: u16,
-    id: u16,
-    out: &mut Buffer,
-    waiting: Waiting,
-) -> Played {
-    let changed = engines::resume(d, marks, bytes, manager, id);
-    let waiting = put_answer(out, waiting, changed.number);
-    let device = changed.device;
-    Played { device, waiting }
-}
-
-// Puts a write's answer: a done one's count too.
-fn put_written(out: &mut Buffer, waiting: Waiting, written: Written) -> Waiting {
-    if written.number != 0 {
-        return put_answer(out, waiting, written.number);
+    // Plays a `stop`.
+    fn stop<W: Write>(&mut self, manager: u16, id: u16, out: &mut W) -> io::Result<()> {
+        let logged = self.engine.stop_logged(self.log, self.device, manager, id);
+        self.log = logged.log;
+        let changed = logged.answer;
+        self.device = changed.device;
+        put_number(out, changed.number)
     }
-    let a = output::put_bytes(out, waiting, b"0 ");
-    let b = output::put_number(out, a, written.count as u64);
-    output::put_byte(out, b, b'\n')
-}
 
-// Plays a `write`.
-fn write(
-    l: Log,
-    d: Device,
-    marks: &mut [u64],
-    bytes: &mut [u8],
-    id: u16,
-    at: u64,
-    length: u64,
-    out: &mut Buffer,
-    waiting: Waiting,
-) -> Booked {
-    let logged = engines::write_logged(l, d, marks, bytes, id, at, Bytes(length));
-    let written = logged.answer;
-    let log = logged.log;
-    let waiting = put_written(out, waiting, written);
-    Booked { log, waiting }
-}
-
-// Puts the line of the descriptor at index `at` of a report: its address and its length in units.
-fn put_descriptor(report: &[u8], at: usize, out: &mut Buffer, waiting: Waiting) -> Waiting
-    requires { at + 16 ≤ length report.now }
-{
-    let address = little::read_u64(report, at);
-    let length = little::read_u32(report, at + 8);
-    let a = output::put_number(out, waiting, address);
-    let b = output::put_byte(out, a, b' ');
-    let c = output::put_number(out, b, length as u64);
-    output::put_byte(out, c, b'\n')
-}
-
-// Puts the lines of a report's first `runs` descriptors.
-fn put_descriptors(report: &[u8], runs: usize, out: &mut Buffer, waiting: Waiting) -> Waiting
-    requires { 16 + 16 * runs ≤ length report.now }
-{
-    let mut waiting = waiting;
-    let mut i: usize = 0;
-    while i < runs {
-        waiting = put_descriptor(report, 16 + 16 * i, out, waiting);
-        i = i + 1;
+    // Plays a `susp`.
+    fn suspend<W: Write>(
+        &mut self,
+        manager: u16,
+        id: u16,
+        kind: u8,
+        out: &mut W,
+    ) -> io::Result<()> {
+        let changed = self.engine.suspend(self.device, manager, id, kind);
+        self.device = changed.device;
+        put_number(out, changed.number)
     }
-    waiting
-}
 
-// Puts how many groups a receive examined (W10), where they are shown.
-fn put_groups(groups: usize, shown: bool, out: &mut Buffer, waiting: Waiting) -> Waiting {
-    if !shown {
-        return waiting;
+    // Plays a `resume`.
+    fn resume<W: Write>(&mut self, manager: u16, id: u16, out: &mut W) -> io::Result<()> {
+        let changed = self.engine.resume(self.device, manager, id);
+        self.device = changed.device;
+        put_number(out, changed.number)
     }
-    put_named(out, waiting, b" groups ", groups as u64)
-}
 
-// Puts the answer of a done receive: what the report's header says, the groups where they are shown, and a line for each descriptor.
-fn put_report(
-    received: Received,
-    report: &[u8],
-    shown: bool,
-    out: &mut Buffer,
-    waiting: Waiting,
-) -> Waiting
-    requires { 16 + 16 * received.runs ≤ length report.now }
-{
-    let a = put_named(out, waiting, b"0 susp ", bit(received.suspended));
-    let b = put_named(out, a, b" more ", bit(received.more));
-    let c = put_named(out, b, b" gran ", received.granularity as u64);
-    let e = put_named(out, c, b" runs ", received.runs as u64);
-    let f = put_groups(received.groups, shown, out, e);
-    let h = output::put_byte(out, f, b'\n');
-    put_descriptors(report, received.runs, out, h)
-}
-
-// Puts a receive's answer: a refused one's number alone.
-fn put_received(
-    received: Received,
-    report: &[u8],
-    shown: bool,
-    out: &mut Buffer,
-    waiting: Waiting,
-) -> Waiting
-    requires { received.number ≡ 0 → 16 + 16 * received.runs ≤ length report.now }
-{
-    if received.number != 0 {
-        return put_answer(out, waiting, received.number);
+    // Plays a `write`.
+    fn write<W: Write>(&mut self, id: u16, at: u64, length: Bytes, out: &mut W) -> io::Result<()> {
+        let logged = self
+            .engine
+            .write_logged(self.log, self.device, id, at, length);
+        self.log = logged.log;
+        put_written(out, logged.answer)
     }
-    put_report(received, report, shown, out, waiting)
-}
 
-// Plays a `recv` with a buffer of these bytes.
-fn receive(
-    l: Log,
-    d: Device,
-    marks: &mut [u64],
-    bytes: &mut [u8],
-    manager: u16,
-    id: u16,
-    report: &mut [u8],
-    shown: bool,
-    out: &mut Buffer,
-    waiting: Waiting,
-) -> Booked {
-    let logged = engines::receive_logged(l, d, marks, bytes, manager, id, report);
-    let received = logged.answer;
-    let log = logged.log;
-    let waiting = put_received(received, report, shown, out, waiting);
-    Booked { log, waiting }
-}
-
-// Plays a `recv` with a buffer of `size` bytes.
-fn receive_into(
-    l: Log,
-    d: Device,
-    marks: &mut [u64],
-    bytes: &mut [u8],
-    manager: u16,
-    id: u16,
-    size: usize,
-    shown: bool,
-    out: &mut Buffer,
-    waiting: Waiting,
-) -> Booked
-    requires { size ≤ 4096 }
-{
-    let mut report = [0u8; 4096];
-    receive(
-        l,
-        d,
-        marks,
-        bytes,
-        manager,
-        id,
-        &mut report[..size],
-        shown,
-        out,
-        waiting,
-    )
-}
-
-// ---- lines
-
-// Plays a bad line, which leaves the device and the log as they are.
-pub fn bad(d: Device, out: &mut Buffer, waiting: Waiting) -> Played {
-    let waiting = put_bad(out, waiting);
-    Played { device: d, waiting }
-}
-
-// Whether a call may change the record.
-pub fn changes(call: Call) -> bool {
-    match call {
-        Call::Bad => false,
-        Call::Write { id, address, bytes } => false,
-        Call::Recv { id, size } => false,
-        _ => true,
+    // Plays a `recv` with a buffer of `size` bytes.
+    fn receive<W: Write>(
+        &mut self,
+        manager: u16,
+        id: u16,
+        size: usize,
+        groups: bool,
+        out: &mut W,
+    ) -> io::Result<()>
+        requires { size ≤ 4096 }
+    {
+        let mut report = [0u8; 4096];
+        let report = &mut report[..size];
+        let logged = self
+            .engine
+            .receive_logged(self.log, self.device, manager, id, report);
+        self.log = logged.log;
+        put_received(out, logged.answer, report, groups)
     }
-}
 
-// Plays a line whose call, by this manager, may change the record. A `dev` has one manager, and the shelf limit 128 (document 02, W12).
-pub fn change(
-    l: Log,
-    d: Device,
-    marks: &mut [u64],
-    bytes: &mut [u8],
-    caller: u16,
-    line: Line,
-    out: &mut Buffer,
-    waiting: Waiting,
-) -> After
-    requires { Bounded line.call }
-{
-    let call = line.call;
-    match call {
-        Call::Dev {
-            manager,
-            least,
-            greatest,
-            powers,
-            limit,
-            count,
-        } => {
-            let identifiers = line.identifiers;
-            let s = Settings {
+    // Plays a line of document 01, whose call this manager makes, and shows the groups of a `recv` or not. A `dev` has one manager, and the shelf limit 128 (document
+    // 02, W12).
+    pub fn play<W: Write>(
+        &mut self,
+        caller: u16,
+        line: Line,
+        groups: bool,
+        out: &mut W,
+    ) -> io::Result<()>
+        requires { Bounded line.call }
+    {
+        match line.call {
+            Call::Bad => put_bad(out),
+            Call::Dev {
                 manager,
                 least,
                 greatest,
                 powers,
                 limit,
-                second: Second::Nothing,
-                shelf: 128,
                 count,
-                identifiers,
-            };
-            dev(l, d, marks, bytes, s, out, waiting)
-        }
-        Call::Start {
-            id,
-            granularity,
-            count,
-        } => {
-            let ranges = line.ranges;
-            let started = start(
-                d,
-                marks,
-                bytes,
-                caller,
+            } => {
+                let identifiers = line.identifiers;
+                let s = Settings {
+                    manager,
+                    least,
+                    greatest,
+                    powers,
+                    limit,
+                    second: None,
+                    shelf: 128,
+                    count,
+                    identifiers,
+                };
+                self.dev(s, out)
+            }
+            Call::Start {
                 id,
                 granularity,
                 count,
-                ranges,
-                out,
-                waiting,
-            );
-            with_log(l, started)
+            } => self.start(caller, id, granularity, count, line.ranges, out),
+            Call::Stop(id) => self.stop(caller, id, out),
+            Call::Write { id, address, bytes } => self.write(id, address, Bytes(bytes), out),
+            Call::Recv { id, size } => self.receive(caller, id, size, groups, out),
+            Call::Susp { id, kind } => self.suspend(caller, id, kind, out),
+            Call::Resume(id) => self.resume(caller, id, out),
         }
-        Call::Stop(id) => stop(l, d, marks, bytes, caller, id, out, waiting),
-        Call::Susp { id, kind } => {
-            with_log(l, suspend(d, marks, bytes, caller, id, kind, out, waiting))
-        }
-        Call::Resume(id) => with_log(l, resume(d, marks, bytes, caller, id, out, waiting)),
-        _ => After {
-            device: d,
-            log: l,
-            waiting,
-        },
+    }
+
+    // Reads and plays a line of document 01.
+    pub fn play_line<W: Write>(
+        &mut self,
+        caller: u16,
+        line: &[u8],
+        groups: bool,
+        out: &mut W,
+    ) -> io::Result<()> {
+        self.play(caller, listing::read_line(line), groups, out)
     }
 }
 
-// Plays a line whose call, by this manager, leaves the record as it is.
-pub fn answer(
-    l: Log,
-    d: Device,
-    marks: &mut [u64],
-    bytes: &mut [u8],
-    caller: u16,
-    call: Call,
-    groups: bool,
-    out: &mut Buffer,
-    waiting: Waiting,
-) -> Booked
-    requires { Bounded call }
-{
-    match call {
-        Call::Write {
-            id,
-            address,
-            bytes: length,
-        } => write(l, d, marks, bytes, id, address, length, out, waiting),
-        Call::Recv { id, size } => receive_into(
-            l, d, marks, bytes, caller, id, size, groups, out, waiting,
-        ),
-        _ => {
-            let waiting = put_bad(out, waiting);
-            Booked { log: l, waiting }
-        }
+impl<E: Engine> Answers for Player<E> {
+    // Plays a line of document 01's listing, whose calls the first manager makes, and shows no groups.
+    fn answer<W: Write>(&mut self, line: &[u8], out: &mut W) -> io::Result<()> {
+        self.play_line(self.device.settings.manager, line, false, out)
     }
 }

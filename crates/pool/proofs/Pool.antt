@@ -1,4 +1,4 @@
--- Laws of `new_base`, `new_bases` and `packed`, for callers; then those of the loops of `pack`, `new_bases` and `copy_words`.
+-- Laws of `new_base`, `new_bases` and `packed`, for callers; then those of the loops of `pack` and `new_bases`.
 -- Assumes nothing.
 use mathlib.Core.Path.{◌≡◌, refl, sym, ap, ap₂, ◌∙◌}
 use mathlib.Core.Bool.{Bool, true, false, cond}
@@ -254,6 +254,6 @@ pub bases-turn : (sizes bases : List ℕ) (to i : ℕ) → i < length bases → 
 unfolding first_bases
 bases-turn sizes bases to i h e q = rw (add-one, take-suc-set bases i to, e, q)
 
--- ---- the loop of `copy_words`
+-- ---- a loop that copies words one by one, for callers
 pub words-turn : (dst src : List ℕ) (i : ℕ) → i < length dst → i < length src → take i dst ≡ take i src → take (i + 1) (set dst i (get_or src i 0)) ≡ take (i + 1) src
 words-turn dst src i h g e = rw (add-one, take-suc-set dst i (get_or src i 0), take-suc src i 0, e)

@@ -8,18 +8,6 @@ ghost use Rattle.std.specs.Prelude.{◌≡◌, length, ◌^◌, ◌<◌};
 ghost use Rattle.bits.specs.Flat.{flat};
 ghost use Rattle.pool.specs.Pool.{packed, new_base, new_bases, Packs};
 
-// Copies the words of `src` to `dst`, which has as many.
-fn copy_words(dst: &mut [u64], src: &[u64])
-    requires { length dst.old ≡ length src.now }
-    ensures { dst.new ≡ src.now }
-{
-    let mut i: usize = 0;
-    while i < src.len() {
-        dst[i] = src[i];
-        i += 1;
-    }
-}
-
 // Where each share begins once packed: behind the shares of the places before it.
 pub fn new_bases(sizes: [usize; 8]) -> [usize; 8]
     requires { new_base sizes 8 < 2 ^ 64 }
@@ -27,12 +15,9 @@ pub fn new_bases(sizes: [usize; 8]) -> [usize; 8]
 {
     let mut bases = [0usize; 8];
     let mut to: usize = 0;
-    let mut i: usize = 0;
-    while i < 8 {
-        let end = to + sizes[i];
+    for i in 0..8 {
         bases[i] = to;
-        to = end;
-        i += 1;
+        to += sizes[i];
     }
     bases
 }
@@ -46,15 +31,13 @@ pub fn pack(marks: &mut [u64], bases: [usize; 8], sizes: [usize; 8], clear: usiz
 {
     let mut new = [0u64; 256];
     let mut to: usize = 0;
-    let mut i: usize = 0;
-    while i < 8 {
+    for i in 0..8 {
         let from = bases[i];
         let n = sizes[i];
         if i != clear && 0 < n {
             bits::copy_span(&mut new, to, marks, from, n);
         }
         to += n;
-        i += 1;
     }
-    copy_words(marks, &new);
+    marks.copy_from_slice(&new);
 }

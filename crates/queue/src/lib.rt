@@ -3,17 +3,18 @@
 // the buffer afterwards; marks are only read. No call looks at the bytes of an entry.
 #![tactic(auto)]
 
-ghost use Rattle.std.specs.Prelude.{◌≡◌, false, ◌&&◌, cond, ◌*◌, ◌<◌, ◌≤◌, min, length, get_or};
+ghost use Rattle.std.specs.Prelude.{◌≡◌, false, ◌&&◌, cond, ◌*◌, ◌<◌, ◌≤◌, length, IfOk};
 ghost use Rattle.little.specs.Little.{put};
 ghost use Rattle.rules.specs.Queue.{places_ok, closing_entry, joined, closes_at, taken_of, closes_with};
 ghost use Rattle.rules.specs.Order.{size_made};
 ghost use Rattle.ring.specs.Ring.{place_after};
-ghost use Rattle.record.specs.Record.{no_controller, places_of};
+ghost use Rattle.record.specs.Record.{places_of, where_is};
 ghost use Rattle.calls.specs.Calls.{with_queue, fill_in, queued_in, ring_posted, ring_taken, make_change, post_change, take_change};
+ghost use Rattle.calls.specs.Inner.{changed_by, posted_by, taken_by};
+ghost use Rattle.queue.specs.Inner.{Usable, lent_to};
 
 use calls::{Changed, Posted, Taken};
-use record::Place;
-use rules::{Controller, Device, ENTRY_BYTES, MOST_PLACES, Queue, Ring};
+use rules::{Device, ENTRY_BYTES, MOST_PLACES, Refusal, Ring};
 
 // ---- the area
 
@@ -21,65 +22,51 @@ use rules::{Controller, Device, ENTRY_BYTES, MOST_PLACES, Queue, Ring};
 fn places_ok(bytes: usize) -> bool
     ensures { result ≡ places_ok bytes }
 {
-    if bytes % ENTRY_BYTES != 0 {
-        return false;
-    }
     let places = bytes / ENTRY_BYTES;
-    if places < 2 {
-        return false;
-    }
-    places <= MOST_PLACES
+    bytes % ENTRY_BYTES == 0 && 2 <= places && places <= MOST_PLACES
 }
 
 // Whether so many bytes are the size that a queue was made with; any are where none was made.
-fn size_made(q: Queue, bytes: usize) -> bool
+fn size_made(q: Option<Ring>, bytes: usize) -> bool
     ensures { result ≡ size_made (places_of q) bytes }
 {
-    let Queue::Is(r) = q else {
-        return true;
-    };
-    bytes == ENTRY_BYTES * (r.size as usize)
+    q.is_none_or(|r| bytes == ENTRY_BYTES * (r.size as usize))
 }
 
 // Whether an area of so many bytes may be lent to a post or a take.
-fn area_ok(q: Queue, bytes: usize) -> bool
+fn area_ok(q: Option<Ring>, bytes: usize) -> bool
     ensures { result ≡ (places_ok bytes && size_made (places_of q) bytes) }
 {
-    if !places_ok(bytes) {
-        return false;
-    }
-    size_made(q, bytes)
+    places_ok(bytes) && size_made(q, bytes)
 }
 
 // ---- the record
 
-// The queue of the controller at a place.
-fn queue_at(d: Device, i: usize) -> Queue
-    requires { i < 8 }
-    ensures { result ≡ (get_or d.controllers i no_controller).queue }
-{
-    let own = d.controllers[i];
-    own.queue
-}
-
 // The record with another queue for the controller at a place.
-fn with_queue(d: Device, i: usize, queue: Queue) -> Device
+fn with_queue(d: Device, i: usize, queue: Option<Ring>) -> Device
     requires { i < 8 }
     ensures { result ≡ with_queue d i queue }
 {
-    let c = d.controllers[i];
-    let tracking = c.tracking;
-    let ranges = c.ranges;
     let mut e = d;
-    e.controllers[i] = Controller {
-        tracking,
-        manager: c.manager,
-        base: c.base,
-        suspended: c.suspended,
-        ranges,
-        queue,
-    };
+    e.controllers[i].queue = queue;
     e
+}
+
+// A controller's place and its queue, to which an area of so many bytes is lent. Refused, in this order: 1, 2, 28 the area is no whole 2 to 1,024 places or not the
+// size made, 29 no queue.
+fn lent(d: Device, words: usize, id: u16, bytes: usize) -> Result<(usize, Ring), Refusal>
+    ensures queue { result ≡ lent_to d bytes (where_is d words id) }
+    ensures usable { IfOk result (λ at. (at.0 < 8) × Usable bytes at.1) }
+{
+    let i = record::locate(d, words, id)?;
+    let queue = d.controllers[i].queue;
+    if !area_ok(queue, bytes) {
+        return Err(Refusal::Area);
+    }
+    let Some(r) = queue else {
+        return Err(Refusal::NoQueue);
+    };
+    Ok((i, r))
 }
 
 // How many entries a ring has queued.
@@ -104,20 +91,10 @@ fn store(area: &mut [u8], r: Ring, entry: &[u8]) -> bool
     let free = n - fill;
     if free > 1 {
         ring::put_entry(area, n, place, fill, entry);
-        return false;
-    }
-    ring::put_closing(area, n, place, fill);
-    true
-}
-
-// The answer to a refused post.
-fn refused_post(d: Device, number: u8) -> Posted
-    ensures { result ≡ record { number = number; stopped = false; device = d } }
-{
-    Posted {
-        number,
-        stopped: false,
-        device: d,
+        false
+    } else {
+        ring::put_closing(area, n, place, fill);
+        true
     }
 }
 
@@ -127,25 +104,13 @@ fn after_post(r: Ring, closed: bool) -> Ring
 {
     let posted = ring::next_total(r.posted, 1);
     Ring {
-        size: r.size,
         posted,
-        taken: r.taken,
-        place: r.place,
         stopped: closed,
+        ..r
     }
 }
 
 // ---- a take
-
-// The lesser of two numbers.
-fn least(a: usize, b: usize) -> usize
-    ensures { result ≡ min a b }
-{
-    if a < b {
-        return a;
-    }
-    b
-}
 
 // Copies the oldest entries to the buffer's front: the least of those asked for, those queued and those that fit whole in it. Says how many.
 fn hand_out(area: &[u8], r: Ring, asked: u32, buffer: &mut [u8]) -> usize
@@ -156,9 +121,8 @@ fn hand_out(area: &[u8], r: Ring, asked: u32, buffer: &mut [u8]) -> usize
 {
     let n = r.size as usize;
     let oldest = r.place as usize;
-    let fill = fill_of(r);
-    let fits = least(buffer.len() / ENTRY_BYTES, fill);
-    let m = least(asked as usize, fits);
+    let fits = (buffer.len() / ENTRY_BYTES).min(fill_of(r));
+    let m = (asked as usize).min(fits);
     ring::take_entries(area, n, oldest, m, buffer);
     m
 }
@@ -167,25 +131,7 @@ fn hand_out(area: &[u8], r: Ring, asked: u32, buffer: &mut [u8]) -> usize
 fn is_closing(r: Ring, m: usize) -> bool
     ensures { result ≡ closes_with r.stopped m (fill_in r) }
 {
-    if !r.stopped {
-        return false;
-    }
-    if m == 0 {
-        return false;
-    }
-    m == fill_of(r)
-}
-
-// The answer to a refused take.
-fn refused_take(d: Device, number: u8) -> Taken
-    ensures { result ≡ record { number = number; count = 0; closing = false; device = d } }
-{
-    Taken {
-        number,
-        count: 0,
-        closing: false,
-        device: d,
-    }
+    r.stopped && m != 0 && m == fill_of(r)
 }
 
 // The ring without its m oldest entries.
@@ -197,41 +143,38 @@ fn after_take(r: Ring, m: usize) -> Ring
     let taken = ring::next_total(r.taken, m as u32);
     let place = ring::place_after(n, r.place as usize, m);
     Ring {
-        size: r.size,
-        posted: r.posted,
         taken,
         place: place as u16,
-        stopped: r.stopped,
+        ..r
     }
 }
 
 // ---- the calls
 
-// `make_queue` on marks of so many words, however they are held.
-pub fn make_queue_on(d: Device, words: usize, id: u16, area: &[u8]) -> Changed
-    ensures { result ≡ make_change d words id (length area.now) }
+// What a make makes of the record.
+fn try_make_queue(d: Device, words: usize, id: u16, area: &[u8]) -> Result<Device, Refusal>
+    ensures { changed_by d result ≡ make_change d words id (length area.now) }
 {
-    let place = record::locate(d, words, id);
-    let Place::At(i) = place else {
-        let number = calls::number_of(place);
-        return Changed { number, device: d };
-    };
+    let i = record::locate(d, words, id)?;
     if !places_ok(area.len()) {
-        return Changed {
-            number: 28,
-            device: d,
-        };
+        return Err(Refusal::Area);
     }
-    let places = area.len() / ENTRY_BYTES;
-    let queue = Queue::Is(Ring {
-        size: places as u16,
+    let size = (area.len() / ENTRY_BYTES) as u16;
+    let made = Ring {
+        size,
         posted: 0,
         taken: 0,
         place: 0,
         stopped: false,
-    });
-    let device = with_queue(d, i, queue);
-    Changed { number: 0, device }
+    };
+    Ok(with_queue(d, i, Some(made)))
+}
+
+// `make_queue` on marks of so many words, however they are held.
+pub fn make_queue_on(d: Device, words: usize, id: u16, area: &[u8]) -> Changed
+    ensures { result ≡ make_change d words id (length area.now) }
+{
+    calls::changed_by(d, try_make_queue(d, words, id, area))
 }
 
 // Makes a controller's queue in an area, or makes it anew: it is empty, with totals 0, and has as many places as the area. No byte of the area changes. Refused, in
@@ -242,37 +185,40 @@ pub fn make_queue(d: Device, marks: &[u64], id: u16, area: &[u8]) -> Changed
     make_queue_on(d, marks.len(), id, area)
 }
 
+// What a post comes to.
+fn try_post(
+    d: Device,
+    words: usize,
+    area: &mut [u8],
+    id: u16,
+    entry: &[u8],
+) -> Result<Posted, Refusal>
+    ensures { (posted_by d result ≡ (post_change d words area.old id entry.now).answer)
+        × (area.new ≡ (post_change d words area.old id entry.now).area) }
+{
+    let (i, r) = lent(d, words, id, area.len())?;
+    if entry.len() != ENTRY_BYTES {
+        return Err(Refusal::Short);
+    }
+    if r.stopped {
+        return Err(Refusal::Stopped);
+    }
+    let stopped = store(area, r, entry);
+    let device = with_queue(d, i, Some(after_post(r, stopped)));
+    Ok(Posted {
+        number: 0,
+        stopped,
+        device,
+    })
+}
+
 // `post` on marks of so many words, however they are held.
 pub fn post_on(d: Device, words: usize, area: &mut [u8], id: u16, entry: &[u8]) -> Posted
     ensures { (result ≡ (post_change d words area.old id entry.now).answer)
         × (area.new ≡ (post_change d words area.old id entry.now).area) }
 {
-    let place = record::locate(d, words, id);
-    let Place::At(i) = place else {
-        let number = calls::number_of(place);
-        return refused_post(d, number);
-    };
-    let q = queue_at(d, i);
-    if !area_ok(q, area.len()) {
-        return refused_post(d, 28);
-    }
-    let Queue::Is(r) = q else {
-        return refused_post(d, 29);
-    };
-    if entry.len() != ENTRY_BYTES {
-        return refused_post(d, 8);
-    }
-    if r.stopped {
-        return refused_post(d, 30);
-    }
-    let closed = store(area, r, entry);
-    let queue = Queue::Is(after_post(r, closed));
-    let device = with_queue(d, i, queue);
-    Posted {
-        number: 0,
-        stopped: closed,
-        device,
-    }
+    let outcome = try_post(d, words, area, id, entry);
+    calls::posted_by(d, outcome)
 }
 
 // Posts an entry to a controller's queue: it is stored behind those that are queued. Where only one place is free the closing entry is stored there instead, and the
@@ -283,6 +229,30 @@ pub fn post(d: Device, marks: &[u64], area: &mut [u8], id: u16, entry: &[u8]) ->
         × (area.new ≡ (post_change d (length marks.now) area.old id entry.now).area) }
 {
     post_on(d, marks.len(), area, id, entry)
+}
+
+// What a take comes to.
+fn try_take(
+    d: Device,
+    words: usize,
+    area: &[u8],
+    id: u16,
+    asked: u32,
+    buffer: &mut [u8],
+) -> Result<Taken, Refusal>
+    ensures { (taken_by d result ≡ (take_change d words area.now id asked buffer.old).answer)
+        × (buffer.new ≡ (take_change d words area.now id asked buffer.old).buffer) }
+{
+    let (i, r) = lent(d, words, id, area.len())?;
+    let count = hand_out(area, r, asked, buffer);
+    let closing = is_closing(r, count);
+    let device = with_queue(d, i, Some(after_take(r, count)));
+    Ok(Taken {
+        number: 0,
+        count,
+        closing,
+        device,
+    })
 }
 
 // `take` on marks of so many words, however they are held.
@@ -297,28 +267,8 @@ pub fn take_on(
     ensures { (result ≡ (take_change d words area.now id asked buffer.old).answer)
         × (buffer.new ≡ (take_change d words area.now id asked buffer.old).buffer) }
 {
-    let place = record::locate(d, words, id);
-    let Place::At(i) = place else {
-        let number = calls::number_of(place);
-        return refused_take(d, number);
-    };
-    let q = queue_at(d, i);
-    if !area_ok(q, area.len()) {
-        return refused_take(d, 28);
-    }
-    let Queue::Is(r) = q else {
-        return refused_take(d, 29);
-    };
-    let m = hand_out(area, r, asked, buffer);
-    let closing = is_closing(r, m);
-    let queue = Queue::Is(after_take(r, m));
-    let device = with_queue(d, i, queue);
-    Taken {
-        number: 0,
-        count: m,
-        closing,
-        device,
-    }
+    let outcome = try_take(d, words, area, id, asked, buffer);
+    calls::taken_by(d, outcome)
 }
 
 // Takes the oldest entries of a controller's queue into a buffer, one after another from its front on: as many as were asked for, are queued and fit whole, and maybe

@@ -1,28 +1,27 @@
 -- Laws of the range rules (18 to 21, and 10) as the code asks them: one range, the rows, the whole table; how many units ranges have; and what ranges
 -- that pass are known by (`HeldFacts`). All of it is the library's interface. Assumes nothing.
-use Prim.Native.Nat.{ℕ, zero, suc, ◌+◌, ◌-◌, ◌*◌, ◌%◌, ◌^◌, ◌<◌, ◌≤◌, min}
+use Prim.Native.Nat.{ℕ, zero, suc, ◌-◌, ◌*◌, ◌%◌, ◌^◌, ◌<◌, ◌≤◌}
 use mathlib.Core.Path.{◌≡◌, refl, sym, ap, ◌∙◌}
 use mathlib.Core.Logic.{◌≢◌}
 use mathlib.Core.Bool.{Bool, true, false, not, ◌&&◌, ◌||◌, and-true, and-false, cond}
 use mathlib.Core.List.{List, [], ◌∷◌, ◌++◌}
-use native.Mathlib.Numerals.{add-one}
 use native.Mathlib.Omega.{arith}
 use native.Mathlib.Nat.{mul-le-mul_left}
 use lib.Dec.{leb, eqb}
-use lib.ListN.{length, get_or, take, drop}
-use borrow.Author.Tests.{leb-true, le-leb, lt-leb, eq-eqb, ne_eqb}
+use Rattle.std.specs.declared.option.Option.TheVariants.{None}
+use lib.ListN.{length, get_or}
+use borrow.Author.Tests.{leb-true, le-leb, lt-leb, eq-eqb}
 use Rattle.rules.specs.Lists.{all, keep}
-use Rattle.rules.specs.Refusals.{Test, ◌else◌, passes, refusal, refusal_at}
+use Rattle.rules.specs.Refusals.{Test, ◌else◌, passes, refusal, Refused, refusal_at}
 use Rattle.rules.specs.Settings.{most_units, granularity_ok, unit_size, bytes_of}
 use Rattle.rules.specs.Units.{end_of, units_of_row, uncovered, units_from, units}
 use Rattle.rules.specs.Ranges.{row_tests, row_ok, rows_ok, rows_tests, range_tests, is_power, powers_ok, list_tests}
 use Rattle.rules.specs.StartData.{no_range}
 use Rattle.rules.specs.declared.Range.{Range}
-use Rattle.rules.specs.declared.Refusal.{Refusal}
 use Rattle.rules.specs.declared.Settings.{Settings}
-use Rattle.rules.proofs.ListLaws.{All, All-append, and_left, and_right, front_at, front-end}
+use Rattle.rules.proofs.ListLaws.{All, All-append, and_left, and_right}
 use Rattle.rules.proofs.RefusalLaws.{Passed, Passed-left, Passed-right, refusal-none, refusal_at-is, verdict-first, verdict-rest, passes-all, passes_append}
-use Rattle.rules.proofs.RowLaws.{row_ok-facts, row-answers, rows_tests-passes}
+use Rattle.rules.proofs.RowLaws.{row_ok-facts, rows_tests-passes}
 use Rattle.rules.proofs.UnitLaws.{units_from-length}
 use Rattle.measures.proofs.MeasureLaws.{unit_size-least, bytes_of-pos}
 use Rattle.settings.proofs.SettingsLaws.{granularity_ok-greatest}
@@ -47,10 +46,6 @@ module _ (g : ℕ) (r : Range) where
       pub row_within : b - 1 ≤ 18446744073709551615 - r.start → refusal (row_tests g 0 r) ≡ 0
       row_within h = rw (le-leb 1 r.length some, e, le-leb (end_of (unit_size g) r) (2 ^ 64) (omega (arith, bytes_of-pos g r.length some)))
 
-  -- it breaks none exactly if it passes
-  pub row-none : (k : ℕ) → k ≡ refusal (row_tests g 0 r) → eqb k 0 ≡ row_ok g r
-  row-none k e = rw e (refusal-none (row_tests g 0 r) (omega arith, (omega arith, (omega arith, tt))))
-
 -- ---- 10
 
 -- where the rule is off, and where it is on
@@ -66,26 +61,11 @@ powers_ok-on s rs e = rw e
 
 -- the first n rows, from the one at i on: it breaks a rule, or those behind it answer
 module _ (g : ℕ) (rs : List Range) (n i : ℕ) (inside : i < n) (there : i < length rs) (k : ℕ) (e : k ≡ refusal (row_tests g 0 (get_or rs i no_range))) where
-  abbrev none : Refusal
+  abbrev none : Refused
   none = record { number = 0; row = 0 }
 
-  abbrev at : ℕ → ℕ → Refusal
+  abbrev at : ℕ → ℕ → Refused
   at number row = record { number = number; row = row }
-
-  pub rows-hit : k ≢ 0 → refusal_at (rows_tests g i (drop i (take n rs))) ≡ record { number = k; row = i }
-  rows-hit h =
-      rw (front_at rs n i no_range inside there)
-      (row-answers g i (get_or rs i no_range) (rows_tests g (suc i) (drop (i + 1) (take n rs))) none at
-      ∙ rw (sym (row-none g (get_or rs i no_range) k e), ne_eqb k 0 h) (ap (λ m. at m i) (sym e)))
-
-  pub rows_next : k ≡ 0 → refusal_at (rows_tests g i (drop i (take n rs))) ≡ refusal_at (rows_tests g (i + 1) (drop (i + 1) (take n rs)))
-  rows_next h =
-      rw (front_at rs n i no_range inside there)
-      (row-answers g i (get_or rs i no_range) (rows_tests g (suc i) (drop (i + 1) (take n rs))) none at
-      ∙ rw (sym (row-none g (get_or rs i no_range) k e), eq-eqb k 0 h, add-one))
-
-pub rows_end : (g : ℕ) (rs : List Range) (n i : ℕ) → min n (length rs) ≤ i → refusal_at (rows_tests g i (drop i (take n rs))) ≡ record { number = 0; row = 0 }
-rows_end g rs n i h = rw (front-end rs n i h)
 
 -- no test has the number 0
 rows_tests-numbers : (g row : ℕ) (rs : List Range) → All (λ (t : Test). 1 ≤ t.number) (rows_tests g row rs)
@@ -93,10 +73,10 @@ rows_tests-numbers g row [] = tt
 rows_tests-numbers g row (r ∷ rs) = (omega arith, (omega arith, (omega arith, rows_tests-numbers g (suc row) rs)))
 
 -- so the number 0 says that each row passes
-pub rows_none : (g : ℕ) (rs : List Range) (r : Refusal) → r ≡ refusal_at (rows_tests g 0 rs) → r.number ≡ 0 → rows_ok g rs ≡ true
+pub rows_none : (g : ℕ) (rs : List Range) (r : Refused) → r ≡ refusal_at (rows_tests g 0 rs) → r.number ≡ 0 → rows_ok g rs ≡ true
 rows_none g rs r e h =
     sym (rows_tests-passes g 0 rs) ∙ sym (refusal-none (rows_tests g 0 rs) (rows_tests-numbers g 0 rs))
-    ∙ eq-eqb (refusal (rows_tests g 0 rs)) 0 (sym (ap (λ (q : Refusal). q.number) (e ∙ refusal_at-is (rows_tests g 0 rs))) ∙ h)
+    ∙ eq-eqb (refusal (rows_tests g 0 rs)) 0 (sym (ap (λ (q : Refused). q.number) (e ∙ refusal_at-is (rows_tests g 0 rs))) ∙ h)
 
 -- ---- the whole table
 
@@ -119,9 +99,9 @@ module _ (s : Settings) (g n : ℕ) (rs : List Range) where
     unfolding range_tests
     past-count = rw (le-leb 1 n some, le-leb n 16 few)
 
-    pub list-rows : (r : Refusal) → r ≡ refusal_at (rows_tests g 0 rs) → r.number ≢ 0 → r ≡ refusal_at (list_tests s g n rs)
+    pub list-rows : (r : Refused) → r ≡ refusal_at (rows_tests g 0 rs) → r.number ≢ 0 → r ≡ refusal_at (list_tests s g n rs)
     list-rows r e h =
-        e ∙ sym (past-count ∙ verdict-first (rows_tests g 0 rs) others _ _ _ (λ z. h (ap (λ (q : Refusal). q.number) (e ∙ refusal_at-is (rows_tests g 0 rs)) ∙ z)))
+        e ∙ sym (past-count ∙ verdict-first (rows_tests g 0 rs) others _ _ _ (λ z. h (ap (λ (q : Refused). q.number) (e ∙ refusal_at-is (rows_tests g 0 rs)) ∙ z)))
 
     module _ (rows : rows_ok g rs ≡ true) where
       past-rows : refusal_at (list_tests s g n rs) ≡ refusal_at others
@@ -145,17 +125,6 @@ module _ (s : Settings) (g n : ℕ) (rs : List Range) where
 abbrev pub each_ok : Settings → ℕ → Range → Bool
 each_ok s g r = row_ok g r && powers_ok s (r ∷ [])
 
--- a range that breaks a rule of a row, and one that breaks none, where 10 is on or off
-module _ (s : Settings) (g : ℕ) (r : Range) (k : ℕ) (e : k ≡ refusal (row_tests g 0 r)) where
-  pub each-not : k ≢ 0 → each_ok s g r ≡ false
-  each-not h = rw (sym (row-none g r k e), ne_eqb k 0 h)
-
-  pub each_on : k ≡ 0 → s.powers ≡ true → each_ok s g r ≡ is_power r.length
-  each_on h f = rw (sym (row-none g r k e), eq-eqb k 0 h, powers_ok-on s (r ∷ []) f) (and-true (is_power r.length))
-
-  pub each-off : k ≡ 0 → s.powers ≡ false → each_ok s g r ≡ true
-  each-off h f = rw (sym (row-none g r k e), eq-eqb k 0 h, powers_ok-off s (r ∷ []) f)
-
 -- all ranges by themselves
 each_all : (s : Settings) (g : ℕ) (rs : List Range) → all (each_ok s g) rs ≡ (rows_ok g rs && powers_ok s rs)
 unfolding powers_ok
@@ -174,11 +143,11 @@ each_all s g rs = go s.powers rs
     go false (r ∷ rs) = rw (go false rs) (step (row_ok g r) true (rows_ok g rs) true)
 
 module _ (s : Settings) (g n : ℕ) (rs : List Range) where
-  pub kept-empty : n < 1 → kept_of s g n rs ≡ kept_by false 0
+  pub kept-empty : n < 1 → kept_of s g n rs ≡ None
   unfolding range_tests
   kept-empty h = rw (lt-leb 1 n h)
 
-  pub kept-many : 16 < n → kept_of s g n rs ≡ kept_by false 0
+  pub kept-many : 16 < n → kept_of s g n rs ≡ None
   unfolding range_tests
   kept-many h = rw (le-leb 1 n (omega arith), lt-leb n 16 h)
 
@@ -189,7 +158,7 @@ module _ (s : Settings) (g n : ℕ) (rs : List Range) where
     passes-each =
         rw (le-leb 1 n some, le-leb n 16 few, passes_append (rows_tests g 0 rs) (others s g n rs), rows_tests-passes g 0 rs, each_all s g rs, and-true (powers_ok s rs))
 
-    pub kept-not : all (each_ok s g) rs ≡ false → kept_of s g n rs ≡ kept_by false 0
+    pub kept-not : all (each_ok s g) rs ≡ false → kept_of s g n rs ≡ None
     kept-not e = rw (passes-each, e)
 
     -- kept, with lengths that are within the pool, or not

@@ -7,7 +7,9 @@ use Rattle.rules.specs.Units.{units}
 use Rattle.rules.specs.Ranges.{list_tests}
 use Rattle.rules.specs.declared.Range.{Range}
 use Rattle.rules.specs.declared.Settings.{Settings}
-use Rattle.ranges.specs.declared.Kept.{Kept}
+use Rattle.rules.specs.declared.Units.{Units}
+use Rattle.std.specs.declared.option.Option.{Option}
+use Rattle.std.specs.declared.option.Option.TheVariants.{None, Some}
 
 -- the lengths of ranges, together
 abbrev pub lengths_of : List Range → ℕ
@@ -17,10 +19,15 @@ lengths_of rs = sum (map (λ (r : Range). r.length) rs)
 abbrev pub most_of : ℕ → List Range → ℕ
 most_of g rs = cond (leb (lengths_of rs) most_units) (lengths_of rs) (length (units g rs))
 
--- whether rules are kept, and at most so many units where they are
-abbrev pub kept_by : Bool → ℕ → Kept
-kept_by b n = record { ok = b; most = record { 0 = cond b n 0 } }
+-- at most so many units, where rules are kept
+abbrev pub kept_by : Bool → ℕ → Option Units
+kept_by b n = cond b (Some (record { 0 = n })) None
+
+-- how many these are at most: none where a rule is broken
+abbrev pub most_in : Option Units → ℕ
+most_in None = 0
+most_in (Some u) = u.0
 
 -- 18 to 21 and 10
-abbrev pub kept_of : Settings → ℕ → ℕ → List Range → Kept
+abbrev pub kept_of : Settings → ℕ → ℕ → List Range → Option Units
 kept_of s g n rs = kept_by (passes (list_tests s g n rs)) (most_of g rs)

@@ -1,13 +1,14 @@
 -- Laws of the weights and the limits: where each controller holds what it may the weights are the counts, the first manager's are its counts, and the rest are the
 -- second one's (W12). All of it is the library's interface. Assumes nothing.
-use Prim.Native.Nat.{ℕ, ◌+◌, ◌-◌, ◌<◌, ◌≤◌}
+use Prim.Native.Nat.{ℕ, ◌+◌, ◌-◌, ◌≤◌}
 use mathlib.Core.Path.{◌≡◌, refl, ap, sym, subst, ◌∙◌}
 use mathlib.Core.Bool.{Bool, true, false, ◌&&◌, ◌||◌, cond, and-true, and-false, true≢false}
 use mathlib.Core.List.{List, [], ◌∷◌, ◌++◌, map}
-use mathlib.Core.Option.{Option, none, some}
+use Rattle.std.specs.declared.option.Option.{Option}
+use Rattle.std.specs.declared.option.Option.TheVariants.{None, Some}
 use native.Mathlib.Omega.{arith}
 use lib.Dec.{leb, eqb}
-use borrow.Author.Tests.{eqb-true, eq-eqb, ne_eqb, lt-leb, le-leb}
+use borrow.Author.Tests.{eqb-true, eq-eqb, ne_eqb}
 use Rattle.rules.specs.Lists.{all, every, sum, member}
 use Rattle.rules.specs.Settings.{settings_ok, seconds, managers_of, is_manager, second_limit, limit_of}
 use Rattle.rules.specs.Device.{Held, held_count, held_count_by, held_in, held_of, held_ok, counts_by, is_within}
@@ -15,33 +16,12 @@ use Rattle.rules.specs.declared.Range.{Range}
 use Rattle.rules.specs.declared.Tracking.{Tracking}
 use Rattle.rules.specs.declared.Tracking.TheVariants.{Off, On}
 use Rattle.rules.specs.declared.Second.{Second}
-use Rattle.rules.specs.declared.Second.TheVariants.{Nothing, Is}
 use Rattle.rules.specs.declared.Controller.{Controller}
 use Rattle.rules.specs.declared.Settings.{Settings}
 use Rattle.rules.proofs.ListLaws.{and_left, and_right, or_cases}
 use Rattle.settings.proofs.SettingsLaws.{settings_ok-other}
 use Rattle.record.specs.Record.{weight_of, first_weight_of}
 use Rattle.record.specs.Inner.{within_limits}
-
--- ---- the tests, one after another
-
--- a weight counts for the first manager where that is the controller's
-module _ (m first own : ℕ) where
-  pub first-not : (m ≡ first → ⊥) → cond (eqb m first) own 0 ≡ 0
-  first-not h = rw (ne_eqb m first h)
-
-  pub first-own : m ≡ first → cond (eqb m first) own 0 ≡ own
-  first-own e = rw (eq-eqb m first e)
-
-module _ (s : Settings) (first weight : ℕ) where
-  pub within_limits-shelf : s.shelf < weight → within_limits s first weight ≡ false
-  within_limits-shelf h = rw (lt-leb weight s.shelf h)
-
-  pub within_limits-first : s.limit < first → within_limits s first weight ≡ false
-  within_limits-first h = rw (lt-leb first s.limit h, and-false (leb weight s.shelf))
-
-  pub within_limits-rest : (limit : ℕ) → weight ≤ s.shelf → first ≤ s.limit → limit ≡ second_limit s.second → within_limits s first weight ≡ leb (weight - first) limit
-  within_limits-rest limit h k e = rw (le-leb weight s.shelf h, le-leb first s.limit k, e)
 
 -- ---- the weights
 
@@ -71,11 +51,11 @@ weights-held s cs h = go (all (λ c. held_ok s (held_of c)) cs) refl
 -- ---- W12: whose they are
 
 -- the counts for the second manager, if there is one
-abbrev second_count : Second → Option Held → ℕ
-second_count Nothing h = 0
-second_count (Is id limit) h = held_count_by id h
+abbrev second_count : Option Second → Option Held → ℕ
+second_count None h = 0
+second_count (Some two) h = held_count_by two.id h
 
-abbrev second_counts : Second → List (Option Held) → ℕ
+abbrev second_counts : Option Second → List (Option Held) → ℕ
 second_counts x hs = sum (map (second_count x) hs)
 
 module _ (s : Settings) where
@@ -97,37 +77,37 @@ module _ (s : Settings) where
 
   module _ (ok : settings_ok s ≡ true) where
     -- a manager is the first one or the second
-    one_of : (m : ℕ) → is_manager s m ≡ true → (x : Second) → s.second ≡ x → (n : ℕ) → n ≡ cond (eqb m s.manager) n 0 + second_count x (some (record { manager = m; granularity = 0; count = n; ranges = [] }))
+    one_of : (m : ℕ) → is_manager s m ≡ true → (x : Option Second) → s.second ≡ x → (n : ℕ) → n ≡ cond (eqb m s.manager) n 0 + second_count x (Some (record { manager = m; granularity = 0; count = n; ranges = [] }))
     unfolding is_manager
-    one_of m k Nothing q n =
+    one_of m k None q n =
         or_cases (eqb s.manager m) false (n ≡ cond (eqb m s.manager) n 0 + 0) (subst (λ y. (eqb s.manager m || member m (seconds y)) ≡ true) q k)
         (λ p. rw (eq-eqb m s.manager (sym (eqb-true s.manager m p))) (omega arith))
         (λ p. absurd (true≢false (sym p)))
-    one_of m k (Is id limit) q n =
-        let other = (settings_ok-other s id limit ok q).0 in
-        or_cases (eqb s.manager m) (eqb id m || false) (n ≡ cond (eqb m s.manager) n 0 + cond (eqb m id) n 0) (subst (λ y. (eqb s.manager m || member m (seconds y)) ≡ true) q k)
+    one_of m k (Some two) q n =
+        let other = (settings_ok-other s two ok q).0 in
+        or_cases (eqb s.manager m) (eqb two.id m || false) (n ≡ cond (eqb m s.manager) n 0 + cond (eqb m two.id) n 0) (subst (λ y. (eqb s.manager m || member m (seconds y)) ≡ true) q k)
         (λ p.
         let z = eqb-true s.manager m p in
-        rw (eq-eqb m s.manager (sym z), ne_eqb m id (λ w. other (sym (z ∙ w)))) (omega arith))
+        rw (eq-eqb m s.manager (sym z), ne_eqb m two.id (λ w. other (sym (z ∙ w)))) (omega arith))
         (λ p.
-        let z = or_cases (eqb id m) false (id ≡ m) p (λ w. eqb-true id m w) (λ w. absurd (true≢false (sym w))) in
-        rw (ne_eqb m s.manager (λ w. other (z ∙ w)), eq-eqb m id (sym z)) (omega arith))
+        let z = or_cases (eqb two.id m) false (two.id ≡ m) p (λ w. eqb-true two.id m w) (λ w. absurd (true≢false (sym w))) in
+        rw (ne_eqb m s.manager (λ w. other (z ∙ w)), eq-eqb m two.id (sym z)) (omega arith))
 
     both-count : (m : ℕ) (t : Tracking) (rs : List Range) → held_ok s (held_in t m rs) ≡ true
         → held_count (held_in t m rs) ≡ held_count_by s.manager (held_in t m rs) + second_count s.second (held_in t m rs)
     unfolding held_ok
     both-count m Off rs e = omega (arith, go s.second)
       where
-        go : (x : Second) → ◌≡◌ {A = ℕ} 0 (second_count x none)
-        go Nothing = refl
-        go (Is id limit) = refl
+        go : (x : Option Second) → ◌≡◌ {A = ℕ} 0 (second_count x None)
+        go None = refl
+        go (Some two) = refl
     both-count m (On g n) rs e = go s.second refl (one_of m (and_left (is_manager s m) _ e))
       where
-        go : (x : Second) → s.second ≡ x
-            → ((y : Second) → s.second ≡ y → (n : ℕ) → n ≡ cond (eqb m s.manager) n 0 + second_count y (some (record { manager = m; granularity = 0; count = n; ranges = [] })))
+        go : (x : Option Second) → s.second ≡ x
+            → ((y : Option Second) → s.second ≡ y → (n : ℕ) → n ≡ cond (eqb m s.manager) n 0 + second_count y (Some (record { manager = m; granularity = 0; count = n; ranges = [] })))
             → n ≡ cond (eqb m s.manager) n 0 + second_count x (held_in (On g n) m rs)
-        go Nothing q f = f Nothing q n
-        go (Is id limit) q f = f (Is id limit) q n
+        go None q f = f None q n
+        go (Some two) q f = f (Some (record { id = two.id; limit = two.limit })) q n
 
     both-counts : (cs : List Controller) → all (λ c. held_ok s (held_of c)) cs ≡ true
         → sum (map held_count (map held_of cs)) ≡ counts_by s.manager (map held_of cs) + second_counts s.second (map held_of cs)
@@ -145,24 +125,24 @@ module _ (s : Settings) where
       unfolding is_manager
       rest-managed m k f = rest-counts ∙ go s.second k
         where
-          go : (x : Second) → (eqb s.manager m || member m (seconds x)) ≡ true → second_counts x (map held_of cs) ≡ counts_by m (map held_of cs)
-          go Nothing k = or_cases (eqb s.manager m) false _ k (λ p. absurd (f (sym (eqb-true s.manager m p)))) (λ p. absurd (true≢false (sym p)))
-          go (Is id limit) k =
-              or_cases (eqb s.manager m) (eqb id m || false) _ k (λ p. absurd (f (sym (eqb-true s.manager m p))))
-              (λ p. or_cases (eqb id m) false _ p (λ w. ap (λ i. counts_by i (map held_of cs)) (eqb-true id m w)) (λ w. absurd (true≢false (sym w))))
+          go : (x : Option Second) → (eqb s.manager m || member m (seconds x)) ≡ true → second_counts x (map held_of cs) ≡ counts_by m (map held_of cs)
+          go None k = or_cases (eqb s.manager m) false _ k (λ p. absurd (f (sym (eqb-true s.manager m p)))) (λ p. absurd (true≢false (sym p)))
+          go (Some two) k =
+              or_cases (eqb s.manager m) (eqb two.id m || false) _ k (λ p. absurd (f (sym (eqb-true s.manager m p))))
+              (λ p. or_cases (eqb two.id m) false _ p (λ w. ap (λ i. counts_by i (map held_of cs)) (eqb-true two.id m w)) (λ w. absurd (true≢false (sym w))))
 
       -- so the tests of the weights are the rules of the counts
-      none-counts : (hs : List (Option Held)) → second_counts Nothing hs ≡ 0
+      none-counts : (hs : List (Option Held)) → second_counts None hs ≡ 0
       none-counts [] = refl
       none-counts (h ∷ hs) = omega (arith, none-counts hs)
 
-      within-are : (x : Second) → s.second ≡ x → (hs : List (Option Held))
+      within-are : (x : Option Second) → s.second ≡ x → (hs : List (Option Held))
           → all (is_within s hs) (s.manager ∷ seconds x) ≡ (leb (counts_by s.manager hs) s.limit && leb (second_counts x hs) (second_limit x))
       unfolding limit_of
-      within-are Nothing q hs = rw (eq-eqb s.manager s.manager refl, none-counts hs)
-      within-are (Is id limit) q hs =
-          rw (eq-eqb s.manager s.manager refl, ne_eqb id s.manager (settings_ok-other s id limit ok q).0, q)
-          (ap (λ b. leb (counts_by s.manager hs) s.limit && b) (and-true (leb (counts_by id hs) limit)))
+      within-are None q hs = rw (eq-eqb s.manager s.manager refl, none-counts hs)
+      within-are (Some two) q hs =
+          rw (eq-eqb s.manager s.manager refl, ne_eqb two.id s.manager (settings_ok-other s two ok q).0, q)
+          (ap (λ b. leb (counts_by s.manager hs) s.limit && b) (and-true (leb (counts_by two.id hs) two.limit)))
 
       pub limits-are : within_limits s (sum (map (first_weight_of s) cs)) (sum (map (weight_of s) cs)) ≡ (all (is_within s (map held_of cs)) (managers_of s) && leb (sum (map held_count (map held_of cs))) s.shelf)
       limits-are =

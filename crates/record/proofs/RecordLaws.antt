@@ -5,15 +5,16 @@ use mathlib.Core.Path.{◌≡◌, refl, ap, sym, ◌∙◌}
 use mathlib.Core.Logic.{◌≢◌, ◌⊎◌}
 use mathlib.Core.Bool.{Bool, true, false, ◌&&◌, cond, and-true, and-false}
 use mathlib.Core.List.{List, [], ◌∷◌, ◌++◌, map}
-use mathlib.Core.Option.{Option, none, some}
+use Rattle.std.specs.declared.option.Option.{Option}
+use Rattle.std.specs.declared.option.Option.TheVariants.{None, Some}
 use native.Mathlib.Numerals.{add-one}
 use native.Mathlib.Omega.{arith}
 use lib.ListN.{length, get_or, take, drop, set, replicate, length-map, length-take, length-append, length-replicate}
 use lib.Seq.{get_or-take}
 use lib.Dec.{leb, eqb}
-use borrow.Author.Tests.{eqb-true, eq-eqb, ne_eqb, lt-leb, le-leb, leb-true}
+use borrow.Author.Tests.{eqb-true, eq-eqb, ne_eqb, le-leb, leb-true}
 use Rattle.rules.specs.Lists.{all, sum, is_some}
-use Rattle.rules.specs.Refusals.{Test, ◌else◌, verdict}
+use Rattle.rules.specs.Refusals.{Test, ◌else◌, verdict, number_of}
 use Rattle.rules.specs.Settings.{mark_words, most_units, identifiers_of, settings_ok, managers_of, is_manager, place_of, granularity_ok}
 use Rattle.rules.specs.Units.{units}
 use Rattle.rules.specs.Ranges.{list_tests}
@@ -24,8 +25,6 @@ use Rattle.rules.specs.declared.Tracking.{Tracking}
 use Rattle.rules.specs.declared.Tracking.TheVariants.{Off, On}
 use Rattle.rules.specs.declared.Share.{Share}
 use Rattle.rules.specs.declared.Sequence.{Sequence}
-use Rattle.rules.specs.declared.Sequence.TheVariants as sequence
-use Rattle.rules.specs.declared.Sequence.TheVariants.{Open}
 use Rattle.rules.specs.declared.Controller.{Controller}
 use Rattle.rules.specs.declared.Settings.{Settings}
 use Rattle.rules.specs.declared.Device.{Device}
@@ -35,11 +34,10 @@ use Rattle.rules.proofs.SoundLaws.{sound-settings, sound-held, sound-shelf, soun
 use Rattle.rules.proofs.HeldLaws.{lie}
 use Rattle.record.specs.Record.{no_controller, managed_of, counts_of, units_of, first_of, weights_of, sound_with, place_at, where_is, where_by, seen_in, front_of}
 use Rattle.record.specs.Inner.{kept_in, nothing_walked, walk_of, within_limits, Countable}
-use Rattle.settings.specs.Found.{found_at}
-use Rattle.settings.specs.declared.Found.TheVariants as found
-use Rattle.settings.specs.declared.Found.TheVariants.{Nothing}
-use Rattle.record.specs.declared.Place.{Place}
-use Rattle.record.specs.declared.Place.TheVariants.{At, Refused}
+use Rattle.std.specs.declared.result.Result.{Result}
+use Rattle.std.specs.declared.result.Result.TheVariants.{Err, Ok}
+use Rattle.rules.specs.declared.Refusal.TheVariants.{Unknown, Unsound}
+use Rattle.rules.specs.declared.Refusal.{Refusal}
 use Rattle.rules.proofs.LoopLaws.{all-front}
 use Rattle.settings.proofs.SettingsLaws.{settings_ok-count, settings_ok-greatest, settings_ok-shelf}
 use Rattle.ranges.specs.Kept.{kept_by, kept_of}
@@ -56,11 +54,11 @@ module _ (s : Settings) (t : Tracking) (m : ℕ) (rs : List Range) where
   kept_in-off e = rw e
 
   -- one that is on by a manager that the settings lack, one with a granularity that breaks 7, and one whose manager and granularity pass
-  pub kept_in-stray : (g n : ℕ) → t ≡ On g n → is_manager s m ≡ false → kept_in s (held_in t m rs) ≡ kept_by false 0
+  pub kept_in-stray : (g n : ℕ) → t ≡ On g n → is_manager s m ≡ false → kept_in s (held_in t m rs) ≡ None
   unfolding held_ok
   kept_in-stray g n e f = rw (e, f)
 
-  pub kept_in-seven : (g n : ℕ) → t ≡ On g n → is_manager s m ≡ true → granularity_ok s g ≡ false → kept_in s (held_in t m rs) ≡ kept_by false 0
+  pub kept_in-seven : (g n : ℕ) → t ≡ On g n → is_manager s m ≡ true → granularity_ok s g ≡ false → kept_in s (held_in t m rs) ≡ None
   unfolding held_ok
   kept_in-seven g n e k f = rw (e, k, f)
 
@@ -122,12 +120,12 @@ shares_of-used d i h k =
 
 -- which, where it has bits, has as many as its controller has units, from its base on
 share_in-size : (base : ℕ) (h : Option Held) → (share_in base h).size ≡ held_units h
-share_in-size base none = refl
-share_in-size base (some h) = refl
+share_in-size base None = refl
+share_in-size base (Some h) = refl
 
 share_in-some : (base : ℕ) (h : Option Held) → 1 ≤ held_units h → share_in base h ≡ record { base = base; size = held_units h }
-share_in-some base none l = absurd (omega arith)
-share_in-some base (some h) l = refl
+share_in-some base None l = absurd (omega arith)
+share_in-some base (Some h) l = refl
 
 -- their sizes together are the units
 shares-sizes : (n : ℕ) (cs : List Controller) → sum (map (λ (a : Share). a.size) (map share_of cs ++ replicate n no_share)) ≡ sum (map held_units (map held_of cs))
@@ -155,51 +153,34 @@ pub front_of-take : (end : ℕ) (area : List ℕ) → end ≤ length area → fr
 unfolding front_of
 front_of-take end area h = take-front end area (replicate end 0) h
 
--- how many bytes can be there of a state that is not whole yet
-pub front-short : (n : ℕ) → n < 4 → false ≡ front_ok n
-front-short n h = rw (lt-leb 4 n h)
-
-pub front_long : (n : ℕ) → 4096 < n → false ≡ front_ok n
-front_long n h = rw (lt-leb n 4096 h) (sym (and-false (leb 4 n)))
-
 pub front_rest : (n : ℕ) → 4 ≤ n → n ≤ 4096 → eqb (n % 4) 0 ≡ front_ok n
 front_rest n h k = rw (le-leb 4 n h, le-leb n 4096 k)
 
 -- a place that was found is in use
-pub found-used : (s : Settings) (id i : ℕ) → found_at (place_of s id) ≡ found.At i → i < s.count
+pub found-used : (s : Settings) (id i : ℕ) → place_of s id ≡ Some i → i < s.count
 unfolding place_of
 found-used s id i = go (place_of s id) refl
   where
-    go : (p : Option ℕ) → place_of s id ≡ p → found_at p ≡ found.At i → i < s.count
-    go none e f = let z : ◌≡◌ {A = ℕ} 0 1 = cc in absurd (omega arith)
-    go (some j) e f =
+    go : (p : Option ℕ) → place_of s id ≡ p → p ≡ Some i → i < s.count
+    go None e f = let z : ◌≡◌ {A = ℕ} 0 1 = cc in absurd (omega arith)
+    go (Some j) e f =
         let z : j ≡ i = cc in
         let m = place_from-is (identifiers_of s) 0 id j e in
         omega (arith, m.1, m.2, length-take s.count s.identifiers)
 
 module _ (d : Device) where
-  pub sequence-none : (q : Sequence) → q ≡ sequence.Nothing → true ≡ sequence_ok d.settings (controllers_of d) q
-  sequence-none q e = rw e
-
-  module _ (q : Sequence) (owner end : ℕ) (e : q ≡ Open owner end) where
-    pub sequence-stray : found_at (place_of d.settings owner) ≡ Nothing → false ≡ sequence_ok d.settings (controllers_of d) q
-    sequence-stray f = rw e (go (place_of d.settings owner) f)
-      where
-        go : (p : Option ℕ) → found_at p ≡ Nothing → false ≡ (suspended_at (controllers_of d) p && front_ok end)
-        go none f = refl
-        go (some i) f = let z : ◌≡◌ {A = ℕ} 0 1 = cc in absurd (omega arith)
-
+  module _ (q : Option Sequence) (owner end : ℕ) (e : q ≡ Some (record { owner = owner; end = end })) where
     -- of a controller at a place: whether it is suspended
-    module _ (i : ℕ) (f : found_at (place_of d.settings owner) ≡ found.At i) (h : i < d.settings.count) (k : i < length d.controllers) where
+    module _ (i : ℕ) (f : place_of d.settings owner ≡ Some i) (h : i < d.settings.count) (k : i < length d.controllers) where
       pub sequence-owned : sequence_ok d.settings (controllers_of d) q ≡ ((get_or d.controllers i no_controller).suspended && front_ok end)
       sequence-owned = rw e (go (place_of d.settings owner) f)
         where
           same : get_or (controllers_of d) i fresh_controller ≡ get_or d.controllers i no_controller
           same = get_or-take d.settings.count d.controllers i fresh_controller h ∙ get_d_any d.controllers i fresh_controller no_controller k
 
-          go : (p : Option ℕ) → found_at p ≡ found.At i → (suspended_at (controllers_of d) p && front_ok end) ≡ ((get_or d.controllers i no_controller).suspended && front_ok end)
-          go none f = let z : ◌≡◌ {A = ℕ} 0 1 = cc in absurd (omega arith)
-          go (some j) f = let z : j ≡ i = cc in rw z (ap (λ (c : Controller). c.suspended && front_ok end) same)
+          go : (p : Option ℕ) → p ≡ Some i → (suspended_at (controllers_of d) p && front_ok end) ≡ ((get_or d.controllers i no_controller).suspended && front_ok end)
+          go None f = let z : ◌≡◌ {A = ℕ} 0 1 = cc in absurd (omega arith)
+          go (Some j) f = let z : j ≡ i = cc in rw z (ap (λ (c : Controller). c.suspended && front_ok end) same)
 
 -- ---- soundness, rule by rule
 
@@ -296,9 +277,9 @@ pub sound_device-sequence : (d : Device) → sound_device d ≡ true → sequenc
 sound_device-sequence d e = and_left (sequence_ok d.settings (controllers_of d) d.sequence) _ (sound-rest d.settings (map held_of (controllers_of d)) _ e)
 
 -- and an open one ends within a state's bytes
-pub sequence-within : (d : Device) → sound_device d ≡ true → (owner end : ℕ) → d.sequence ≡ Open owner end → end ≤ 4096
+pub sequence-within : (d : Device) → sound_device d ≡ true → (owner end : ℕ) → d.sequence ≡ Some (record { owner = owner; end = end }) → end ≤ 4096
 sequence-within d e owner end q =
-    let k : sequence_ok d.settings (controllers_of d) (Open owner end) ≡ true = sym (ap (sequence_ok d.settings (controllers_of d)) q) ∙ sound_device-sequence d e in
+    let k : sequence_ok d.settings (controllers_of d) (Some (record { owner = owner; end = end })) ≡ true = sym (ap (sequence_ok d.settings (controllers_of d)) q) ∙ sound_device-sequence d e in
     let f = and_right (suspended_at (controllers_of d) (place_of d.settings owner)) (front_ok end) k in
     leb-true end 4096 (and_left (leb end 4096) _ (and_right (leb 4 end) _ f))
 
@@ -374,49 +355,49 @@ sound_device-apart d i g n j f m e z h l k p t u x y =
 -- ---- where a call finds its controller
 
 module _ (d : Device) (words id : ℕ) where
-  pub where_is-words : (words ≡ mark_words → ⊥) → where_is d words id ≡ Refused 1
+  pub where_is-words : (words ≡ mark_words → ⊥) → where_is d words id ≡ Err Unsound
   unfolding where_is sound_with
   where_is-words h = rw (ne_eqb words mark_words h, and-false (sound_device d))
 
-  pub where_is-unsound : sound_device d ≡ false → where_is d words id ≡ Refused 1
+  pub where_is-unsound : sound_device d ≡ false → where_is d words id ≡ Err Unsound
   unfolding where_is sound_with
   where_is-unsound e = rw e
 
   -- else as the search finds
-  pub where_is-nothing : words ≡ mark_words → sound_device d ≡ true → found_at (place_of d.settings id) ≡ Nothing → where_is d words id ≡ Refused 2
+  pub where_is-nothing : words ≡ mark_words → sound_device d ≡ true → place_of d.settings id ≡ None → where_is d words id ≡ Err Unknown
   unfolding where_is sound_with
   where_is-nothing h e f = rw (e, eq-eqb words mark_words h) (go (place_of d.settings id) f)
     where
-      go : (p : Option ℕ) → found_at p ≡ Nothing → place_at p ≡ Refused 2
-      go none e = refl
-      go (some i) e = let z : ◌≡◌ {A = ℕ} 0 1 = cc in absurd (omega arith)
+      go : (p : Option ℕ) → p ≡ None → place_at p ≡ Err Unknown
+      go None e = refl
+      go (Some i) e = let z : ◌≡◌ {A = ℕ} 0 1 = cc in absurd (omega arith)
 
-  pub where_is-found : (i : ℕ) → words ≡ mark_words → sound_device d ≡ true → found_at (place_of d.settings id) ≡ found.At i → where_is d words id ≡ At i
+  pub where_is-found : (i : ℕ) → words ≡ mark_words → sound_device d ≡ true → place_of d.settings id ≡ Some i → where_is d words id ≡ Ok i
   unfolding where_is sound_with
   where_is-found i h e f = rw (e, eq-eqb words mark_words h) (go (place_of d.settings id) f)
     where
-      go : (p : Option ℕ) → found_at p ≡ found.At i → place_at p ≡ At i
-      go none e = let z : ◌≡◌ {A = ℕ} 0 1 = cc in absurd (omega arith)
-      go (some j) e = let z : j ≡ i = cc in ap At z
+      go : (p : Option ℕ) → p ≡ Some i → place_at p ≡ Ok i
+      go None e = let z : ◌≡◌ {A = ℕ} 0 1 = cc in absurd (omega arith)
+      go (Some j) e = let z : j ≡ i = cc in ap Ok z
 
-place_at-at : (b : Bool) (p : Option ℕ) (i : ℕ) → cond b (place_at p) (Refused 1) ≡ At i → (b ≡ true) × (p ≡ some i)
-place_at-at true (some j) i e = let z : j ≡ i = cc in (refl, ap some z)
-place_at-at true none i e = let z : ◌≡◌ {A = ℕ} 0 1 = cc in absurd (omega arith)
+place_at-at : (b : Bool) (p : Option ℕ) (i : ℕ) → cond b (place_at p) (Err Unsound) ≡ Ok i → (b ≡ true) × (p ≡ Some i)
+place_at-at true (Some j) i e = let z : j ≡ i = cc in (refl, ap Some z)
+place_at-at true None i e = let z : ◌≡◌ {A = ℕ} 0 1 = cc in absurd (omega arith)
 place_at-at false p i e = let z : ◌≡◌ {A = ℕ} 0 1 = cc in absurd (omega arith)
 
 -- by a manager: a refusal stays, and of a place that was found the manager is asked
 module _ (d : Device) (words m id : ℕ) where
-  pub where_by-refused : (p : Place) (n : ℕ) → p ≡ where_is d words id → p ≡ Refused n → p ≡ where_by d words m id
+  pub where_by-refused : (p : Result ℕ Refusal) (r : Refusal) → p ≡ where_is d words id → p ≡ Err r → p ≡ where_by d words m id
   unfolding where_is where_by
-  where_by-refused p n e f = go (sound_with d words) (is_manager d.settings m) (place_of d.settings id) e
+  where_by-refused p r e f = go (sound_with d words) (is_manager d.settings m) (place_of d.settings id) e
     where
-      go : (b k : Bool) (o : Option ℕ) → p ≡ cond b (place_at o) (Refused 1) → p ≡ cond b (cond k (place_at o) (Refused 2)) (Refused 1)
+      go : (b k : Bool) (o : Option ℕ) → p ≡ cond b (place_at o) (Err Unsound) → p ≡ cond b (cond k (place_at o) (Err Unknown)) (Err Unsound)
       go false k o e = e
       go true true o e = e
-      go true false none e = e
-      go true false (some i) e = let z : ◌≡◌ {A = ℕ} 0 1 = cc in absurd (omega arith)
+      go true false None e = e
+      go true false (Some i) e = let z : ◌≡◌ {A = ℕ} 0 1 = cc in absurd (omega arith)
 
-  pub where_by-stray : (i : ℕ) → where_is d words id ≡ At i → is_manager d.settings m ≡ false → where_by d words m id ≡ Refused 2
+  pub where_by-stray : (i : ℕ) → where_is d words id ≡ Ok i → is_manager d.settings m ≡ false → where_by d words m id ≡ Err Unknown
   unfolding where_is where_by
   where_by-stray i e k = let w = place_at-at (sound_with d words) (place_of d.settings id) i e in rw (w.0, k)
 
@@ -427,37 +408,37 @@ module _ (d : Device) (words m id : ℕ) where
 -- ---- what a call's place says of the first tests of its table
 
 -- a refusal is the table's, whatever tests follow
-pub where_is-refused : (d : Device) (words id n : ℕ) → where_is d words id ≡ Refused n
+pub where_is-refused : (d : Device) (words id : ℕ) (r : Refusal) → where_is d words id ≡ Err r
     → {A : Type 0} (ts : List Test) (done : A) (refuse : ℕ → ℕ → A)
-    → verdict (((seen_in d words (place_of d.settings id)).sound else 1) ∷ ((seen_in d words (place_of d.settings id)).known else 2) ∷ ts) done refuse ≡ refuse n 0
+    → verdict (((seen_in d words (place_of d.settings id)).sound else 1) ∷ ((seen_in d words (place_of d.settings id)).known else 2) ∷ ts) done refuse ≡ refuse (number_of r) 0
 unfolding where_is
-where_is-refused d words id n e ts done refuse = go (sound_with d words) (place_of d.settings id) e
+where_is-refused d words id r e ts done refuse = go (sound_with d words) (place_of d.settings id) e
   where
-    go : (b : Bool) (p : Option ℕ) → cond b (place_at p) (Refused 1) ≡ Refused n → verdict ((b else 1) ∷ (is_some p else 2) ∷ ts) done refuse ≡ refuse n 0
-    go false p e = let z : 1 ≡ n = cc in ap (λ k. refuse k 0) z
-    go true none e = let z : 2 ≡ n = cc in ap (λ k. refuse k 0) z
-    go true (some i) e = let z : ◌≡◌ {A = ℕ} 0 1 = cc in absurd (omega arith)
+    go : (b : Bool) (p : Option ℕ) → cond b (place_at p) (Err Unsound) ≡ Err r → verdict ((b else 1) ∷ (is_some p else 2) ∷ ts) done refuse ≡ refuse (number_of r) 0
+    go false p e = let z : Unsound ≡ r = cc in ap (λ k. refuse (number_of k) 0) z
+    go true None e = let z : Unknown ≡ r = cc in ap (λ k. refuse (number_of k) 0) z
+    go true (Some i) e = let z : ◌≡◌ {A = ℕ} 0 1 = cc in absurd (omega arith)
 
 -- by a manager there is one test more
-pub where_by-tests : (d : Device) (words m id n : ℕ) → where_by d words m id ≡ Refused n
+pub where_by-tests : (d : Device) (words m id : ℕ) (r : Refusal) → where_by d words m id ≡ Err r
     → {A : Type 0} (ts : List Test) (done : A) (refuse : ℕ → ℕ → A)
-    → verdict (((seen_in d words (place_of d.settings id)).sound else 1) ∷ (is_manager d.settings m else 2) ∷ ((seen_in d words (place_of d.settings id)).known else 2) ∷ ts) done refuse ≡ refuse n 0
+    → verdict (((seen_in d words (place_of d.settings id)).sound else 1) ∷ (is_manager d.settings m else 2) ∷ ((seen_in d words (place_of d.settings id)).known else 2) ∷ ts) done refuse ≡ refuse (number_of r) 0
 unfolding where_by
-where_by-tests d words m id n e ts done refuse = go (sound_with d words) (is_manager d.settings m) (place_of d.settings id) e
+where_by-tests d words m id r e ts done refuse = go (sound_with d words) (is_manager d.settings m) (place_of d.settings id) e
   where
-    go : (b k : Bool) (p : Option ℕ) → cond b (cond k (place_at p) (Refused 2)) (Refused 1) ≡ Refused n
-        → verdict ((b else 1) ∷ (k else 2) ∷ (is_some p else 2) ∷ ts) done refuse ≡ refuse n 0
-    go false k p e = let z : 1 ≡ n = cc in ap (λ k. refuse k 0) z
-    go true false p e = let z : 2 ≡ n = cc in ap (λ k. refuse k 0) z
-    go true true none e = let z : 2 ≡ n = cc in ap (λ k. refuse k 0) z
-    go true true (some i) e = let z : ◌≡◌ {A = ℕ} 0 1 = cc in absurd (omega arith)
+    go : (b k : Bool) (p : Option ℕ) → cond b (cond k (place_at p) (Err Unknown)) (Err Unsound) ≡ Err r
+        → verdict ((b else 1) ∷ (k else 2) ∷ (is_some p else 2) ∷ ts) done refuse ≡ refuse (number_of r) 0
+    go false k p e = let z : Unsound ≡ r = cc in ap (λ k. refuse (number_of k) 0) z
+    go true false p e = let z : Unknown ≡ r = cc in ap (λ k. refuse (number_of k) 0) z
+    go true true None e = let z : Unknown ≡ r = cc in ap (λ k. refuse (number_of k) 0) z
+    go true true (Some i) e = let z : ◌≡◌ {A = ℕ} 0 1 = cc in absurd (omega arith)
 
 -- a place that was found by a manager was found, and it is one
-pub where_by-at : (d : Device) (words m id i : ℕ) → where_by d words m id ≡ At i → (is_manager d.settings m ≡ true) × (where_is d words id ≡ At i)
+pub where_by-at : (d : Device) (words m id i : ℕ) → where_by d words m id ≡ Ok i → (is_manager d.settings m ≡ true) × (where_is d words id ≡ Ok i)
 unfolding where_by where_is
 where_by-at d words m id i e = go (sound_with d words) (is_manager d.settings m) (place_of d.settings id) e
   where
-    go : (b k : Bool) (p : Option ℕ) → cond b (cond k (place_at p) (Refused 2)) (Refused 1) ≡ At i → (k ≡ true) × (cond b (place_at p) (Refused 1) ≡ At i)
+    go : (b k : Bool) (p : Option ℕ) → cond b (cond k (place_at p) (Err Unknown)) (Err Unsound) ≡ Ok i → (k ≡ true) × (cond b (place_at p) (Err Unsound) ≡ Ok i)
     go true true p e = (refl, e)
     go true false p e = let z : ◌≡◌ {A = ℕ} 0 1 = cc in absurd (omega arith)
     go false k p e = let z : ◌≡◌ {A = ℕ} 0 1 = cc in absurd (omega arith)
@@ -468,11 +449,11 @@ pub record Located (d : Device) (words id i : ℕ) : Type 0 where
   pub seen : sound_with d words ≡ true
   pub sound : sound_device d ≡ true
   pub whole : words ≡ mark_words
-  pub place : place_of d.settings id ≡ some i
+  pub place : place_of d.settings id ≡ Some i
   pub below : i < 8
   pub used : i < d.settings.count
 
-pub where_is-at : (d : Device) (words id i : ℕ) → where_is d words id ≡ At i → Located d words id i
+pub where_is-at : (d : Device) (words id i : ℕ) → where_is d words id ≡ Ok i → Located d words id i
 unfolding where_is sound_with place_of
 where_is-at d words id i e =
     let w = place_at-at (sound_with d words) (place_of d.settings id) i e in

@@ -2,7 +2,6 @@
 -- library's interface. Assumes nothing.
 use Prim.Native.Nat.{ℕ, zero, suc, ◌+◌, ◌-◌, ◌<◌, ◌≤◌}
 use mathlib.Core.Path.{◌≡◌, refl, ◌∙◌}
-use mathlib.Core.Logic.{◌≢◌}
 use mathlib.Core.Bool.{Bool, true, false, ◌&&◌, ◌||◌, and-false, or-true}
 use mathlib.Core.List.{List, [], ◌∷◌, map}
 use native.Mathlib.Numerals.{add-one}
@@ -10,7 +9,7 @@ use native.Mathlib.Omega.{arith}
 use lib.Dec.{leb, eqb}
 use lib.ListN.{length, get_or, drop, replicate, drop_of_length-le}
 use lib.Seq.{drop-cons}
-use borrow.Author.Tests.{leb-true, le-leb, lt-leb, eq-eqb, ne_eqb}
+use borrow.Author.Tests.{leb-true, le-leb, lt-leb, eq-eqb}
 use Rattle.rules.specs.Lists.{all, sum}
 use Rattle.rules.specs.Settings.{most_units}
 use Rattle.rules.specs.Device.{no_share, is_inside, are_apart, shares_ok}
@@ -23,27 +22,9 @@ module _ (a : Share) where
   pub inside-none : a.size ≡ 0 → is_inside a ≡ true
   inside-none e = rw (eq-eqb a.size 0 e)
 
-  pub inside-long : most_units < a.size → is_inside a ≡ false
-  inside-long h = rw (ne_eqb a.size 0 (λ z. absurd (omega (arith, z))), lt-leb (a.base + a.size) most_units (omega arith))
-
-  pub inside-rest : a.size ≢ 0 → a.size ≤ most_units → is_inside a ≡ leb a.base (most_units - a.size)
-  inside-rest z h = rw (ne_eqb a.size 0 z)
-      (bool-ext (leb (a.base + a.size) most_units) (leb a.base (most_units - a.size))
-      (λ e. le-leb a.base (most_units - a.size) (omega (arith, leb-true (a.base + a.size) most_units e)))
-      (λ e. le-leb (a.base + a.size) most_units (omega (arith, leb-true a.base (most_units - a.size) e))))
-
 -- ---- two
 
 module _ (a b : Share) where
-  pub before-not : b.base < a.base → leb (a.base + a.size) b.base ≡ false
-  before-not h = lt-leb (a.base + a.size) b.base (omega arith)
-
-  pub before-rest : a.base ≤ b.base → leb (a.base + a.size) b.base ≡ leb a.size (b.base - a.base)
-  before-rest h =
-      bool-ext (leb (a.base + a.size) b.base) (leb a.size (b.base - a.base))
-      (λ e. le-leb a.size (b.base - a.base) (omega (arith, leb-true (a.base + a.size) b.base e)))
-      (λ e. le-leb (a.base + a.size) b.base (omega (arith, leb-true a.size (b.base - a.base) e)))
-
   pub apart-first : a.size ≡ 0 → are_apart a b ≡ true
   apart-first e = rw (eq-eqb a.size 0 e)
 
@@ -52,9 +33,6 @@ module _ (a b : Share) where
 
   pub apart-before : leb (a.base + a.size) b.base ≡ true → are_apart a b ≡ true
   apart-before e = rw e (or-true (eqb a.size 0 || eqb b.size 0))
-
-  pub apart-rest : a.size ≢ 0 → b.size ≢ 0 → leb (a.base + a.size) b.base ≡ false → are_apart a b ≡ leb (b.base + b.size) a.base
-  apart-rest x y e = rw (ne_eqb a.size 0 x, ne_eqb b.size 0 y, e)
 
 -- ---- all of them: loops from i on
 

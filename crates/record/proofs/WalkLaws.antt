@@ -5,7 +5,8 @@ use mathlib.Core.Path.{◌≡◌, refl, sym, ap, ◌∙◌}
 use mathlib.Core.Logic.{◌≢◌}
 use mathlib.Core.Bool.{Bool, true, false, ◌&&◌, cond, and-true, and_assoc}
 use mathlib.Core.List.{List, [], ◌∷◌, ◌++◌, map}
-use mathlib.Core.Option.{Option, none, some}
+use Rattle.std.specs.declared.option.Option.{Option}
+use Rattle.std.specs.declared.option.Option.TheVariants.{None, Some}
 use native.Mathlib.Omega.{arith}
 use lib.Dec.{ltb, eqb}
 use lib.ListN.{length, get_or, take}
@@ -19,8 +20,9 @@ use Rattle.rules.specs.declared.Controller.{Controller}
 use Rattle.rules.specs.declared.Settings.{Settings}
 use Rattle.rules.specs.declared.Device.{Device}
 use Rattle.rules.proofs.ListLaws.{and_left, and_right}
-use Rattle.ranges.specs.Kept.{most_of}
-use Rattle.ranges.specs.declared.Kept.{Kept}
+use Rattle.rules.specs.declared.Units.{Units}
+use Rattle.std.specs.Option.{is_some}
+use Rattle.ranges.specs.Kept.{most_of, most_in, kept_by}
 use Rattle.ranges.proofs.RangeLaws.{units-most}
 use Rattle.record.specs.Record.{no_controller, weight_of, first_weight_of, first_of, weights_of}
 use Rattle.record.specs.Inner.{held_most, kept_in, end_after, walked_by, walk_from, nothing_walked, walk_of}
@@ -29,11 +31,16 @@ use Rattle.record.proofs.ShareLaws.{Lined, Lined-empty, Lined-more}
 
 -- ---- how far it has come
 
+-- units are kept exactly where the rules are
+kept-some : (b : Bool) (n : ℕ) → is_some (kept_by b n) ≡ b
+kept-some true n = refl
+kept-some false n = refl
+
 -- one controller more, by what it is found to hold
-pub walked_by-is : (s : Settings) (w : Walked) (c : Controller) (k : Kept) (own first end : ℕ) (queues : Bool) → k ≡ kept_in s (held_of c) → own ≡ cond k.ok (held_count (held_of c)) 65536
-    → first ≡ cond (eqb c.manager s.manager) own 0 → end ≡ end_after w.end c.base k.most.0 → queues ≡ (w.queues && queue_ok c.queue) → record { weight = w.weight + own; first = w.first + first; end = end; queues = queues } ≡ walked_by s w c
+pub walked_by-is : (s : Settings) (w : Walked) (c : Controller) (k : Option Units) (own first end : ℕ) (queues : Bool) → k ≡ kept_in s (held_of c) → own ≡ cond (is_some k) (held_count (held_of c)) 65536
+    → first ≡ cond (eqb c.manager s.manager) own 0 → end ≡ end_after w.end c.base (most_in k) → queues ≡ (w.queues && queue_ok c.queue) → record { weight = w.weight + own; first = w.first + first; end = end; queues = queues } ≡ walked_by s w c
 unfolding walked_by
-walked_by-is s w c k own first end queues e f i g q = rw (i, f, g, e, q)
+walked_by-is s w c k own first end queues e f i g q = rw (i, f, g, e, q, kept-some (held_ok s (held_of c)) (held_most (held_of c)))
 
 -- a walk over the first k controllers; none of them weighs more than 65,536
 pub record Reached (d : Device) (k : ℕ) (w : Walked) : Type 0 where
@@ -115,8 +122,8 @@ lined-after end to most a xs h k = go (eqb most 0) refl (ltb a.base end) refl
 
 -- so does that of a controller, which has no more units than that
 lined-held : (end to base : ℕ) (h : Option Held) (xs : List Share) → to ≤ most_units → Lined (end_after end base (held_most h)) to xs → Lined end to (share_in base h ∷ xs)
-lined-held end to base none xs l k = Lined-empty end to no_share xs refl k
-lined-held end to base (some h) xs l k = lined-after end to (most_of h.granularity h.ranges) (share_in base (some h)) xs l (units-most h.granularity h.ranges) k
+lined-held end to base None xs l k = Lined-empty end to no_share xs refl k
+lined-held end to base (Some h) xs l k = lined-after end to (most_of h.granularity h.ranges) (share_in base (Some h)) xs l (units-most h.granularity h.ranges) k
 
 -- where all hold what they may and the end is within the pool, they lie one behind the other
 pub walk_from-lined : (s : Settings) (w : Walked) (cs : List Controller) (rest : List Share) (to : ℕ) → all (λ c. held_ok s (held_of c)) cs ≡ true → to ≤ most_units

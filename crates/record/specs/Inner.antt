@@ -1,6 +1,7 @@
 -- What the inner functions of soundness compute: the walk over the controllers, and what counting units asks. These serve this crate alone.
 use Rattle.std.specs.Prelude.{ℕ, ◌+◌, ◌-◌, ◌≤◌, ◌≡◌, Bool, true, ◌&&◌, cond, List, [], ◌∷◌, leb, ltb, eqb}
-use Rattle.std.proofs.Math.Option.{Option, none, some}
+use Rattle.std.specs.declared.option.Option.{Option}
+use Rattle.std.specs.declared.option.Option.TheVariants.{None, Some}
 use Rattle.rules.specs.Settings.{second_limit}
 use Rattle.rules.specs.Ranges.{rows_ok}
 use Rattle.rules.specs.Queue.{queue_ok}
@@ -8,18 +9,18 @@ use Rattle.rules.specs.Device.{Held, held_ok, held_of, controllers_of}
 use Rattle.rules.specs.declared.Controller.{Controller}
 use Rattle.rules.specs.declared.Settings.{Settings}
 use Rattle.rules.specs.declared.Device.{Device}
-use Rattle.ranges.specs.Kept.{most_of, kept_by}
-use Rattle.ranges.specs.declared.Kept.{Kept}
+use Rattle.rules.specs.declared.Units.{Units}
+use Rattle.ranges.specs.Kept.{most_of, kept_by, most_in}
 use Rattle.record.specs.Record.{weight_of, first_weight_of}
 use Rattle.record.specs.declared.Walked.{Walked}
 
 -- at least as many as there are different units of what is held
 abbrev pub held_most : Option Held → ℕ
-held_most none = 0
-held_most (some h) = most_of h.granularity h.ranges
+held_most None = 0
+held_most (Some h) = most_of h.granularity h.ranges
 
--- whether a controller may hold what it does, and then these
-abbrev pub kept_in : Settings → Option Held → Kept
+-- these, where a controller may hold what it does
+abbrev pub kept_in : Settings → Option Held → Option Units
 kept_in s h = kept_by (held_ok s h) (held_most h)
 
 -- where shares end that lie one behind the other, with one more of at most so many bits from its base on: one of none is nowhere, and one that begins before the end
@@ -33,7 +34,7 @@ walked_by s w c =
     record {
       weight = w.weight + weight_of s c;
       first = w.first + first_weight_of s c;
-      end = end_after w.end c.base (kept_in s (held_of c)).most.0;
+      end = end_after w.end c.base (most_in (kept_in s (held_of c)));
       queues = w.queues && queue_ok c.queue;
     }
 
@@ -56,5 +57,5 @@ within_limits s first weight = leb weight s.shelf && (leb first s.limit && leb (
 
 -- what counting the units of what is held asks of it
 abbrev pub Countable : Option Held → Type 0
-Countable none = Unit {0}
-Countable (some h) = (h.granularity ≤ 20) × (h.count ≤ 16) × (rows_ok h.granularity h.ranges ≡ true)
+Countable None = Unit {0}
+Countable (Some h) = (h.granularity ≤ 20) × (h.count ≤ 16) × (rows_ok h.granularity h.ranges ≡ true)

@@ -2,27 +2,18 @@
 // take any values whatever; the others say what they require. No sum here can wrap.
 #![tactic(auto)]
 
-ghost use Rattle.std.specs.Prelude.{◌≡◌, true, ◌&&◌, cond, map, ◌+◌, ◌*◌, ◌<◌, ◌≤◌, leb, eqb, get_or, drop};
+ghost use Rattle.std.specs.Prelude.{◌≡◌, true, ◌&&◌, cond, is_some, map, ◌+◌, ◌*◌, ◌<◌, ◌≤◌, leb, eqb, get_or, drop};
 ghost use Rattle.rules.specs.Lists.{all, sum};
 ghost use Rattle.rules.specs.Settings.{most_units, settings_ok, is_manager};
 ghost use Rattle.rules.specs.Queue.{ring_ok, queue_ok};
 ghost use Rattle.rules.specs.Device.{held_of, held_ok, held_count, share_of, shares_of, is_inside, are_apart, shares_ok, front_ok, controllers_of, sequence_ok, sound_device};
+ghost use Rattle.ranges.specs.Kept.{most_in};
 ghost use Rattle.record.specs.Record.{no_controller, managed_of, units_of, weights_of, where_is, where_by};
 ghost use Rattle.record.specs.Inner.{kept_in, end_after, walked_by, walk_of, within_limits, Countable};
 
-use ranges::Kept;
 use rules::{
-    Controller, Device, MARK_WORDS, MOST_UNITS, Queue, Ring, Sequence, Settings, Share, Tracking,
-    Units,
+    Controller, Device, MARK_WORDS, MOST_UNITS, Refusal, Ring, Settings, Share, Tracking, Units,
 };
-use settings::Found;
-
-// Where a call finds its controller, or the refusal's number, 1 or 2.
-#[derive(Clone, Copy)]
-pub enum Place {
-    At(usize),
-    Refused(u8),
-}
 
 // How far a walk over the controllers has come: the weights together, and of these those of the controllers that the first manager tracks; where the shares so far
 // end, as long as each begins at or behind the end of those before it; and whether the queues so far are as they may be.
@@ -38,61 +29,51 @@ pub struct Walked {
 fn count_of(c: Controller) -> usize
     ensures { (result ≡ held_count (held_of c)) × (result ≤ 255) }
 {
-    let t = c.tracking;
-    match t {
+    match c.tracking {
         Tracking::Off => 0,
         Tracking::On(_, n) => n as usize,
     }
 }
 
-// Whether a controller is off, or its manager is in the settings and its granularity and ranges pass 7, 18 to 21 and 10; and then how many different units it has at
-// most.
-fn controller_kept(s: Settings, c: Controller) -> Kept
+// How many different units a controller has at most, if it is off, or its manager is in the settings and its granularity and ranges pass 7, 18 to 21 and 10.
+fn controller_kept(s: Settings, c: Controller) -> Option<Units>
     requires { s.greatest ≤ 20 }
-    ensures { (result ≡ kept_in s (held_of c)) × (result.most.0 ≤ 16 * 4294967295) }
+    ensures { (result ≡ kept_in s (held_of c)) × (most_in result ≤ 16 * 4294967295) }
 {
-    let t = c.tracking;
-    let none = Units(0);
-    let Tracking::On(g, n) = t else {
-        return Kept {
-            ok: true,
-            most: none,
-        };
+    let Tracking::On(g, n) = c.tracking else {
+        return Some(Units(0));
     };
     if !settings::is_manager(s, c.manager) {
-        return Kept {
-            ok: false,
-            most: none,
-        };
+        return None;
     }
     if !settings::granularity_ok(s, g) {
-        return Kept {
-            ok: false,
-            most: none,
-        };
+        return None;
     }
-    let ranges = c.ranges;
-    ranges::list_kept(s, g, n, ranges)
+    ranges::list_kept(s, g, n, c.ranges)
 }
 
 // What a controller weighs: how many ranges it holds, or 65,536 where it may not hold what it does, which is above every limit.
-fn weight(ok: bool, c: Controller) -> usize
-    ensures { (result ≡ cond ok (held_count (held_of c)) 65536) × (result ≤ 65536) }
+fn weight(kept: Option<Units>, c: Controller) -> usize
+    ensures { (result ≡ cond (is_some kept) (held_count (held_of c)) 65536) × (result ≤ 65536) }
 {
-    if !ok {
-        return 65536;
+    match kept {
+        Some(_) => count_of(c),
+        None => 65536,
     }
-    count_of(c)
+}
+
+// How many units it has at most: none where it may not hold what it does.
+fn most(kept: Option<Units>) -> Units
+    ensures { result.0 ≡ most_in kept }
+{
+    kept.unwrap_or(Units(0))
 }
 
 // So much of a controller's weight as counts for the first manager: all of it, or none.
 fn first_of(s: Settings, c: Controller, own: usize) -> usize
     ensures { (result ≡ cond (eqb c.manager s.manager) own 0) × (result ≤ own) }
 {
-    if c.manager != s.manager {
-        return 0;
-    }
-    own
+    if c.manager == s.manager { own } else { 0 }
 }
 
 // Where shares end that lie one behind the other, with one more from its base on. One of no bits is nowhere; one that begins before the end of those so far
@@ -117,36 +98,17 @@ fn ring_ok(r: Ring) -> bool
 {
     let fill = ring::fill(r.posted, r.taken);
     let size = r.size as u32;
-    if fill > size {
-        return false;
-    }
-    if r.place >= r.size {
-        return false;
-    }
-    if fill < size {
-        return true;
-    }
-    r.stopped
+    fill <= size && r.place < r.size && (fill < size || r.stopped)
 }
 
 // Whether a controller has no queue, or one that is as it may be.
-fn queue_ok(q: Queue) -> bool
+fn queue_ok(q: Option<Ring>) -> bool
     ensures { result ≡ queue_ok q }
 {
-    let Queue::Is(r) = q else {
-        return true;
-    };
-    ring_ok(r)
-}
-
-// Whether the queues so far are as they may be, with one more.
-fn queues_after(queues: bool, q: Queue) -> bool
-    ensures { result ≡ (queues && queue_ok q) }
-{
-    if !queues {
-        return false;
+    match q {
+        None => true,
+        Some(r) => ring_ok(r),
     }
-    queue_ok(q)
 }
 
 // The walk over the controllers, one more. Its share is taken to have as many bits as it has at most.
@@ -155,11 +117,10 @@ fn walk_on(s: Settings, w: Walked, c: Controller) -> Walked
     ensures { (result ≡ walked_by s w c) × (result.weight ≤ w.weight + 65536) × (result.first ≤ result.weight) }
 {
     let kept = controller_kept(s, c);
-    let own = weight(kept.ok, c);
+    let own = weight(kept, c);
     let first = first_of(s, c, own);
-    let end = end_after(w.end, c.base, kept.most);
-    let q = c.queue;
-    let queues = queues_after(w.queues, q);
+    let end = end_after(w.end, c.base, most(kept));
+    let queues = w.queues && queue_ok(c.queue);
     Walked {
         weight: w.weight + own,
         first: w.first + first,
@@ -168,51 +129,21 @@ fn walk_on(s: Settings, w: Walked, c: Controller) -> Walked
     }
 }
 
-// The walk over all controllers in use. A controller is taken by a number that does not vary, as one that does would copy the record.
+// The walk over all controllers in use.
 fn walk(d: Device) -> Walked
     requires { settings_ok d.settings ≡ true }
     ensures { (result ≡ walk_of d) × (result.first ≤ result.weight) }
 {
     let s = d.settings;
-    let n = s.count;
-    let mut w = walk_on(
-        s,
-        Walked {
-            weight: 0,
-            first: 0,
-            end: 0,
-            queues: true,
-        },
-        d.controllers[0],
-    );
-    if n <= 1 {
-        return w;
+    let mut w = Walked {
+        weight: 0,
+        first: 0,
+        end: 0,
+        queues: true,
+    };
+    for i in 0..s.count {
+        w = walk_on(s, w, d.controllers[i]);
     }
-    w = walk_on(s, w, d.controllers[1]);
-    if n <= 2 {
-        return w;
-    }
-    w = walk_on(s, w, d.controllers[2]);
-    if n <= 3 {
-        return w;
-    }
-    w = walk_on(s, w, d.controllers[3]);
-    if n <= 4 {
-        return w;
-    }
-    w = walk_on(s, w, d.controllers[4]);
-    if n <= 5 {
-        return w;
-    }
-    w = walk_on(s, w, d.controllers[5]);
-    if n <= 6 {
-        return w;
-    }
-    w = walk_on(s, w, d.controllers[6]);
-    if n <= 7 {
-        return w;
-    }
-    w = walk_on(s, w, d.controllers[7]);
     w
 }
 
@@ -221,8 +152,7 @@ pub fn weights(d: Device) -> usize
     requires { settings_ok d.settings ≡ true }
     ensures { result ≡ weights_of d }
 {
-    let w = walk(d);
-    w.weight
+    walk(d).weight
 }
 
 // The counts of all controllers that a manager tracks, together: what the first one does not track, the second does.
@@ -233,9 +163,10 @@ pub fn managed(d: Device, m: u16) -> usize
     let w = walk(d);
     let s = d.settings;
     if m == s.manager {
-        return w.first;
+        w.first
+    } else {
+        w.weight - w.first
     }
-    w.weight - w.first
 }
 
 // Whether the counts of each manager, by their weights, are within its limit, and all within the shelf's.
@@ -243,15 +174,9 @@ fn counts_ok(s: Settings, w: Walked) -> bool
     requires { w.first ≤ w.weight }
     ensures { result ≡ within_limits s w.first w.weight }
 {
-    if w.weight > s.shelf as usize {
-        return false;
-    }
-    if w.first > s.limit as usize {
-        return false;
-    }
-    let second = s.second;
-    let limit = settings::second_limit(second);
-    w.weight - w.first <= limit as usize
+    w.weight <= s.shelf as usize
+        && w.first <= s.limit as usize
+        && w.weight - w.first <= settings::second_limit(s.second) as usize
 }
 
 // Where the marks of a controller lie: as many bits as it has different units, from its base on; nowhere where it is off.
@@ -259,12 +184,10 @@ fn share_of(c: Controller) -> Share
     requires { Countable (held_of c) }
     ensures { result ≡ share_of c }
 {
-    let t = c.tracking;
-    let Tracking::On(g, n) = t else {
+    let Tracking::On(g, n) = c.tracking else {
         return Share { base: 0, size: 0 };
     };
-    let ranges = c.ranges;
-    let u = ranges::units_in(g, n as usize, ranges);
+    let u = ranges::units_in(g, n as usize, c.ranges);
     let base = c.base as usize;
     let size = u.0 as usize;
     Share { base, size }
@@ -288,39 +211,21 @@ fn is_inside(a: Share) -> bool
     ensures { result ≡ is_inside a }
 {
     let most = MOST_UNITS as usize;
-    if a.size == 0 {
-        return true;
-    }
-    if a.size > most {
-        return false;
-    }
-    a.base <= most - a.size
+    a.size == 0 || (a.size <= most && a.base <= most - a.size)
 }
 
 // Whether a share ends where another begins, or before.
 fn ends_before(a: Share, b: Share) -> bool
     ensures { result ≡ leb (a.base + a.size) b.base }
 {
-    if a.base > b.base {
-        return false;
-    }
-    a.size <= b.base - a.base
+    a.base <= b.base && a.size <= b.base - a.base
 }
 
 // Whether two shares do not overlap.
 fn are_apart(a: Share, b: Share) -> bool
     ensures { result ≡ are_apart a b }
 {
-    if a.size == 0 {
-        return true;
-    }
-    if b.size == 0 {
-        return true;
-    }
-    if ends_before(a, b) {
-        return true;
-    }
-    ends_before(b, a)
+    a.size == 0 || b.size == 0 || ends_before(a, b) || ends_before(b, a)
 }
 
 // Whether a share overlaps none of those from a place on.
@@ -382,13 +287,7 @@ fn pool_ok(d: Device) -> bool
 fn front_ok(end: u16) -> bool
     ensures { result ≡ front_ok end }
 {
-    if end < 4 {
-        return false;
-    }
-    if end > 4096 {
-        return false;
-    }
-    end % 4 == 0
+    4 <= end && end <= 4096 && end % 4 == 0
 }
 
 // Whether the controller at a place is suspended.
@@ -396,8 +295,7 @@ fn suspended_at(d: Device, i: usize) -> bool
     requires { i < 8 }
     ensures { result ≡ (get_or d.controllers i no_controller).suspended }
 {
-    let c = d.controllers[i];
-    c.suspended
+    d.controllers[i].suspended
 }
 
 // Whether no state is arriving in parts, or one of a controller in the settings that is suspended, up to an end that parts can have.
@@ -405,17 +303,13 @@ fn sequence_ok(d: Device) -> bool
     requires { settings_ok d.settings ≡ true }
     ensures { result ≡ sequence_ok d.settings (controllers_of d) d.sequence }
 {
-    let q = d.sequence;
-    let Sequence::Open(owner, end) = q else {
+    let Some(q) = d.sequence else {
         return true;
     };
-    let Found::At(i) = settings::find(d.settings, owner) else {
+    let Some(i) = settings::find(d.settings, q.owner) else {
         return false;
     };
-    if !suspended_at(d, i) {
-        return false;
-    }
-    front_ok(end)
+    suspended_at(d, i) && front_ok(q.end)
 }
 
 // Whether a record is sound: its settings pass 16, each controller in use is off or holds what it may, the counts of each manager are within its limit and all within
@@ -446,31 +340,28 @@ pub fn sound(d: Device) -> bool
 
 // Where a call that lends so many words of marks finds its controller. Refused, in this order: 1 where there are not as many as marks have or the record is
 // unsound, 2 where the identifier is not in the settings.
-pub fn locate(d: Device, words: usize, id: u16) -> Place
+pub fn locate(d: Device, words: usize, id: u16) -> Result<usize, Refusal>
     ensures { result ≡ where_is d words id }
 {
     if words != MARK_WORDS {
-        return Place::Refused(1);
+        return Err(Refusal::Unsound);
     }
     if !sound(d) {
-        return Place::Refused(1);
+        return Err(Refusal::Unsound);
     }
-    let Found::At(i) = settings::find(d.settings, id) else {
-        return Place::Refused(2);
+    let Some(i) = settings::find(d.settings, id) else {
+        return Err(Refusal::Unknown);
     };
-    Place::At(i)
+    Ok(i)
 }
 
 // The same for a call by a manager: 2 also where that manager is not in the settings.
-pub fn locate_by(d: Device, words: usize, m: u16, id: u16) -> Place
+pub fn locate_by(d: Device, words: usize, m: u16, id: u16) -> Result<usize, Refusal>
     ensures { result ≡ where_by d words m id }
 {
-    let place = locate(d, words, id);
-    let Place::At(i) = place else {
-        return place;
-    };
+    let place = locate(d, words, id)?;
     if !settings::is_manager(d.settings, m) {
-        return Place::Refused(2);
+        return Err(Refusal::Unknown);
     }
-    place
+    Ok(place)
 }

@@ -12,23 +12,115 @@
 // and 4200 bytes of area as they are after the call, with zeros past the lent ones.
 #![tactic(auto)]
 
-ghost use Rattle.std.specs.Prelude.{◌≡◌, ◌≤◌, length, take};
+ghost use Rattle.std.specs.Prelude.{◌≤◌};
 
-use calls::{Changed, Received, WriteRecord};
-use output::{Buffer, Waiting};
-use rules::{Bytes, Controller, Device, Queue, Range, Ring, Second, Sequence, Settings, Tracking};
-use std::io::Read;
+use calls::{Changed, Posted, Received, Started, StateSet, WriteRecord};
+use engines::{Engine, Plain, Words};
+use output::Buffer;
+use rules::{Bytes, Controller, Device, Range, Ring, Second, Sequence, Settings, Tracking};
+use std::io;
+use std::io::{Read, Write};
 
-// Between two bytes of input: how many bytes of a case are there, and the answers that wait to be written.
-#[derive(Clone, Copy)]
-struct State {
-    there: usize,
-    waiting: Waiting,
+// The bytes of a case.
+const CASE: usize = 3056;
+
+// The most records of a batch that a case may have: one more than a batch may.
+const RECORDS: usize = 1025;
+
+// The bytes of a row of the lent bytes, a record of a batch; and of all rows that begin in those that a case has room for.
+const ROW: usize = 18;
+
+const ROWS: usize = 1026;
+
+// The lent bytes that a case has room for and an answer shows, and the bytes of an area that an answer shows, zeros where it has fewer.
+const LENT: usize = 1024;
+
+const SHOWN: usize = 4200;
+
+const ZEROS: [u8; SHOWN] = [0; SHOWN];
+
+// The call of a case.
+#[derive(Clone, Copy, Debug, PartialEq, Eq)]
+enum Call {
+    Fresh,
+    Start,
+    Stop,
+    Write,
+    Receive,
+    Suspend,
+    Resume,
+    Batch,
+    Part,
+    Make,
+    Post,
+    Take,
+}
+
+impl From<u8> for Call {
+    // A call past the form is taken for the last one.
+    fn from(code: u8) -> Call {
+        match code {
+            0 => Call::Fresh,
+            1 => Call::Start,
+            2 => Call::Stop,
+            3 => Call::Write,
+            4 => Call::Receive,
+            5 => Call::Suspend,
+            6 => Call::Resume,
+            7 => Call::Batch,
+            8 => Call::Part,
+            9 => Call::Make,
+            10 => Call::Post,
+            _ => Call::Take,
+        }
+    }
+}
+
+impl Call {
+    // Whether it is one to a queue.
+    fn is_to_queue(self) -> bool {
+        matches!(self, Call::Make | Call::Post | Call::Take)
+    }
+
+    // Whether it has an area of its own, beside the marks.
+    fn has_area(self) -> bool {
+        self == Call::Part || self.is_to_queue()
+    }
+}
+
+// A case, in the order of its bytes. How many are lent: `words` of marks, the plain engine's `units` in their place, `size` bytes and an `area`; a batch has so many
+// `records`. An area is shown `from` a byte on.
+#[derive(Drop)]
+struct Case {
+    device: Device,
+    words: usize,
+    mark: u64,
+    call: Call,
+    by: u16,
+    id: u16,
+    address: u64,
+    length: Bytes,
+    kind: u8,
+    size: usize,
+    lent: [u8; LENT],
+    records: usize,
+    indicator: u8,
+    low: u32,
+    high: u32,
+    count: u32,
+    area: usize,
+    fill: u8,
+    front: [u8; 64],
+    asked: u32,
+    from: usize,
+    plain: bool,
+    units: usize,
+    pending: u8,
 }
 
 // What a call answers, and the record after it. The row is a start's, the count a write's or a batch's, `done` and `cut` a batch's, `whole` a part's, `stopped` a
 // post's, `taken` and `closing` a take's, and what was received is a receive's: zeros, beside the number, where it is none.
-#[derive(Clone, Copy)]
+#[derive(Drop)]
 struct Answer {
     received: Received,
     row: u8,
@@ -42,406 +134,359 @@ struct Answer {
     device: Device,
 }
 
-// ---- the bytes of a case: those past its end are zeros
+// ---- a case, read
 
-// A byte.
-fn byte_at(case: &[u8], at: usize) -> u8 {
-    if at < case.len() { case[at] } else { 0 }
+// What is left to read of some bytes.
+#[derive(Drop)]
+struct Rest<'a> {
+    bytes: &'a [u8],
 }
 
-// A number of 2 bytes.
-fn short_at(case: &[u8], at: usize) -> u16 {
-    if case.len() < 2 {
-        return 0;
+impl Rest<'_> {
+    // The next bytes, of a number mostly: zeros, where fewer are left.
+    fn next<const N: usize>(&mut self) -> [u8; N] {
+        let Some((next, rest)) = self.bytes.split_first_chunk() else {
+            return [0; N];
+        };
+        self.bytes = rest;
+        *next
     }
-    if case.len() - 2 < at {
-        return 0;
+
+    // The next byte.
+    fn byte(&mut self) -> u8 {
+        u8::from_le_bytes(self.next())
     }
-    little::read_u16(case, at)
-}
 
-// A number of 4 bytes.
-fn word_at(case: &[u8], at: usize) -> u32 {
-    if case.len() < 4 {
-        return 0;
+    // A flag: every byte but 0 sets it.
+    fn flag(&mut self) -> bool {
+        self.byte() != 0
     }
-    if case.len() - 4 < at {
-        return 0;
+
+    // A number of 2 bytes.
+    fn short(&mut self) -> u16 {
+        u16::from_le_bytes(self.next())
     }
-    little::read_u32(case, at)
-}
 
-// A number of 8 bytes.
-fn long_at(case: &[u8], at: usize) -> u64 {
-    if case.len() < 8 {
-        return 0;
+    // A number of 4 bytes.
+    fn word(&mut self) -> u32 {
+        u32::from_le_bytes(self.next())
     }
-    if case.len() - 8 < at {
-        return 0;
+
+    // A number of 8 bytes.
+    fn long(&mut self) -> u64 {
+        u64::from_le_bytes(self.next())
     }
-    little::read_u64(case, at)
-}
 
-// A flag: every byte but 0 sets it.
-fn flag_at(case: &[u8], at: usize) -> bool {
-    byte_at(case, at) != 0
-}
-
-// ---- a record
-
-// A range, from index `at` on.
-fn read_range(case: &[u8], at: usize) -> Range
-    requires { at ≤ 3056 }
-{
-    let start = long_at(case, at);
-    let length = word_at(case, at + 8);
-    Range { start, length }
-}
-
-// The ranges of a controller, from index `at` on.
-fn read_ranges(case: &[u8], at: usize) -> [Range; 16]
-    requires { at ≤ 2048 }
-{
-    let mut ranges = rules::no_ranges();
-    let mut i: usize = 0;
-    while i < 16 {
-        ranges[i] = read_range(case, at + 12 * i);
-        i = i + 1;
+    // How many there are.
+    fn count(&mut self) -> usize {
+        usize::from(self.short())
     }
-    ranges
-}
 
-// Whether a controller is tracked, and how, from index `at` on.
-fn read_tracking(case: &[u8], at: usize) -> Tracking
-    requires { at ≤ 2048 }
-{
-    if byte_at(case, at) == 0 {
-        return Tracking::Off;
+    fn settings(&mut self) -> Settings {
+        Settings {
+            manager: self.short(),
+            least: self.byte(),
+            greatest: self.byte(),
+            powers: self.flag(),
+            limit: self.short(),
+            second: self.second(),
+            shelf: self.short(),
+            count: self.long() as usize,
+            identifiers: self.identifiers(),
+        }
     }
-    let granularity = byte_at(case, at + 1);
-    let count = byte_at(case, at + 2);
-    Tracking::On(granularity, count)
-}
 
-// A controller's queue, from index `at` on.
-fn read_queue(case: &[u8], at: usize) -> Queue
-    requires { at ≤ 2048 }
-{
-    if byte_at(case, at) == 0 {
-        return Queue::Nothing;
+    // The second manager. Where there is none, its bytes say nothing.
+    fn second(&mut self) -> Option<Second> {
+        let there = self.flag();
+        let second = Second {
+            id: self.short(),
+            limit: self.short(),
+        };
+        there.then_some(second)
     }
-    let size = short_at(case, at + 1);
-    let posted = word_at(case, at + 3);
-    let taken = word_at(case, at + 7);
-    let place = short_at(case, at + 11);
-    let stopped = flag_at(case, at + 13);
-    Queue::Is(Ring {
-        size,
-        posted,
-        taken,
-        place,
-        stopped,
-    })
-}
 
-// A controller, from index `at` on.
-fn read_controller(case: &[u8], at: usize) -> Controller
-    requires { at ≤ 2000 }
-{
-    let tracking = read_tracking(case, at);
-    let suspended = flag_at(case, at + 3);
-    let base = short_at(case, at + 4);
-    let manager = short_at(case, at + 6);
-    let queue = read_queue(case, at + 8);
-    let ranges = read_ranges(case, at + 22);
-    Controller {
-        tracking,
-        manager,
-        base,
-        suspended,
-        ranges,
-        queue,
+    fn identifiers(&mut self) -> [u16; 8] {
+        let mut identifiers = [0; 8];
+        for id in &mut identifiers {
+            *id = self.short();
+        }
+        identifiers
     }
-}
 
-// The controllers.
-fn read_controllers(case: &[u8]) -> [Controller; 8] {
-    let first = read_controller(case, 38);
-    let mut controllers = [first; 8];
-    let mut i: usize = 1;
-    while i < 8 {
-        controllers[i] = read_controller(case, 38 + 214 * i);
-        i = i + 1;
+    fn controller(&mut self) -> Controller {
+        let tracking = self.tracking();
+        let suspended = self.flag();
+        let base = self.short();
+        let manager = self.short();
+        let queue = self.queue();
+        let ranges = self.ranges();
+        Controller {
+            tracking,
+            manager,
+            base,
+            suspended,
+            ranges,
+            queue,
+        }
     }
-    controllers
-}
 
-// The identifiers.
-fn read_identifiers(case: &[u8]) -> [u16; 8] {
-    let mut identifiers = [0u16; 8];
-    let mut i: usize = 0;
-    while i < 8 {
-        identifiers[i] = short_at(case, 22 + 2 * i);
-        i = i + 1;
+    fn tracking(&mut self) -> Tracking {
+        let there = self.flag();
+        let granularity = self.byte();
+        let count = self.byte();
+        if there {
+            Tracking::On(granularity, count)
+        } else {
+            Tracking::Off
+        }
     }
-    identifiers
-}
 
-// The second manager.
-fn read_second(case: &[u8]) -> Second {
-    if byte_at(case, 7) == 0 {
-        return Second::Nothing;
+    fn queue(&mut self) -> Option<Ring> {
+        let there = self.flag();
+        let ring = Ring {
+            size: self.short(),
+            posted: self.word(),
+            taken: self.word(),
+            place: self.short(),
+            stopped: self.flag(),
+        };
+        there.then_some(ring)
     }
-    let id = short_at(case, 8);
-    let limit = short_at(case, 10);
-    Second::Is(id, limit)
-}
 
-// The settings.
-fn read_settings(case: &[u8]) -> Settings {
-    let manager = short_at(case, 0);
-    let least = byte_at(case, 2);
-    let greatest = byte_at(case, 3);
-    let powers = flag_at(case, 4);
-    let limit = short_at(case, 5);
-    let second = read_second(case);
-    let shelf = short_at(case, 12);
-    let count = long_at(case, 14) as usize;
-    let identifiers = read_identifiers(case);
-    Settings {
-        manager,
-        least,
-        greatest,
-        powers,
-        limit,
-        second,
-        shelf,
-        count,
-        identifiers,
+    fn ranges(&mut self) -> [Range; 16] {
+        let mut ranges = rules::no_ranges();
+        for range in &mut ranges {
+            *range = Range {
+                start: self.long(),
+                length: self.word(),
+            };
+        }
+        ranges
     }
-}
 
-// The sequence.
-fn read_sequence(case: &[u8]) -> Sequence {
-    if byte_at(case, 1750) == 0 {
-        return Sequence::Nothing;
+    fn sequence(&mut self) -> Option<Sequence> {
+        let there = self.flag();
+        let sequence = Sequence {
+            owner: self.short(),
+            end: self.short(),
+        };
+        there.then_some(sequence)
     }
-    let owner = short_at(case, 1751);
-    let end = short_at(case, 1753);
-    Sequence::Open(owner, end)
-}
 
-// The record.
-fn read_device(case: &[u8]) -> Device {
-    let settings = read_settings(case);
-    let controllers = read_controllers(case);
-    let sequence = read_sequence(case);
-    Device {
-        settings,
-        controllers,
-        sequence,
+    fn device(&mut self) -> Device {
+        let settings = self.settings();
+        let first = self.controller();
+        let mut controllers = [first; 8];
+        for controller in &mut controllers[1..] {
+            *controller = self.controller();
+        }
+        let sequence = self.sequence();
+        Device {
+            settings,
+            controllers,
+            sequence,
+        }
     }
-}
 
-// ---- the bytes of an answer
-
-// Puts the lowest `width` bytes of a number, lowest first. Past the eighth byte they are zeros.
-fn put_number(out: &mut Buffer, waiting: Waiting, width: usize, n: u64) -> Waiting {
-    let mut waiting = waiting;
-    let mut left = width;
-    let mut rest = n;
-    while 0 < left {
-        waiting = output::put_byte(out, waiting, (rest % 256) as u8);
-        rest = rest / 256;
-        left = left - 1;
+    fn case(&mut self) -> Case {
+        Case {
+            device: self.device(),
+            words: self.count(),
+            mark: self.long(),
+            call: Call::from(self.byte()),
+            by: self.short(),
+            id: self.short(),
+            address: self.long(),
+            length: Bytes(self.long()),
+            kind: self.byte(),
+            size: self.count(),
+            lent: self.next(),
+            records: self.count(),
+            indicator: self.byte(),
+            low: self.word(),
+            high: self.word(),
+            count: self.word(),
+            area: self.count(),
+            fill: self.byte(),
+            front: self.next(),
+            asked: self.word(),
+            from: self.count(),
+            plain: self.flag(),
+            units: self.count(),
+            pending: self.byte(),
+        }
     }
-    waiting
-}
 
-// Puts a flag.
-fn put_flag(out: &mut Buffer, waiting: Waiting, b: bool) -> Waiting {
-    if b {
-        return output::put_byte(out, waiting, 1);
-    }
-    output::put_byte(out, waiting, 0)
-}
-
-// Puts a range.
-fn put_range(out: &mut Buffer, waiting: Waiting, r: Range) -> Waiting {
-    let a = put_number(out, waiting, 8, r.start);
-    put_number(out, a, 4, r.length as u64)
-}
-
-// Puts the ranges of a controller.
-fn put_ranges(out: &mut Buffer, waiting: Waiting, ranges: [Range; 16]) -> Waiting {
-    let mut waiting = waiting;
-    let mut i: usize = 0;
-    while i < 16 {
-        waiting = put_range(out, waiting, ranges[i]);
-        i = i + 1;
-    }
-    waiting
-}
-
-// Puts whether a controller is tracked, and how.
-fn put_tracking(out: &mut Buffer, waiting: Waiting, t: Tracking) -> Waiting {
-    match t {
-        Tracking::Off => put_number(out, waiting, 3, 0),
-        Tracking::On(granularity, count) => {
-            let a = output::put_byte(out, waiting, 1);
-            let b = output::put_byte(out, a, granularity);
-            output::put_byte(out, b, count)
+    // A record of a batch.
+    fn record(&mut self) -> WriteRecord {
+        WriteRecord {
+            id: self.short(),
+            address: self.long(),
+            bytes: Bytes(self.long()),
         }
     }
 }
 
-// Puts a ring.
-fn put_ring(out: &mut Buffer, waiting: Waiting, r: Ring) -> Waiting {
-    let a = put_number(out, waiting, 2, r.size as u64);
-    let b = put_number(out, a, 4, r.posted as u64);
-    let c = put_number(out, b, 4, r.taken as u64);
-    let e = put_number(out, c, 2, r.place as u64);
-    put_flag(out, e, r.stopped)
+// As many records as a batch can be handed: the rows of the lent bytes, again and again.
+fn records_of(lent: &[u8]) -> [WriteRecord; RECORDS] {
+    let none = Rest { bytes: &[] }.record();
+    let mut records = [none; RECORDS];
+    let rows = &lent[..lent.len().min(ROWS)];
+    for (record, row) in records.iter_mut().zip(rows.chunks(ROW).cycle()) {
+        *record = Rest { bytes: row }.record();
+    }
+    records
 }
 
-// Puts a controller's queue.
-fn put_queue(out: &mut Buffer, waiting: Waiting, q: Queue) -> Waiting {
-    match q {
-        Queue::Nothing => put_number(out, waiting, 14, 0),
-        Queue::Is(r) => {
-            let a = output::put_byte(out, waiting, 1);
-            put_ring(out, a, r)
+// ---- an answer, written
+
+// Writes the bytes of a number, or of some.
+fn put<W: Write, const N: usize>(out: &mut W, bytes: [u8; N]) -> io::Result<()> {
+    out.write_all(&bytes)
+}
+
+fn put_settings<W: Write>(out: &mut W, s: &Settings) -> io::Result<()> {
+    put(out, s.manager.to_le_bytes())?;
+    put(out, [s.least, s.greatest, u8::from(s.powers)])?;
+    put(out, s.limit.to_le_bytes())?;
+    put_second(out, s.second)?;
+    put(out, s.shelf.to_le_bytes())?;
+    put(out, s.count.to_le_bytes())?;
+    for id in &s.identifiers {
+        put(out, id.to_le_bytes())?;
+    }
+    Ok(())
+}
+
+fn put_second<W: Write>(out: &mut W, second: Option<Second>) -> io::Result<()> {
+    match second {
+        None => put(out, [0; 5]),
+        Some(Second { id, limit }) => {
+            put(out, [1])?;
+            put(out, id.to_le_bytes())?;
+            put(out, limit.to_le_bytes())
         }
     }
 }
 
-// Puts a controller.
-fn put_controller(out: &mut Buffer, waiting: Waiting, c: Controller) -> Waiting {
-    let t = c.tracking;
-    let queue = c.queue;
-    let ranges = c.ranges;
-    let a = put_tracking(out, waiting, t);
-    let b = put_flag(out, a, c.suspended);
-    let e = put_number(out, b, 2, c.base as u64);
-    let f = put_number(out, e, 2, c.manager as u64);
-    let g = put_queue(out, f, queue);
-    put_ranges(out, g, ranges)
-}
-
-// Puts the controllers.
-fn put_controllers(out: &mut Buffer, waiting: Waiting, controllers: [Controller; 8]) -> Waiting {
-    let mut waiting = waiting;
-    let mut i: usize = 0;
-    while i < 8 {
-        waiting = put_controller(out, waiting, controllers[i]);
-        i = i + 1;
+fn put_controller<W: Write>(out: &mut W, c: &Controller) -> io::Result<()> {
+    put_tracking(out, c.tracking)?;
+    put(out, [u8::from(c.suspended)])?;
+    put(out, c.base.to_le_bytes())?;
+    put(out, c.manager.to_le_bytes())?;
+    put_queue(out, c.queue)?;
+    for range in &c.ranges {
+        put(out, range.start.to_le_bytes())?;
+        put(out, range.length.to_le_bytes())?;
     }
-    waiting
+    Ok(())
 }
 
-// Puts the identifiers.
-fn put_identifiers(out: &mut Buffer, waiting: Waiting, identifiers: [u16; 8]) -> Waiting {
-    let mut waiting = waiting;
-    let mut i: usize = 0;
-    while i < 8 {
-        waiting = put_number(out, waiting, 2, identifiers[i] as u64);
-        i = i + 1;
+fn put_tracking<W: Write>(out: &mut W, tracking: Tracking) -> io::Result<()> {
+    match tracking {
+        Tracking::Off => put(out, [0; 3]),
+        Tracking::On(granularity, count) => put(out, [1, granularity, count]),
     }
-    waiting
 }
 
-// Puts a second manager.
-fn put_second(out: &mut Buffer, waiting: Waiting, s: Second) -> Waiting {
-    match s {
-        Second::Nothing => put_number(out, waiting, 5, 0),
-        Second::Is(id, limit) => {
-            let a = output::put_byte(out, waiting, 1);
-            let b = put_number(out, a, 2, id as u64);
-            put_number(out, b, 2, limit as u64)
+fn put_queue<W: Write>(out: &mut W, queue: Option<Ring>) -> io::Result<()> {
+    match queue {
+        None => put(out, [0; 14]),
+        Some(ring) => {
+            put(out, [1])?;
+            put(out, ring.size.to_le_bytes())?;
+            put(out, ring.posted.to_le_bytes())?;
+            put(out, ring.taken.to_le_bytes())?;
+            put(out, ring.place.to_le_bytes())?;
+            put(out, [u8::from(ring.stopped)])
         }
     }
 }
 
-// Puts the settings.
-fn put_settings(out: &mut Buffer, waiting: Waiting, s: Settings) -> Waiting {
-    let second = s.second;
-    let identifiers = s.identifiers;
-    let a = put_number(out, waiting, 2, s.manager as u64);
-    let b = output::put_byte(out, a, s.least);
-    let c = output::put_byte(out, b, s.greatest);
-    let e = put_flag(out, c, s.powers);
-    let f = put_number(out, e, 2, s.limit as u64);
-    let g = put_second(out, f, second);
-    let h = put_number(out, g, 2, s.shelf as u64);
-    let i = put_number(out, h, 8, s.count as u64);
-    put_identifiers(out, i, identifiers)
-}
-
-// Puts a sequence.
-fn put_sequence(out: &mut Buffer, waiting: Waiting, q: Sequence) -> Waiting {
-    match q {
-        Sequence::Nothing => put_number(out, waiting, 5, 0),
-        Sequence::Open(owner, end) => {
-            let a = output::put_byte(out, waiting, 1);
-            let b = put_number(out, a, 2, owner as u64);
-            put_number(out, b, 2, end as u64)
+fn put_sequence<W: Write>(out: &mut W, sequence: Option<Sequence>) -> io::Result<()> {
+    match sequence {
+        None => put(out, [0; 5]),
+        Some(Sequence { owner, end }) => {
+            put(out, [1])?;
+            put(out, owner.to_le_bytes())?;
+            put(out, end.to_le_bytes())
         }
     }
 }
 
-// Puts a record.
-fn put_device(out: &mut Buffer, waiting: Waiting, d: Device) -> Waiting {
-    let settings = d.settings;
-    let controllers = d.controllers;
-    let sequence = d.sequence;
-    let a = put_settings(out, waiting, settings);
-    let b = put_controllers(out, a, controllers);
-    put_sequence(out, b, sequence)
-}
-
-// Puts some words.
-fn put_words(out: &mut Buffer, waiting: Waiting, words: &[u64]) -> Waiting {
-    let mut waiting = waiting;
-    let mut i: usize = 0;
-    while i < words.len() {
-        waiting = put_number(out, waiting, 8, words[i]);
-        i = i + 1;
+fn put_device<W: Write>(out: &mut W, d: &Device) -> io::Result<()> {
+    put_settings(out, &d.settings)?;
+    for controller in &d.controllers {
+        put_controller(out, controller)?;
     }
-    waiting
+    put_sequence(out, d.sequence)
 }
 
-// Puts what a receive answers, less its number and its groups.
-fn put_received(out: &mut Buffer, waiting: Waiting, r: Received) -> Waiting {
-    let a = put_flag(out, waiting, r.suspended);
-    let b = put_flag(out, a, r.more);
-    let c = output::put_byte(out, b, r.granularity);
-    put_number(out, c, 8, r.runs as u64)
+// Writes what a call answers, and the record after it.
+fn put_answer<W: Write>(out: &mut W, a: &Answer) -> io::Result<()> {
+    let r = &a.received;
+    put(out, [r.number, a.row])?;
+    put(out, a.count.to_le_bytes())?;
+    put(
+        out,
+        [u8::from(r.suspended), u8::from(r.more), r.granularity],
+    )?;
+    put(out, r.runs.to_le_bytes())?;
+    put(out, a.done.to_le_bytes())?;
+    put(out, [a.cut])?;
+    put(out, a.whole.to_le_bytes())?;
+    put(out, [u8::from(a.stopped)])?;
+    put(out, a.taken.to_le_bytes())?;
+    put(out, [u8::from(a.closing)])?;
+    put(out, r.groups.to_le_bytes())?;
+    put_device(out, &a.device)
 }
 
-// Puts what a call answers, and the record after it.
-fn put_answer(out: &mut Buffer, waiting: Waiting, a: Answer) -> Waiting {
-    let received = a.received;
-    let device = a.device;
-    let b = output::put_byte(out, waiting, received.number);
-    let c = output::put_byte(out, b, a.row);
-    let e = put_number(out, c, 8, a.count as u64);
-    let f = put_received(out, e, received);
-    let g = put_number(out, f, 8, a.done as u64);
-    let h = output::put_byte(out, g, a.cut);
-    let i = put_number(out, h, 8, a.whole as u64);
-    let j = put_flag(out, i, a.stopped);
-    let k = put_number(out, j, 8, a.taken as u64);
-    let l = put_flag(out, k, a.closing);
-    let m = put_number(out, l, 8, received.groups as u64);
-    put_device(out, m, device)
-}
-
-// How many there are: as a case says, and no more than there is room for.
-fn lent_at(case: &[u8], at: usize, most: usize) -> usize
-    ensures { result ≤ most }
+// Writes `count` bytes of those that were lent, from a place on. Past their end are zeros.
+fn put_shown<W: Write>(out: &mut W, bytes: &[u8], from: usize, count: usize) -> io::Result<()>
+    requires { count ≤ 4200 }
 {
-    let n = short_at(case, at) as usize;
-    if n < most { n } else { most }
+    let rest = bytes.get(from..).unwrap_or(&[]);
+    let n = rest.len().min(count);
+    out.write_all(&rest[..n])?;
+    out.write_all(&ZEROS[n..count])
+}
+
+// Writes the plain engine's bytes as the bits of 512 words, each set where a byte is not 0.
+fn put_bits<W: Write>(out: &mut W, bytes: &[u8]) -> io::Result<()> {
+    for eight in bytes.chunks(8) {
+        let mut bits = 0;
+        for byte in eight.iter().rev() {
+            bits = (bits << 1) | u8::from(*byte != 0);
+        }
+        put(out, [bits])?;
+    }
+    Ok(())
+}
+
+// Writes the marks of a case's engine.
+fn put_marks<W: Write>(out: &mut W, case: &Case, marks: &[u64], bytes: &[u8]) -> io::Result<()> {
+    if case.plain {
+        return put_bits(out, bytes);
+    }
+    for word in marks {
+        put(out, word.to_le_bytes())?;
+    }
+    Ok(())
+}
+
+// Writes what an answer shows of an area: the plain engine's bytes, where its call has no other. A state's is shown from its first byte on.
+fn put_area<W: Write>(out: &mut W, case: &Case, bytes: &[u8], area: &[u8]) -> io::Result<()> {
+    if case.plain && !case.call.has_area() {
+        return put_shown(out, bytes, case.from, SHOWN);
+    }
+    let from = if case.call.is_to_queue() {
+        case.from
+    } else {
+        0
+    };
+    put_shown(out, area, from, SHOWN)
 }
 
 // ---- the calls
@@ -458,547 +503,255 @@ fn not_received(number: u8) -> Received {
     }
 }
 
-// The answer of a call with this number, and zeros beside it.
-fn answer_of(number: u8, device: Device) -> Answer {
-    let received = not_received(number);
-    Answer {
-        received,
-        row: 0,
-        count: 0,
-        done: 0,
-        cut: 0,
-        whole: 0,
-        stopped: false,
-        taken: 0,
-        closing: false,
-        device,
-    }
-}
-
-// The answer of a call that may change the record, and no more.
-fn changed(c: Changed) -> Answer {
-    let device = c.device;
-    answer_of(c.number, device)
-}
-
-// Plays a fresh.
-fn fresh(case: &[u8], marks: &mut [u64], bytes: &mut [u8]) -> Answer {
-    let s = read_settings(case);
-    changed(engines::fresh(s, marks, bytes))
-}
-
-// Plays a start.
-fn start(case: &[u8], marks: &mut [u64], bytes: &mut [u8], lent: &[u8]) -> Answer {
-    let d = read_device(case);
-    let by = short_at(case, 1766);
-    let id = short_at(case, 1768);
-    let started = engines::start(d, marks, bytes, by, id, lent);
-    let device = started.device;
-    let mut answer = answer_of(started.number, device);
-    answer.row = started.row;
-    answer
-}
-
-// Plays a stop.
-fn stop(case: &[u8], marks: &mut [u64], bytes: &mut [u8]) -> Answer {
-    let d = read_device(case);
-    let by = short_at(case, 1766);
-    let id = short_at(case, 1768);
-    changed(engines::stop(d, marks, bytes, by, id))
-}
-
-// Plays a write: the record stays as given.
-fn write(case: &[u8], marks: &mut [u64], bytes: &mut [u8]) -> Answer {
-    let device = read_device(case);
-    let id = short_at(case, 1768);
-    let at = long_at(case, 1770);
-    let length = long_at(case, 1778);
-    let written = engines::write(device, marks, bytes, id, at, Bytes(length));
-    let mut answer = answer_of(written.number, device);
-    answer.count = written.count;
-    answer
-}
-
-// Plays a receive: the record stays as given.
-fn receive(case: &[u8], marks: &mut [u64], bytes: &mut [u8], lent: &mut [u8]) -> Answer {
-    let device = read_device(case);
-    let by = short_at(case, 1766);
-    let id = short_at(case, 1768);
-    let received = engines::receive(device, marks, bytes, by, id, lent);
-    let mut answer = answer_of(received.number, device);
-    answer.received = received;
-    answer
-}
-
-// Plays a suspend.
-fn suspend(case: &[u8], marks: &[u64], bytes: &[u8]) -> Answer {
-    let d = read_device(case);
-    let by = short_at(case, 1766);
-    let id = short_at(case, 1768);
-    let kind = byte_at(case, 1786);
-    changed(engines::suspend(d, marks, bytes, by, id, kind))
-}
-
-// Plays a resume.
-fn resume(case: &[u8], marks: &[u64], bytes: &[u8]) -> Answer {
-    let d = read_device(case);
-    let by = short_at(case, 1766);
-    let id = short_at(case, 1768);
-    changed(engines::resume(d, marks, bytes, by, id))
-}
-
-// ---- a batch: its records are rows of the lent bytes, again and again
-
-// The record that is the row from index `at` on.
-fn read_record(rows: &[u8], at: usize) -> WriteRecord
-    requires { at ≤ 1024 }
-{
-    let id = short_at(rows, at);
-    let address = long_at(rows, at + 2);
-    let bytes = Bytes(long_at(rows, at + 10));
-    WriteRecord { id, address, bytes }
-}
-
-// The row that comes after the one from index `at` on: the first again, where there is none.
-fn next_row(rows: &[u8], at: usize) -> usize
-    requires { at ≤ 1024 }
-    ensures { result ≤ 1024 }
-{
-    let next = at + 18;
-    if next < rows.len() {
-        if next <= 1024 {
-            return next;
+impl Answer {
+    // That of a call with this number, and zeros beside it.
+    fn new(number: u8, device: Device) -> Answer {
+        Answer {
+            received: not_received(number),
+            row: 0,
+            count: 0,
+            done: 0,
+            cut: 0,
+            whole: 0,
+            stopped: false,
+            taken: 0,
+            closing: false,
+            device,
         }
     }
-    0
 }
 
-// As many records as a batch can be handed.
-fn read_records(rows: &[u8]) -> [WriteRecord; 1025] {
-    let first = read_record(rows, 0);
-    let mut records = [first; 1025];
-    let mut at: usize = 0;
-    let mut i: usize = 0;
-    while i < 1025 {
-        records[i] = read_record(rows, at);
-        at = next_row(rows, at);
-        i = i + 1;
-    }
-    records
-}
-
-// Plays a batch: the record stays as given.
-fn batch(case: &[u8], marks: &mut [u64], bytes: &mut [u8], lent: &[u8]) -> Answer {
-    let device = read_device(case);
-    let n = lent_at(case, 2813, 1025);
-    let records = read_records(lent);
-    let batched = engines::batch_of(device, marks, bytes, records, n);
-    let mut answer = answer_of(batched.number, device);
-    answer.count = batched.count;
-    answer.done = batched.done;
-    answer.cut = batched.refusal;
-    answer
-}
-
-// Plays a part.
-fn part(case: &[u8], marks: &[u64], bytes: &[u8], lent: &[u8], area: &mut [u8]) -> Answer {
-    let d = read_device(case);
-    let by = short_at(case, 1766);
-    let id = short_at(case, 1768);
-    let indicator = byte_at(case, 2815);
-    let low = word_at(case, 2816);
-    let high = word_at(case, 2820);
-    let count = word_at(case, 2824);
-    let set = engines::set_state(
-        d, marks, bytes, area, by, id, indicator, low, high, count, lent,
-    );
-    let device = set.device;
-    let mut answer = answer_of(set.number, device);
-    answer.whole = set.whole;
-    answer
-}
-
-// ---- a queue
-
-// Makes a queue.
-fn make(case: &[u8], marks: &[u64], bytes: &[u8], area: &[u8]) -> Answer {
-    let d = read_device(case);
-    let id = short_at(case, 1768);
-    changed(engines::make_queue(d, marks, bytes, id, area))
-}
-
-// Plays a post.
-fn post(case: &[u8], marks: &[u64], bytes: &[u8], lent: &[u8], area: &mut [u8]) -> Answer {
-    let d = read_device(case);
-    let id = short_at(case, 1768);
-    let posted = engines::post(d, marks, bytes, area, id, lent);
-    let device = posted.device;
-    let mut answer = answer_of(posted.number, device);
-    answer.stopped = posted.stopped;
-    answer
-}
-
-// Plays a take.
-fn take(case: &[u8], marks: &[u64], bytes: &[u8], lent: &mut [u8], area: &[u8]) -> Answer {
-    let d = read_device(case);
-    let id = short_at(case, 1768);
-    let asked = word_at(case, 2895);
-    let taken = engines::take(d, marks, bytes, area, id, asked, lent);
-    let device = taken.device;
-    let mut answer = answer_of(taken.number, device);
-    answer.taken = taken.count;
-    answer.closing = taken.closing;
-    answer
-}
-
-// Plays a case's call on what is lent to it. A call past the form is taken for the last one.
-fn call(
-    case: &[u8],
-    marks: &mut [u64],
-    bytes: &mut [u8],
-    lent: &mut [u8],
-    area: &mut [u8],
-) -> Answer {
-    match byte_at(case, 1765) {
-        0 => fresh(case, marks, bytes),
-        1 => start(case, marks, bytes, lent),
-        2 => stop(case, marks, bytes),
-        3 => write(case, marks, bytes),
-        4 => receive(case, marks, bytes, lent),
-        5 => suspend(case, marks, bytes),
-        6 => resume(case, marks, bytes),
-        7 => batch(case, marks, bytes, lent),
-        8 => part(case, marks, bytes, lent, area),
-        9 => make(case, marks, bytes, area),
-        10 => post(case, marks, bytes, lent, area),
-        _ => take(case, marks, bytes, lent, area),
+impl From<Changed> for Answer {
+    fn from(changed: Changed) -> Answer {
+        Answer::new(changed.number, changed.device)
     }
 }
 
-// Whether a case's call is one to a queue.
-fn to_queue(case: &[u8]) -> bool {
-    byte_at(case, 1765) > 8
+impl From<Started> for Answer {
+    fn from(started: Started) -> Answer {
+        Answer {
+            row: started.row,
+            ..Answer::new(started.number, started.device)
+        }
+    }
+}
+
+impl From<StateSet> for Answer {
+    fn from(set: StateSet) -> Answer {
+        Answer {
+            whole: set.whole,
+            ..Answer::new(set.number, set.device)
+        }
+    }
+}
+
+impl From<Posted> for Answer {
+    fn from(posted: Posted) -> Answer {
+        Answer {
+            stopped: posted.stopped,
+            ..Answer::new(posted.number, posted.device)
+        }
+    }
+}
+
+impl From<calls::Taken> for Answer {
+    fn from(taken: calls::Taken) -> Answer {
+        Answer {
+            taken: taken.count,
+            closing: taken.closing,
+            ..Answer::new(taken.number, taken.device)
+        }
+    }
+}
+
+impl Case {
+    // Makes a write: the record stays as given.
+    fn write<E: Engine>(&self, engine: &mut E) -> Answer {
+        let written = engine.write(self.device, self.id, self.address, self.length);
+        Answer {
+            count: written.count,
+            ..Answer::new(written.number, self.device)
+        }
+    }
+
+    // Makes a receive: the record stays as given.
+    fn receive<E: Engine>(&self, engine: &mut E, buffer: &mut [u8]) -> Answer {
+        let received = engine.receive(self.device, self.by, self.id, buffer);
+        Answer {
+            received,
+            ..Answer::new(received.number, self.device)
+        }
+    }
+
+    // Makes a batch: the record stays as given.
+    fn batch<E: Engine>(&self, engine: &mut E, lent: &[u8]) -> Answer {
+        let n = self.records.min(RECORDS);
+        let batched = engine.batch_of(self.device, records_of(lent), n);
+        Answer {
+            count: batched.count,
+            done: batched.done,
+            cut: batched.refusal,
+            ..Answer::new(batched.number, self.device)
+        }
+    }
+
+    // Makes a part.
+    fn part<E: Engine>(&self, engine: &E, lent: &[u8], area: &mut [u8]) -> Answer {
+        engine
+            .set_state(
+                self.device,
+                area,
+                self.by,
+                self.id,
+                self.indicator,
+                self.low,
+                self.high,
+                self.count,
+                lent,
+            )
+            .into()
+    }
+
+    // Makes a case's call on what is lent to it.
+    fn answer<E: Engine>(&self, engine: &mut E, lent: &mut [u8], area: &mut [u8]) -> Answer {
+        let d = self.device;
+        let by = self.by;
+        let id = self.id;
+        match self.call {
+            Call::Fresh => engine.fresh(d.settings).into(),
+            Call::Start => engine.start(d, by, id, lent).into(),
+            Call::Stop => engine.stop(d, by, id).into(),
+            Call::Write => self.write(engine),
+            Call::Receive => self.receive(engine, lent),
+            Call::Suspend => engine.suspend(d, by, id, self.kind).into(),
+            Call::Resume => engine.resume(d, by, id).into(),
+            Call::Batch => self.batch(engine, lent),
+            Call::Part => self.part(engine, lent, area),
+            Call::Make => engine.make_queue(d, id, area).into(),
+            Call::Post => engine.post(d, area, id, lent).into(),
+            Call::Take => engine.take(d, area, id, self.asked, lent).into(),
+        }
+    }
 }
 
 // ---- what is lent
 
 // The lent mark word `i`: the mark rotated left by `i` modulo 64 bits, so that a share that moves by whole words is seen too.
 fn mark_word(mark: u64, i: usize) -> u64 {
-    let s = i % 64;
-    (mark << s) | (mark >> 1 >> (63 - s))
+    mark.rotate_left((i % 64) as u32)
 }
 
-// Makes the lent mark words.
-fn fill_marks(marks: &mut [u64], mark: u64) {
-    let mut i: usize = 0;
-    while i < marks.len() {
-        marks[i] = mark_word(mark, i);
-        i = i + 1;
+impl Case {
+    // Makes the lent mark words.
+    fn fill_marks(&self, marks: &mut [u64]) {
+        for (i, word) in marks.iter_mut().enumerate() {
+            *word = mark_word(self.mark, i);
+        }
     }
-}
 
-// What the plain engine's byte `i` holds: 0 where the mark's bit is clear, else one of the other 255 values, each byte another than those near it.
-fn plain_byte(case: &[u8], i: usize) -> u8 {
-    let word = mark_word(long_at(case, 1757), i / 64);
-    if (word >> (i % 64)) % 2 == 0 {
-        return 0;
+    // What the plain engine's byte `i` holds: 0 where the mark's bit is clear, else one of the other 255 values, each byte another than those near it.
+    fn plain_byte(&self, i: usize) -> u8 {
+        let word = mark_word(self.mark, i / 64);
+        if (word >> (i % 64)) % 2 == 0 {
+            return 0;
+        }
+        let value = usize::from(self.pending);
+        ((value + i % 255) % 255 + 1) as u8
     }
-    let value = byte_at(case, 2904) as usize;
-    ((value + i % 255) % 255 + 1) as u8
-}
 
-// Makes the plain engine's lent bytes.
-fn fill_bytes(case: &[u8], bytes: &mut [u8]) {
-    let mut i: usize = 0;
-    while i < bytes.len() {
-        bytes[i] = plain_byte(case, i);
-        i = i + 1;
+    // Makes the plain engine's lent bytes.
+    fn fill_bytes(&self, bytes: &mut [u8]) {
+        for (i, byte) in bytes.iter_mut().enumerate() {
+            *byte = self.plain_byte(i);
+        }
     }
-}
 
-// A lent byte: those past the ones that a case has room for are zeros.
-fn lent_byte(case: &[u8], i: usize) -> u8 {
-    if i < 1024 {
-        return byte_at(case, 1789 + i);
+    // Makes the lent bytes, of zeros: those past the ones that a case has room for stay.
+    fn fill_lent(&self, lent: &mut [u8]) {
+        let n = lent.len().min(self.lent.len());
+        lent[..n].copy_from_slice(&self.lent[..n]);
     }
-    0
-}
 
-// Makes the lent bytes.
-fn fill_lent(case: &[u8], lent: &mut [u8]) {
-    let mut i: usize = 0;
-    while i < lent.len() {
-        lent[i] = lent_byte(case, i);
-        i = i + 1;
+    // A byte of an area past its first ones: a state's are all the same, and a queue's go up by one from place to place.
+    fn later_byte(&self, i: usize) -> u8 {
+        if !self.call.is_to_queue() {
+            return self.fill;
+        }
+        let place = (i / 32 % 256) as u8;
+        self.fill.wrapping_add(place)
     }
-}
 
-// A byte of an area past its first ones: a state's are all the same, and a queue's go up by one from place to place.
-fn later_byte(case: &[u8], i: usize) -> u8 {
-    let fill = byte_at(case, 2830);
-    if to_queue(case) {
-        let place = ((i / 32) % 256) as u8;
-        return fill.wrapping_add(place);
+    // Makes an area: the first bytes are told one by one.
+    fn fill_area(&self, area: &mut [u8]) {
+        for (i, byte) in area.iter_mut().enumerate() {
+            *byte = self.front.get(i).copied().unwrap_or(self.later_byte(i));
+        }
     }
-    fill
-}
 
-// A byte of an area: the first ones are told one by one.
-fn area_byte(case: &[u8], i: usize) -> u8 {
-    if i < 64 {
-        return byte_at(case, 2831 + i);
+    // Makes a case's call on marks of either engine, in room for all that it lends. As many of each are lent as a case says, and no more than there is room for.
+    fn play_on<W: Write>(&self, out: &mut W) -> io::Result<()> {
+        let mut marks = [0; 512];
+        let mut bytes = [0; 32768];
+        let mut lent = [0; 4100];
+        let mut area = [0; 32800];
+        let size = self.size.min(lent.len());
+        let long = self.area.min(area.len());
+        self.fill_lent(&mut lent[..size]);
+        self.fill_area(&mut area[..long]);
+        let answer = if self.plain {
+            let n = self.units.min(bytes.len());
+            let units = &mut bytes[..n];
+            self.fill_bytes(units);
+            self.answer(
+                &mut Plain { area: units },
+                &mut lent[..size],
+                &mut area[..long],
+            )
+        } else {
+            let n = self.words.min(marks.len());
+            let words = &mut marks[..n];
+            self.fill_marks(words);
+            self.answer(
+                &mut Words { marks: words },
+                &mut lent[..size],
+                &mut area[..long],
+            )
+        };
+        put_answer(out, &answer)?;
+        put_marks(out, self, &marks, &bytes)?;
+        put_shown(out, &lent, 0, LENT)?;
+        put_area(out, self, &bytes, &area)
     }
-    later_byte(case, i)
-}
-
-// Makes an area.
-fn fill_area(case: &[u8], area: &mut [u8]) {
-    let mut i: usize = 0;
-    while i < area.len() {
-        area[i] = area_byte(case, i);
-        i = i + 1;
-    }
-}
-
-// Whether a case is for the plain engine.
-fn is_plain(case: &[u8]) -> bool {
-    flag_at(case, 2901)
-}
-
-// How many mark words a case lends: none where it is for the plain engine.
-fn words_lent(case: &[u8], most: usize) -> usize
-    ensures { result ≤ most }
-{
-    if is_plain(case) {
-        return 0;
-    }
-    lent_at(case, 1755, most)
-}
-
-// How many bytes a case lends in their place.
-fn bytes_lent(case: &[u8], most: usize) -> usize
-    ensures { result ≤ most }
-{
-    if is_plain(case) {
-        return lent_at(case, 2902, most);
-    }
-    0
-}
-
-// Fills what a case lends.
-fn fill(case: &[u8], marks: &mut [u64], bytes: &mut [u8], lent: &mut [u8], area: &mut [u8]) {
-    let mark = long_at(case, 1757);
-    fill_marks(marks, mark);
-    fill_bytes(case, bytes);
-    fill_lent(case, lent);
-    fill_area(case, area);
-}
-
-// Fills what a case lends, and plays its call on that.
-fn lend(
-    case: &[u8],
-    marks: &mut [u64],
-    bytes: &mut [u8],
-    lent: &mut [u8],
-    area: &mut [u8],
-) -> Answer {
-    fill(case, marks, bytes, lent, area);
-    call(case, marks, bytes, lent, area)
-}
-
-// Plays a case in this room, all zeros, for what it lends: what is past that stays zero.
-fn play_in(
-    case: &[u8],
-    marks: &mut [u64],
-    bytes: &mut [u8],
-    lent: &mut [u8],
-    area: &mut [u8],
-) -> Answer {
-    let words = words_lent(case, marks.len());
-    let units = bytes_lent(case, bytes.len());
-    let size = lent_at(case, 1787, lent.len());
-    let long = lent_at(case, 2828, area.len());
-    lend(
-        case,
-        &mut marks[..words],
-        &mut bytes[..units],
-        &mut lent[..size],
-        &mut area[..long],
-    )
-}
-
-// From which byte on an answer shows an area: a state's is shown from its first.
-fn shown_from(case: &[u8]) -> usize
-    ensures { result ≤ 65535 }
-{
-    if to_queue(case) {
-        return short_at(case, 2899) as usize;
-    }
-    0
-}
-
-// Puts `count` bytes of those that were lent, from a place on. Past their end are zeros.
-fn put_shown(out: &mut Buffer, waiting: Waiting, bytes: &[u8], from: usize, count: usize) -> Waiting
-    requires { (from ≤ 65535) × (count ≤ 4200) }
-{
-    let mut waiting = waiting;
-    let mut i: usize = 0;
-    while i < count {
-        waiting = output::put_byte(out, waiting, byte_at(bytes, from + i));
-        i = i + 1;
-    }
-    waiting
-}
-
-// A bit that is set where a byte is not 0.
-fn bit_at(bytes: &[u8], at: usize, bit: u8) -> u8
-    ensures { result ≤ bit }
-{
-    if byte_at(bytes, at) != 0 { bit } else { 0 }
-}
-
-// Eight bytes from a place on, as the bits of one.
-fn bits_at(bytes: &[u8], at: usize) -> u8
-    requires { at ≤ 65535 }
-{
-    let low = bit_at(bytes, at, 1)
-        + bit_at(bytes, at + 1, 2)
-        + bit_at(bytes, at + 2, 4)
-        + bit_at(bytes, at + 3, 8);
-    let high = bit_at(bytes, at + 4, 16)
-        + bit_at(bytes, at + 5, 32)
-        + bit_at(bytes, at + 6, 64)
-        + bit_at(bytes, at + 7, 128);
-    low + high
-}
-
-// Puts the plain engine's bytes as the bits of 512 words.
-fn put_bits(out: &mut Buffer, waiting: Waiting, bytes: &[u8]) -> Waiting {
-    let mut waiting = waiting;
-    let mut i: usize = 0;
-    while i < 4096 {
-        waiting = output::put_byte(out, waiting, bits_at(bytes, 8 * i));
-        i = i + 1;
-    }
-    waiting
-}
-
-// Puts the marks of a case's engine.
-fn put_marks(
-    case: &[u8],
-    marks: &[u64],
-    bytes: &[u8],
-    out: &mut Buffer,
-    waiting: Waiting,
-) -> Waiting {
-    if is_plain(case) {
-        return put_bits(out, waiting, bytes);
-    }
-    put_words(out, waiting, marks)
-}
-
-// Whether an answer shows the plain engine's bytes: it does where its call has no other area.
-fn shows_bytes(case: &[u8]) -> bool {
-    if byte_at(case, 1765) < 8 {
-        return is_plain(case);
-    }
-    false
-}
-
-// Puts what an answer shows of an area.
-fn put_area(case: &[u8], bytes: &[u8], area: &[u8], out: &mut Buffer, waiting: Waiting) -> Waiting {
-    if shows_bytes(case) {
-        return put_shown(out, waiting, bytes, short_at(case, 2899) as usize, 4200);
-    }
-    put_shown(out, waiting, area, shown_from(case), 4200)
-}
-
-// Plays a case, and puts its answer. There is room for more marks and more area than a device has.
-fn play(case: &[u8], out: &mut Buffer, waiting: Waiting) -> Waiting {
-    let mut marks = [0u64; 512];
-    let mut bytes = [0u8; 32768];
-    let mut lent = [0u8; 4100];
-    let mut area = [0u8; 32800];
-    let answer = play_in(case, &mut marks, &mut bytes, &mut lent, &mut area);
-    let a = put_answer(out, waiting, answer);
-    let b = put_marks(case, &marks, &bytes, out, a);
-    let c = put_shown(out, b, &lent, 0, 1024);
-    put_area(case, &bytes, &area, out, c)
 }
 
 // ---- input and output
 
-// Puts a byte behind the `at` bytes of a case that are there.
-fn keep_byte(case: &mut [u8], at: usize, b: u8) -> usize {
-    if at < case.len() {
-        case[at] = b;
-        return at + 1;
-    }
-    at
-}
-
-// Takes a byte in, and plays the case that it ends.
-fn take_byte(s: State, case: &mut [u8], out: &mut Buffer, b: u8) -> State {
-    let there = keep_byte(case, s.there, b);
-    let waiting = s.waiting;
-    if there < case.len() {
-        return State { there, waiting };
-    }
-    let waiting = play(case, out, waiting);
-    State { there: 0, waiting }
-}
-
-// Takes some input in.
-fn take_in(s: State, case: &mut [u8], out: &mut Buffer, input: &[u8]) -> State {
-    let mut s = s;
-    let mut i: usize = 0;
-    while i < input.len() {
-        s = take_byte(s, case, out, input[i]);
-        i = i + 1;
-    }
-    s
-}
-
-// Reads once, and answers how many bytes came: 0 at the end of the input, and where reading fails.
-fn read_some<R: Read>(from: &mut R, input: &mut [u8]) -> usize
-    ensures { (result ≤ length input.new) × (result ≡ length (take result input.new)) }
-{
-    match from.read(input) {
-        Ok(n) => n,
-        Err(_) => 0,
-    }
-}
-
-// Plays the cases, to their end or until writing fails; a rest that is no whole case is none. What was answered is written out before more input is waited
-// for. A proved loop has to end, and nothing says that the input does: it counts its turns down, from a number that no run uses up.
-fn run<R: Read>(from: &mut R, case: &mut [u8], out: &mut Buffer, input: &mut [u8]) {
-    let mut s = State {
-        there: 0,
-        waiting: Waiting::Bytes(0),
-    };
-    let mut turns = u64::MAX;
-    while turns > 0 {
-        let n = read_some(from, input);
+// Plays the cases, to their end or until writing fails; a rest that is no whole case is none, and where reading fails the input is over. What was answered is written
+// out before more input is waited for. A proved loop has to end, and nothing says that the input does: so its turns are counted, to a number that no run reaches.
+fn run<R: Read, W: Write>(from: &mut R, out: &mut W) -> io::Result<()> {
+    let mut case = [0; CASE];
+    let mut there = 0;
+    let mut input = [0; 65536];
+    for _ in 0..u64::MAX {
+        let n = from.read(&mut input).unwrap_or(0);
         if n == 0 {
-            return;
+            return Ok(());
         }
-        s = take_in(s, case, out, &input[..n]);
-        let waiting = s.waiting;
-        let waiting = output::flush(out, waiting);
-        if output::failed(waiting) {
-            return;
+        for byte in &input[..n] {
+            case[there] = *byte;
+            there += 1;
+            if there == CASE {
+                Rest { bytes: &case }.case().play_on(out)?;
+                there = 0;
+            }
         }
-        let there = s.there;
-        s = State { there, waiting };
-        turns -= 1;
+        out.flush()?;
     }
+    Ok(())
 }
 
-// A case is 3056 bytes.
+// Where writing fails the program ends, as at the end of its input.
 fn main(rt: HostRuntime) {
-    let mut case = [0u8; 3056];
-    let mut from = rt.stdin();
     let mut out = Buffer::new(rt.stdout());
-    let mut input = [0u8; 65536];
-    run(&mut from, &mut case, &mut out, &mut input);
+    let _ = run(&mut rt.stdin(), &mut out);
 }

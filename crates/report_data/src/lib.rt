@@ -28,11 +28,11 @@ pub fn put_header(
     ensures { buffer.new ≡ put buffer.old 0 (report_header id suspended more count granularity) }
 {
     let attributes = attribute(suspended, 2) + attribute(more, 1);
-    little::put_u8(buffer, 0, 0);
-    little::put_u8(buffer, 1, attributes);
-    little::put_u16(buffer, 2, id);
-    little::put_u32(buffer, 4, count);
-    little::put_u16(buffer, 8, granularity as u16);
+    little::write(buffer, 0, 0u8);
+    little::write(buffer, 1, attributes);
+    little::write(buffer, 2, id);
+    little::write(buffer, 4, count);
+    little::write(buffer, 8, granularity as u16);
     little::put_number(buffer, 10, 6, 0);
 }
 
@@ -42,7 +42,7 @@ pub fn put_descriptor(buffer: &mut [u8], at: usize, address: u64, units: u32)
     requires { at + 16 ≤ length buffer.old }
     ensures { buffer.new ≡ put buffer.old at (descriptor_bytes (record { address = address; length = units })) }
 {
-    little::put_u64(buffer, at, address);
-    little::put_u32(buffer, at + 8, units);
-    little::put_u32(buffer, at + 12, 0);
+    little::write(buffer, at, address);
+    little::write(buffer, at + 8, units);
+    little::write(buffer, at + 12, 0u32);
 }

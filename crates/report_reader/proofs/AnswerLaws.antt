@@ -1,19 +1,18 @@
 -- What the reader answers of a refused and of an accepted report, and which bytes are there in an accepted one. Assumes nothing.
 use mathlib.Core.Path.{◌≡◌, refl, sym, ◌∙◌}
 use mathlib.Core.Logic.{◌≢◌}
-use mathlib.Core.Bool.{true, false, cond, and-false}
+use mathlib.Core.Bool.{true, false, cond}
 use mathlib.Core.List.{List, [], ◌∷◌}
 use Prim.Native.Nat.{ℕ, suc, ◌+◌, ◌*◌, ◌%◌, ◌≤◌, ◌<◌}
 use native.Mathlib.Omega.{arith}
 use native.Mathlib.Decide.{dec_le, dec_lt}
 use lib.Dec.{leb, ltb, eqb}
 use lib.ListN.{length}
-use borrow.Author.Tests.{leb-true, ltb-true, eq-eqb, le-leb, lt-leb, le-ltb, lt-ltb}
-use Rattle.little.specs.Little.{number_at}
+use borrow.Author.Tests.{leb-true, ltb-true, eq-eqb, le-leb, le-ltb, lt-ltb}
 use Rattle.rules.specs.Refusals.{Test, ◌else◌, refusal, or_zero, passes}
 use Rattle.rules.specs.Report.{Descriptor}
-use Rattle.rules.specs.ReportReader.{report_size, count_in, granularity_in, descriptors_in, descriptor_tests, report_tests, index_tests, bit, run_there, report_run_length}
-use Rattle.rules.proofs.ListLaws.{All, All-append, and_right}
+use Rattle.rules.specs.ReportReader.{report_size, count_in, granularity_in, descriptors_in, descriptor_tests, report_tests, index_tests, bit, run_there}
+use Rattle.rules.proofs.ListLaws.{All, All-append}
 use Rattle.rules.proofs.RefusalLaws.{Passed, verdict-passed, verdict-refused, passes-Passed, Passed-left, Passed-right, refusal-none, verdict-first, verdict-rest}
 
 -- ---- every refusal has a number
@@ -100,13 +99,10 @@ module _ (x : List ℕ) (i : ℕ) (e : refusal (index_tests x i) ≡ 0) where
 -- ---- a run by itself
 
 module _ (x : List ℕ) (i : ℕ) where
-  pub run-cut : length x < report_size (suc i) → false ≡ run_there x i
-  run-cut h = rw (lt-leb (report_size (suc i)) (length x) h, and-false)
-
-  pub run-unlisted : count_in x ≤ i → false ≡ run_there x i
+  run-unlisted : count_in x ≤ i → false ≡ run_there x i
   run-unlisted h = rw (le-ltb i (count_in x) h)
 
-  pub run-listed : i < count_in x → (n : ℕ) → n ≡ report_size (suc i) → leb n (length x) ≡ run_there x i
+  run-listed : i < count_in x → (n : ℕ) → n ≡ report_size (suc i) → leb n (length x) ≡ run_there x i
   run-listed h n e = rw (e, lt-ltb i (count_in x) h)
 
   pub run_none : run_there x i ≡ false → (v : ℕ) → 0 ≡ cond (run_there x i) v 0
@@ -114,14 +110,6 @@ module _ (x : List ℕ) (i : ℕ) where
 
   pub run-answer : run_there x i ≡ true → (v : ℕ) → v ≡ cond (run_there x i) v 0
   run-answer e v = rw e
-
-  -- its length stands 8 bytes on
-  pub run_length : run_there x i ≡ true → (at : ℕ) → at ≡ 16 + 16 * i + 8 → number_at x at 4 ≡ report_run_length x i
-  run_length e at p = rw p (run-answer e (number_at x (16 + 16 * i + 8) 4))
-
-  -- its 16 bytes are there
-  pub run-size : run_there x i ≡ true → 16 + 16 * i + 16 ≤ length x
-  run-size e = omega (arith, leb-true (report_size (suc i)) (length x) (and_right (ltb i (count_in x)) (leb (report_size (suc i)) (length x)) e))
 
   -- of an accepted report it is what is answered with a look at all of it
   pub run-accepted : refusal (report_tests x) ≡ 0 → (v : ℕ) → cond (run_there x i) v 0 ≡ or_zero (index_tests x i) v

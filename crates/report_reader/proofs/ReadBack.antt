@@ -1,14 +1,15 @@
 -- The reader accepts each report of good ranges that a buffer has room for, and gives it back. Assumes nothing.
-use mathlib.Core.Path.{◌≡◌, refl, sym, ap, ap₂, ◌∙◌}
+use mathlib.Core.Path.{◌≡◌, refl, sym, ap, ap₂, subst, ◌∙◌}
 use mathlib.Core.Bool.{Bool, true, false, and-false, true≢false}
 use mathlib.Core.List.{List, [], ◌∷◌, ◌++◌, map, append_assoc}
-use mathlib.Core.Option.{some}
+use Rattle.std.specs.declared.option.Option.TheVariants.{Some}
 use Prim.Native.Nat.{ℕ, zero, suc, ◌+◌, ◌-◌, ◌*◌, ◌/◌, ◌%◌, ◌^◌, ◌≤◌, ◌<◌}
 use native.Mathlib.Omega.{arith}
 use lib.Dec.{eqb}
-use lib.ListN.{length, get_or, get_elem?, take, drop, length-map, length-take}
+use lib.ListN.{length, get_or, take, drop, length-map, length-take}
+use Rattle.std.specs.List.{slice_get}
 use lib.Seq.{drop-nil}
-use borrow.Author.Tests.{ne_eqb}
+use borrow.Author.Tests.{ne_eqb, eq-eqb, le-leb}
 use Rattle.rules.specs.Settings.{most_units}
 use Rattle.little.specs.Little.{number_bytes, put, records, records_at}
 use Rattle.little.proofs.Put.{put-drop, put-length}
@@ -18,14 +19,12 @@ use Rattle.rules.specs.Lists.{non_empty}
 use Rattle.rules.specs.Units.{units, pending}
 use Rattle.rules.specs.Ranges.{rows_ok}
 use Rattle.rules.specs.Report.{runs, Descriptor, descriptor, Report, room, report_on, flag, descriptor_bytes, report_bytes}
-use Rattle.rules.specs.ReportReader.{version_in, more_in, suspended_in, identifier_in, count_in, granularity_in, descriptor_at, descriptor_of, descriptors_in, descriptor_tests, more_of_none, bit, report_refusal, report_refusal_at, report_address, report_length}
+use Rattle.rules.specs.ReportReader.{report_size, report_tests, version_in, more_in, suspended_in, identifier_in, count_in, granularity_in, descriptor_at, descriptor_of, descriptors_in, descriptor_tests, more_of_none, bit, report_refusal, report_refusal_at, report_address, report_length}
 use Rattle.rules.specs.Demands.{ReadBack}
 use Rattle.rules.specs.declared.Range.{Range}
-use Rattle.rules.proofs.ListLaws.{All, get_elem?-at}
+use Rattle.rules.proofs.ListLaws.{All, slice_get-at}
 use Rattle.rules.proofs.RefusalLaws.{Passed, verdict-passed}
 use Rattle.report_data.proofs.Blocks.{descriptor_bytes-length, report_bytes-length}
-use Rattle.report_reader.specs.declared.Judged.{Judged}
-use Rattle.report_reader.proofs.JudgeLaws.{judged-good}
 use Rattle.report_reader.proofs.AnswerLaws.{accepted-answer, index-past, index-within, index-answer}
 use Rattle.report_reader.proofs.RunFacts.{Fitting, listed-fit, runs-few}
 
@@ -147,16 +146,30 @@ module _ (id : ℕ) (r : Report) (x : List ℕ) (fits : 16 + 16 * length r.descr
 
     module _ (filled : r.more ≡ true → 0 < length r.descriptors) where
       is-accepted : report_refusal stored ≡ 0
+      unfolding report_tests
       is-accepted =
-          sym (ap (λ (j : Judged). j.number) (judged-good stored (omega (arith, put-length x 0 (report_bytes id r), fits)) version-back (omega (arith, granularity-back, g)) (none_more r.more refl filled)
-          (omega (arith, put-length x 0 (report_bytes id r), fits, count-back)) (count_in stored)
-          (sym (rw (granularity-back, runs-back, count-back) (verdict-passed (descriptor_tests r.granularity 0 r.descriptors) (length r.descriptors) (λ k j. j) (none-bad 0 r.descriptors each)))) (omega arith)))
+          verdict-passed (report_tests stored) 0 (λ k i. k) (
+            le-leb 16 (length stored) (omega (arith, put-length x 0 (report_bytes id r), fits)),
+            (
+              eq-eqb (version_in stored) 0 version-back,
+              (
+                le-leb (granularity_in stored) 20 (omega (arith, granularity-back, g)),
+                (
+                  rw (none_more r.more refl filled),
+                  (
+                    le-leb (report_size (count_in stored)) (length stored) (omega (arith, put-length x 0 (report_bytes id r), fits, count-back)),
+                    subst (λ (g : ℕ). Passed (descriptor_tests g 0 (descriptors_in stored))) (sym granularity-back) (subst (λ (ds : List Descriptor). Passed (descriptor_tests r.granularity 0 ds)) (sym runs-back) (none-bad 0 r.descriptors each)),
+                  ),
+                ),
+              ),
+            ),
+          )
 
       -- a run at its index
-      run-back : (i : ℕ) (d : Descriptor) → get_elem? r.descriptors i ≡ some d
+      run-back : (i : ℕ) (d : Descriptor) → slice_get r.descriptors i ≡ Some d
           → (report_refusal_at stored i ≡ 0) × (report_address stored i ≡ d.address) × (report_length stored i ≡ d.length)
       run-back i d at =
-          let h = get_elem?-at r.descriptors i d none at in
+          let h = slice_get-at r.descriptors i d none at in
           let there : report_refusal_at stored i ≡ 0 = sym (index-within stored is-accepted i (omega (arith, count-back, h.0))) in
           let is : descriptor_of stored i ≡ d = descriptor-back i h.0 ∙ h.1 in (
             there,

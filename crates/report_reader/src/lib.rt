@@ -1,20 +1,39 @@
 // The host's reader of a report (document 02, W1), for C: each function is given the report's bytes, and where it says so an index, and answers one
 // number. Any bytes and any index are met with an answer. A refused report answers 0 to every question but those for its refusal and for a run by itself.
+// The numbers are no Options and Results, as C asks for them.
 #![tactic(auto)]
 
-ghost use Rattle.std.specs.Prelude.{◌≡◌, ◌+◌, ◌≤◌, length};
+ghost use Rattle.std.specs.Prelude.{◌≡◌, ◌+◌, ◌*◌, ◌≤◌, length, IfOk};
+ghost use Rattle.std.specs.declared.option.Option.TheVariants.{None, Some};
 ghost use Rattle.little.specs.Little.{records_at};
-ghost use Rattle.rules.specs.Refusals.{verdict};
+ghost use Rattle.rules.specs.Refusals.{verdict, refused_by};
 ghost use Rattle.rules.specs.Report.{range_of};
 ghost use Rattle.rules.specs.ReportReader.{report_size, count_in, granularity_in, descriptor_at, descriptor_tests, more_of_none, report_refusal, report_bad_index, report_suspended, report_more, report_identifier, report_granularity, report_count, report_refusal_at, report_address, report_length, run_there, report_run_address, report_run_length};
+ghost use Rattle.report_reader.specs.Inner.{number_in, index_in};
 
-use rules::Range;
+use rules::{Range, Refusal};
 
-// A report's refusal, and the index that it is about; zeros where it is accepted.
-#[derive(Clone, Copy)]
-pub struct Judged {
-    pub number: u8,
+// Why a report is refused, and the index of the descriptor that this is about, 0 where it is about none.
+#[derive(Clone, Copy, Debug, PartialEq, Eq)]
+pub struct ReportRefusal {
+    pub refusal: Refusal,
     pub index: usize,
+}
+
+impl From<Refusal> for ReportRefusal {
+    ghost from_gives = { λ r bad. bad ≡ record { refusal = r; index = 0 } };
+
+    fn from(refusal: Refusal) -> ReportRefusal {
+        ReportRefusal { refusal, index: 0 }
+    }
+}
+
+impl From<ReportRefusal> for Refusal {
+    ghost from_gives = { λ bad r. r ≡ bad.refusal };
+
+    fn from(bad: ReportRefusal) -> Refusal {
+        bad.refusal
+    }
 }
 
 // ---- the whole report
@@ -24,7 +43,7 @@ fn granularity_in(report: &[u8]) -> u16
     requires { report_size 0 ≤ length report.now }
     ensures { result ≡ granularity_in report.now }
 {
-    little::read_u16(report, 8)
+    little::read::<u16>(report, 8)
 }
 
 // The number of descriptors.
@@ -32,7 +51,7 @@ fn count_in(report: &[u8]) -> u32
     requires { report_size 0 ≤ length report.now }
     ensures { result ≡ count_in report.now }
 {
-    little::read_u32(report, 4)
+    little::read::<u32>(report, 4)
 }
 
 // The descriptor in the 16 bytes from index `at` on, as a range.
@@ -40,25 +59,23 @@ fn read_range(report: &[u8], at: usize) -> Range
     requires { at + 16 ≤ length report.now }
     ensures { result ≡ range_of (descriptor_at report.now at) }
 {
-    let start = little::read_u64(report, at);
-    let length = little::read_u32(report, at + 8);
+    let start = little::read::<u64>(report, at);
+    let length = little::read::<u32>(report, at + 8);
     Range { start, length }
 }
 
-// The index of the first bad one of n descriptors, n where there is none.
-fn first_bad(report: &[u8], g: u8, n: usize) -> usize
+// The index of the first bad one of n descriptors, if one is.
+fn first_bad(report: &[u8], g: u8, n: usize) -> Option<usize>
     requires { (g ≤ 20) × (report_size n ≤ length report.now) }
-    ensures { result ≡ verdict (descriptor_tests g 0 (records_at descriptor_at 16 report.now 16 n)) n (λ k i. i) }
+    ensures { result ≡ verdict (descriptor_tests g 0 (records_at descriptor_at 16 report.now 16 n)) None (λ k i. Some i) }
 {
-    let mut i: usize = 0;
-    while i < n {
+    for i in 0..n {
         let r = read_range(report, 16 + 16 * i);
         if !ranges::range_ok(g, r) {
-            return i;
+            return Some(i);
         }
-        i = i + 1;
     }
-    i
+    None
 }
 
 // Whether More To Report is set with no descriptors.
@@ -66,56 +83,37 @@ fn more_of_none(report: &[u8]) -> bool
     requires { report_size 0 ≤ length report.now }
     ensures { result ≡ more_of_none report.now }
 {
-    if count_in(report) != 0 {
-        return false;
-    }
-    report[1] % 2 == 1
+    count_in(report) == 0 && report[1] % 2 == 1
 }
 
-// What a report is refused for.
-fn judge(report: &[u8]) -> Judged
-    ensures { result ≡ record { number = report_refusal report.now; index = report_bad_index report.now } }
+// Why a report is refused, if it is. The order of the tests is that of `tmc_report_refusal`.
+#[tactic(auto, unfolding(rules::specs::ReportReader::report_tests))]
+fn judge(report: &[u8]) -> Result<(), ReportRefusal>
+    ensures number { number_in result ≡ report_refusal report.now }
+    ensures index { index_in result ≡ report_bad_index report.now }
 {
     if report.len() < 16 {
-        return Judged {
-            number: 8,
-            index: 0,
-        };
+        return Err(ReportRefusal::from(Refusal::Short));
     }
     if report[0] != 0 {
-        return Judged {
-            number: 6,
-            index: 0,
-        };
+        return Err(ReportRefusal::from(Refusal::Version));
     }
     let g = granularity_in(report);
     if g > 20 {
-        return Judged {
-            number: 7,
-            index: 0,
-        };
+        return Err(ReportRefusal::from(Refusal::Granularity));
+    }
+    if more_of_none(report) {
+        return Err(ReportRefusal::from(Refusal::Empty));
     }
     let n = count_in(report) as usize;
-    if more_of_none(report) {
-        return Judged {
-            number: 9,
-            index: 0,
-        };
-    }
     if report.len() < 16 + 16 * n {
-        return Judged {
-            number: 8,
-            index: 0,
-        };
+        return Err(ReportRefusal::from(Refusal::Short));
     }
-    let index = first_bad(report, g as u8, n);
-    if index < n {
-        return Judged { number: 17, index };
+    if let Some(index) = first_bad(report, g as u8, n) {
+        let refusal = Refusal::Descriptor;
+        return Err(ReportRefusal { refusal, index });
     }
-    Judged {
-        number: 0,
-        index: 0,
-    }
+    Ok(())
 }
 
 // Why a report is refused, 0 where it is accepted: 8 fewer than 16 bytes, 6 another version than 0, 7 a granularity above 20, 9 More To Report set with no
@@ -124,8 +122,10 @@ fn judge(report: &[u8]) -> Judged
 pub extern "C" fn tmc_report_refusal(report: &[u8]) -> u8
     ensures { result ≡ report_refusal report.now }
 {
-    let judged = judge(report);
-    judged.number
+    match judge(report) {
+        Ok(()) => 0,
+        Err(bad) => bad.refusal.number(),
+    }
 }
 
 // The index of the first bad descriptor where a report is refused with 17, else 0.
@@ -133,8 +133,10 @@ pub extern "C" fn tmc_report_refusal(report: &[u8]) -> u8
 pub extern "C" fn tmc_report_bad_index(report: &[u8]) -> u64
     ensures { result ≡ report_bad_index report.now }
 {
-    let judged = judge(report);
-    judged.index as u64
+    match judge(report) {
+        Ok(()) => 0,
+        Err(bad) => bad.index as u64,
+    }
 }
 
 // ---- its header
@@ -170,7 +172,7 @@ pub extern "C" fn tmc_report_identifier(report: &[u8]) -> u16
     if tmc_report_refusal(report) != 0 {
         return 0;
     }
-    little::read_u16(report, 2)
+    little::read::<u16>(report, 2)
 }
 
 // The granularity n: a unit is 2^n times 4 KiB.
@@ -197,20 +199,27 @@ pub extern "C" fn tmc_report_count(report: &[u8]) -> u32
 
 // ---- its descriptors
 
+// The byte at which the descriptor at an index begins. Refused as `tmc_report_refusal_at` is.
+fn descriptor_place(report: &[u8], index: u64) -> Result<usize, Refusal>
+    ensures number { refused_by result ≡ report_refusal_at report.now index }
+    ensures place { IfOk result (λ at. (at ≡ 16 + 16 * index) × (at + 16 ≤ length report.now)) }
+{
+    judge(report)?;
+    if count_in(report) as u64 <= index {
+        return Err(Refusal::Index);
+    }
+    Ok(16 + 16 * (index as usize))
+}
+
 // Why the descriptor at an index is refused, 0 where it is there: what the report is refused for, then 33 past the last descriptor.
 #[unsafe(no_mangle)]
 pub extern "C" fn tmc_report_refusal_at(report: &[u8], index: u64) -> u8
     ensures { result ≡ report_refusal_at report.now index }
 {
-    let number = tmc_report_refusal(report);
-    if number != 0 {
-        return number;
+    match descriptor_place(report, index) {
+        Ok(_) => 0,
+        Err(refusal) => refusal.number(),
     }
-    let count = count_in(report) as u64;
-    if count <= index {
-        return 33;
-    }
-    0
 }
 
 // The first address of the run at an index.
@@ -218,10 +227,10 @@ pub extern "C" fn tmc_report_refusal_at(report: &[u8], index: u64) -> u8
 pub extern "C" fn tmc_report_address(report: &[u8], index: u64) -> u64
     ensures { result ≡ report_address report.now index }
 {
-    if tmc_report_refusal_at(report, index) != 0 {
-        return 0;
+    match descriptor_place(report, index) {
+        Ok(place) => little::read::<u64>(report, place),
+        Err(_) => 0,
     }
-    little::read_u64(report, 16 + 16 * (index as usize))
 }
 
 // The length of the run at an index, in units.
@@ -229,10 +238,10 @@ pub extern "C" fn tmc_report_address(report: &[u8], index: u64) -> u64
 pub extern "C" fn tmc_report_length(report: &[u8], index: u64) -> u32
     ensures { result ≡ report_length report.now index }
 {
-    if tmc_report_refusal_at(report, index) != 0 {
-        return 0;
+    match descriptor_place(report, index) {
+        Ok(place) => little::read::<u32>(report, place + 8),
+        Err(_) => 0,
     }
-    little::read_u32(report, 24 + 16 * (index as usize))
 }
 
 // ---- a run by itself, for a loop over the runs of a report that is not refused: no other descriptor is looked at, and the answers are those above
@@ -242,13 +251,7 @@ fn run_there(report: &[u8], index: u64) -> bool
     ensures { result ≡ run_there report.now index }
 {
     let size = report.len();
-    if size < 16 {
-        return false;
-    }
-    if index >= count_in(report) as u64 {
-        return false;
-    }
-    32 + 16 * (index as usize) <= size
+    16 <= size && index < count_in(report) as u64 && 32 + 16 * (index as usize) <= size
 }
 
 // The first address of the run at an index; 0 where it is not listed or not wholly there.
@@ -260,7 +263,7 @@ pub extern "C" fn tmc_report_run_address(report: &[u8], index: u64) -> u64
         return 0;
     }
     let at = 16 + 16 * (index as usize);
-    little::read_u64(report, at)
+    little::read::<u64>(report, at)
 }
 
 // The length of the run at an index, in units; 0 where it is not listed or not wholly there.
@@ -272,5 +275,5 @@ pub extern "C" fn tmc_report_run_length(report: &[u8], index: u64) -> u32
         return 0;
     }
     let at = 24 + 16 * (index as usize);
-    little::read_u32(report, at)
+    little::read::<u32>(report, at)
 }

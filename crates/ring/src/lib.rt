@@ -32,25 +32,13 @@ pub fn place_after(n: usize, place: usize, by: usize) -> usize
     if by < left { place + by } else { by - left }
 }
 
-// Stores the `count` bytes of `from` that begin at index `start` in `to`, from index `at` on. Every other byte stays as it was.
-fn copy(to: &mut [u8], at: usize, from: &[u8], start: usize, count: usize)
-    requires { (at + count ≤ length to.old) × (start + count ≤ length from.now) }
-    ensures { to.new ≡ put to.old at (part from.now start count) }
-{
-    let mut i = 0;
-    while i < count {
-        to[at + i] = from[start + i];
-        i += 1;
-    }
-}
-
 // Stores an entry of 32 bytes after the `fill` entries that are queued from `place` on. Every byte of the other places stays as it was.
 pub fn put_entry(area: &mut [u8], n: usize, place: usize, fill: usize, entry: &[u8])
     requires { (length area.old ≡ 32 * n) × (place < n) × (fill < n) × (length entry.now ≡ 32) }
     ensures { area.new ≡ put area.old (32 * place_after n place fill) entry.now }
 {
     let free = place_after(n, place, fill);
-    copy(area, 32 * free, entry, 0, 32);
+    area[32 * free..32 * free + 32].copy_from_slice(entry);
 }
 
 // Stores the closing entry after the `fill` entries that are queued from `place` on. Every byte of the other places stays as it was.
@@ -67,10 +55,8 @@ pub fn take_entries(area: &[u8], n: usize, place: usize, m: usize, buffer: &mut 
     requires { (length area.now ≡ 32 * n) × (place < n) × (m ≤ n) × (32 * m ≤ length buffer.old) }
     ensures { buffer.new ≡ put buffer.old 0 (joined (queued area.now n place m)) }
 {
-    let mut i = 0;
-    while i < m {
+    for i in 0..m {
         let oldest = place_after(n, place, i);
-        copy(buffer, 32 * i, area, 32 * oldest, 32);
-        i += 1;
+        buffer[32 * i..32 * i + 32].copy_from_slice(&area[32 * oldest..32 * oldest + 32]);
     }
 }

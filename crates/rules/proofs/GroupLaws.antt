@@ -3,10 +3,11 @@ use mathlib.Core.Path.{◌≡◌, refl, sym, ap, ◌∙◌}
 use mathlib.Core.Logic.{◌↔◌}
 use mathlib.Core.Bool.{Bool, true, false, cond, true≢false}
 use mathlib.Core.List.{List, [], ◌∷◌, ◌++◌}
-use mathlib.Core.Option.{none, some}
+use Rattle.std.specs.declared.option.Option.TheVariants.{None, Some}
 use Prim.Native.Nat.{ℕ, zero, suc, ◌+◌, ◌*◌, ◌/◌, ◌≤◌, ◌<◌}
 use native.Mathlib.Omega.{arith}
-use lib.ListN.{length, take, drop, get_elem?, length-append}
+use lib.ListN.{length, take, drop, length-append}
+use Rattle.std.specs.List.{slice_get}
 use lib.Seq.{take_all, drop_at}
 use Rattle.rules.specs.Lists.{join, non_empty}
 use Rattle.rules.specs.Units.{Unit, pending}
@@ -17,10 +18,10 @@ use Rattle.rules.proofs.ScanLaws.{pending-split}
 use Rattle.rules.proofs.RunLaws.{Full, runs-full, runs-join}
 
 -- no unit is set in none, nor is a clear one
-none-set : (n : ℕ) → get_elem? {A = Bool} [] n ≡ some true → ⊥
+none-set : (n : ℕ) → slice_get {X = Bool} [] n ≡ Some true → ⊥
 none-set n z = let y : ◌≡◌ {A = ℕ} 0 1 = cc in absurd (omega arith)
 
-clear-set : some false ≡ some true → ⊥
+clear-set : Some false ≡ Some true → ⊥
 clear-set z = true≢false (sym (some_inj z))
 
 none_first : {A : Type 0} {x : A} {xs : List A} → [] ≡ x ∷ xs → ⊥
@@ -28,13 +29,13 @@ none_first e = let z : ◌≡◌ {A = ℕ} 0 1 = cc in absurd (omega arith)
 
 -- ---- the run with a number
 
-pub run-there : {A : Type 0} (k : ℕ) (rs : List A) (r : A) → get_elem? rs k ≡ some r → drop k rs ≡ r ∷ drop (suc k) rs
+pub run-there : {A : Type 0} (k : ℕ) (rs : List A) (r : A) → slice_get rs k ≡ Some r → drop k rs ≡ r ∷ drop (suc k) rs
 run-there k [] r e = let z : ◌≡◌ {A = ℕ} 0 1 = cc in absurd (omega arith)
 run-there zero (x ∷ rs) r e = ap (λ (y : _). y ∷ rs) (some_inj e)
 run-there (suc k) (x ∷ rs) r e = run-there k rs r e
 
 -- there is none exactly if nothing is left from there on
-pub run_none : {A : Type 0} (k : ℕ) (rs : List A) → (non_empty (drop k rs) ≡ false) ↔ (get_elem? rs k ≡ none)
+pub run_none : {A : Type 0} (k : ℕ) (rs : List A) → (non_empty (drop k rs) ≡ false) ↔ (slice_get rs k ≡ None)
 run_none zero [] = ((λ e. refl), (λ e. refl))
 run_none (suc k) [] = ((λ e. refl), (λ e. refl))
 run_none zero (x ∷ rs) = ((λ e. absurd (true≢false e)), (λ e. absurd (let z : ◌≡◌ {A = ℕ} 0 1 = cc in omega arith)))
@@ -43,7 +44,7 @@ run_none (suc k) (x ∷ rs) = run_none k rs
 -- ---- the unit with a number of pending ones before it
 
 -- the pending unit before which m are pending
-pub pending_at-is : (us : List Unit) (p : List Bool) (m n : ℕ) → length p ≡ length us → get_elem? p n ≡ some true → length (pending (take n us) (take n p)) ≡ m → pending_at m p ≡ n
+pub pending_at-is : (us : List Unit) (p : List Bool) (m n : ℕ) → length p ≡ length us → slice_get p n ≡ Some true → length (pending (take n us) (take n p)) ≡ m → pending_at m p ≡ n
 pending_at-is [] [] m n l e c = absurd (none-set n e)
 pending_at-is [] (b ∷ p) m n l e c = absurd (omega arith)
 pending_at-is (u ∷ us) [] m n l e c = absurd (omega arith)
@@ -55,12 +56,12 @@ pending_at-is (u ∷ us) (true ∷ p) (suc m) (suc n) l e c = ap suc (pending_at
 pending_at-is (u ∷ us) (false ∷ p) m (suc n) l e c = ap suc (pending_at-is us p m n (omega arith) e c)
 
 -- which unit it is
-pub pending_at-unit : (us : List Unit) (p : List Bool) (m : ℕ) (u : Unit) (vs : List Unit) → drop m (pending us p) ≡ u ∷ vs → get_elem? us (pending_at m p) ≡ some u
+pub pending_at-unit : (us : List Unit) (p : List Bool) (m : ℕ) (u : Unit) (vs : List Unit) → drop m (pending us p) ≡ u ∷ vs → slice_get us (pending_at m p) ≡ Some u
 pending_at-unit [] p zero u vs e = absurd (none_first e)
 pending_at-unit [] p (suc m) u vs e = absurd (none_first e)
 pending_at-unit (w ∷ us) [] zero u vs e = absurd (none_first e)
 pending_at-unit (w ∷ us) [] (suc m) u vs e = absurd (none_first e)
-pending_at-unit (w ∷ us) (true ∷ p) zero u vs e = ap some (let q : w ≡ u = cc in q)
+pending_at-unit (w ∷ us) (true ∷ p) zero u vs e = ap Some (let q : w ≡ u = cc in q)
 pending_at-unit (w ∷ us) (true ∷ p) (suc m) u vs e = pending_at-unit us p m u vs e
 pending_at-unit (w ∷ us) (false ∷ p) m u vs e = pending_at-unit us p m u vs e
 
@@ -83,8 +84,8 @@ pending_at-below (u ∷ us) (true ∷ p) (suc m) l h = let i = pending_at-below 
 later_more : (k : ℕ) (us : List Unit) (p : List Bool) → non_empty (later_runs k us p) ≡ true → length (join (reported_runs k us p)) < length (pending us p)
 later_more k us p more =
     let rs = runs (pending us p) in
-    let some = join-some (later_runs k us p) (All-drop Full k rs (runs-full (pending us p))) more in
-    omega (arith, some, length-append (join (take k rs)) (join (drop k rs)), ap length (join-take-drop k rs), ap length (runs-join (pending us p)))
+    let Some = join-some (later_runs k us p) (All-drop Full k rs (runs-full (pending us p))) more in
+    omega (arith, Some, length-append (join (take k rs)) (join (drop k rs)), ap length (join-take-drop k rs), ap length (runs-join (pending us p)))
   where
     join-some : (rs : List (List Unit)) → All Full rs → non_empty rs ≡ true → 1 ≤ length (join rs)
     join-some [] f e = absurd (true≢false (sym e))
@@ -93,19 +94,19 @@ later_more k us p more =
 
 module _ (k : ℕ) (us : List Unit) (p : List Bool) where
   -- a run stays: the group of its first unit, n
-  pub groups-to : (n : ℕ) → length p ≡ length us → non_empty (later_runs k us p) ≡ true → get_elem? p n ≡ some true
+  pub groups-to : (n : ℕ) → length p ≡ length us → non_empty (later_runs k us p) ≡ true → slice_get p n ≡ Some true
       → length (pending (take n us) (take n p)) ≡ length (join (reported_runs k us p)) → groups_on k us p ≡ n / 64 + 1
   groups-to n l more e c = rw (more, pending_at-is us p (length (join (reported_runs k us p))) n l e c)
 
   -- which is that run's first
-  pub groups-run : Apart us → All (λ (u : Unit). 0 < u.size) us → (n : ℕ) (u : Unit) (vs : List Unit) → get_elem? (runs (pending us p)) k ≡ some (u ∷ vs) → get_elem? us n ≡ some u
+  pub groups-run : Apart us → All (λ (u : Unit). 0 < u.size) us → (n : ℕ) (u : Unit) (vs : List Unit) → slice_get (runs (pending us p)) k ≡ Some (u ∷ vs) → slice_get us n ≡ Some u
       → groups_on k us p ≡ n / 64 + 1
   groups-run apart sized n u vs e f =
       let rs = runs (pending us p) in
       let d : drop k rs ≡ (u ∷ vs) ∷ drop (suc k) rs = run-there k rs (u ∷ vs) e in
       let m = length (join (take k rs)) in
       let behind : drop m (pending us p) ≡ u ∷ (vs ++ join (drop (suc k) rs)) = ap (drop m) (sym (runs-join (pending us p)) ∙ sym (join-take-drop k rs)) ∙ drop_at (join (take k rs)) (join (drop k rs)) m refl ∙ ap join d in
-      let at : get_elem? us (pending_at m p) ≡ some u = pending_at-unit us p m u (vs ++ join (drop (suc k) rs)) behind in
+      let at : slice_get us (pending_at m p) ≡ Some u = pending_at-unit us p m u (vs ++ join (drop (suc k) rs)) behind in
       let same : pending_at m p ≡ n = Apart-at us apart (pending_at m p) n u u at f u.address (omega arith, omega (arith, All-at (λ (v : Unit). 0 < v.size) us n u sized f)) (omega arith, omega (arith, All-at (λ (v : Unit). 0 < v.size) us n u sized f)) in
       rw (ap non_empty d, same)
 

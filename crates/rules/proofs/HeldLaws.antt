@@ -3,7 +3,7 @@ use mathlib.Core.Path.{◌≡◌, refl, sym, ap, ◌∙◌}
 use mathlib.Core.Logic.{◌≢◌, ◌↔◌, ◌⊎◌, inl, inr}
 use mathlib.Core.Bool.{Bool, true, false, ◌||◌}
 use mathlib.Core.List.{List, [], ◌∷◌}
-use mathlib.Core.Option.{some}
+use Rattle.std.specs.declared.option.Option.TheVariants.{Some}
 use Prim.Native.Nat.{ℕ, zero, suc, ◌+◌, ◌<◌, ◌≤◌}
 use native.Mathlib.Omega.{arith}
 use lib.Dec.{leb, eqb}
@@ -33,7 +33,7 @@ held s m g n rs = (forward, back)
     others : List Test
     others = (powers_ok s rs else 10) ∷ []
 
-    forward : held_ok s (some (record { manager = m; granularity = g; count = n; ranges = rs })) ≡ true → (is_manager s m ≡ true) × Lawful s g n rs
+    forward : held_ok s (Some (record { manager = m; granularity = g; count = n; ranges = rs })) ≡ true → (is_manager s m ≡ true) × Lawful s g n rs
     forward e =
         let tests = (granularity_ok s g else 7) ∷ list_tests s g n rs in
         let p = passes-Passed tests (and_right (is_manager s m) (passes tests) e) in
@@ -48,7 +48,7 @@ held s m g n rs = (forward, back)
           },
         )
 
-    back : (is_manager s m ≡ true) × Lawful s g n rs → held_ok s (some (record { manager = m; granularity = g; count = n; ranges = rs })) ≡ true
+    back : (is_manager s m ≡ true) × Lawful s g n rs → held_ok s (Some (record { manager = m; granularity = g; count = n; ranges = rs })) ≡ true
     back q =
         let l = q.1 in
         rw (q.0, le-leb s.least g l.granularity.0, le-leb g s.greatest l.granularity.1, passes_append (range_tests g n rs) others, le-leb 1 n l.count.0, le-leb n 16 l.count.1, rows_tests-passes g 0 rs, rows_all g rs l.rows, l.powers)

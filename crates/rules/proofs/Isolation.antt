@@ -2,7 +2,8 @@
 use mathlib.Core.Path.{◌≡◌, refl, sym, ap, ap₂, subst, ◌∙◌}
 use mathlib.Core.Bool.{Bool, true, false, ◌&&◌, not, cond, true≢false}
 use mathlib.Core.List.{List, [], ◌∷◌, ◌++◌, map}
-use mathlib.Core.Option.{Option, none, some}
+use Rattle.std.specs.declared.option.Option.{Option}
+use Rattle.std.specs.declared.option.Option.TheVariants.{None, Some}
 use Prim.Native.Nat.{ℕ, zero, suc, ◌+◌, ◌<◌}
 use native.Mathlib.Omega.{arith}
 use lib.Dec.{leb, eqb}
@@ -168,8 +169,8 @@ slot_step-unsound s v a c (part m x) e = rw e
 slot_step-unsound s v a c (queue bytes k) e = rw e
 
 pub with_slot-slot_at : (st : State) (p : Option ℕ) → with_slot st p (slot_at st p) ≡ st
-with_slot-slot_at st none = refl
-with_slot-slot_at st (some i) = ap (λ l. record { settings = st.settings; slots = l; amiss = st.amiss }) (set-get_or st.slots i fresh_slot)
+with_slot-slot_at st None = refl
+with_slot-slot_at st (Some i) = ap (λ l. record { settings = st.settings; slots = l; amiss = st.amiss }) (set-get_or st.slots i fresh_slot)
 
 pub step-unsound : (st : State) (k : Call) → sound_state st ≡ false → step st k ≡ (refused 1 0, st)
 unfolding step
@@ -296,7 +297,7 @@ pub record Lonely (a : ℕ) (st : State) : Type 0 where
   pub shut : others_open st (place_of st.settings a) ≡ false
 
 -- what its slot holds, by any measure, is all that is held
-module _ (f : Option Held → ℕ) (zero-none : f none ≡ 0) where
+module _ (f : Option Held → ℕ) (zero-none : f None ≡ 0) where
   sum-set : (cs : List Slot) (i : ℕ) (c : Slot) → i < length cs
       → sum (map f (map held_by (set cs i c))) + f (held_by (get_or cs i fresh_slot)) ≡ sum (map f (map held_by cs)) + f (held_by c)
   sum-set [] i c h = absurd (omega arith)
@@ -312,14 +313,14 @@ module _ (f : Option Held → ℕ) (zero-none : f none ≡ 0) where
       rw (step-own st k a z own) (rw own (go (place_of st.settings a) refl (place_of-fits st z a)))
     where
       go : (p : Option ℕ) → place_of st.settings a ≡ p → Fits p st.slots → held_in (step_at st p k.op).1 ≡ f (held_by (own_step st a k.op).1)
-      go none e h =
+      go None e h =
           let r : slot_of (step st k).1 a ≡ fresh_slot = ap (λ (s : Settings). slot_at (step st k).1 (place_of s a)) (step-settings st k) ∙ rw e in
           let q : (own_step st a k.op).1 ≡ fresh_slot = sym (step-own st k a z own) ∙ r in
           let was : slot_of st a ≡ fresh_slot = rw e in
           l ∙ ap (λ (c : Slot). f (held_by c)) (was ∙ sym q)
-      go (some i) e h =
+      go (Some i) e h =
           let was : held_in st ≡ f (held_by (get_or st.slots i fresh_slot)) = rw e at l in
-          rw e (omega (arith, sum-set st.slots i (slot_step st.settings (seen_at st (some i)) (arriving_at st (some i)) (get_or st.slots i fresh_slot) k.op).1 h, was))
+          rw e (omega (arith, sum-set st.slots i (slot_step st.settings (seen_at st (Some i)) (arriving_at st (Some i)) (get_or st.slots i fresh_slot) k.op).1 h, was))
 
 set_twice : (cs : List Slot) (i : ℕ) (x y : Slot) → set (set cs i x) i y ≡ set cs i y
 set_twice [] i x y = refl
@@ -331,8 +332,8 @@ unfolding step
 shut-step a st k own = rw own (go (place_of st.settings a))
   where
     go : (p : Option ℕ) → others_open (step_at st p k.op).1 p ≡ others_open st p
-    go none = refl
-    go (some i) = ap (any is_open) (set_twice st.slots i _ fresh_slot)
+    go None = refl
+    go (Some i) = ap (any is_open) (set_twice st.slots i _ fresh_slot)
 
 lonely-step : (a : ℕ) (st : State) (k : Call) → Sized st → k.id ≡ a → Lonely a st → Lonely a (step st k).1
 lonely-step a st k z own l =
@@ -350,13 +351,13 @@ lonely-off a st l e o = go (slot_of st a).marks refl
     go : (t : Marks) → (slot_of st a).marks ≡ t → (managed_for st o ≡ 0) × (counts_in st ≡ 0) × (units_in st ≡ 0)
     go (on g rs p) q = absurd (true≢false (sym (ap (λ t. is_some (tracker_on (slot_of st a).manager t)) q) ∙ e))
     go off q =
-        let holds : held_by (slot_of st a) ≡ none = ap (held_on (slot_of st a).manager) q in (
+        let holds : held_by (slot_of st a) ≡ None = ap (held_on (slot_of st a).manager) q in (
           none-managed o holds,
           l.counts ∙ ap held_count holds,
           l.units ∙ ap held_units holds,
         )
       where
-        none-managed : (o : Op) → held_by (slot_of st a) ≡ none → managed_for st o ≡ 0
+        none-managed : (o : Op) → held_by (slot_of st a) ≡ None → managed_for st o ≡ 0
         none-managed (start m x) holds = l.managed m ∙ ap (held_count_by m) holds
         none-managed (stop m) holds = refl
         none-managed (write w) holds = refl
@@ -389,8 +390,8 @@ fresh-all-shut [] = refl
 fresh-all-shut (x ∷ xs) = fresh-all-shut xs
 
 fresh-shut : (s : Settings) (xs : List ℕ) (p : Option ℕ) → others_open (record { settings = s; slots = map (λ (i : ℕ). fresh_slot) xs; amiss = false }) p ≡ false
-fresh-shut s xs none = fresh-all-shut xs
-fresh-shut s xs (some i) = go xs i
+fresh-shut s xs None = fresh-all-shut xs
+fresh-shut s xs (Some i) = go xs i
   where
     go : (xs : List ℕ) (i : ℕ) → any is_open (set (map (λ (i : ℕ). fresh_slot) xs) i fresh_slot) ≡ false
     go [] i = refl

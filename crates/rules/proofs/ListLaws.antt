@@ -2,12 +2,13 @@
 use mathlib.Core.Path.{◌≡◌, refl, sym, ap, ap₂, subst, ◌∙◌}
 use mathlib.Core.Bool.{Bool, true, false, ◌&&◌, ◌||◌, not, cond, or-false, or_assoc, true≢false}
 use mathlib.Core.List.{List, [], ◌∷◌, ◌++◌, map, append_assoc}
-use mathlib.Core.Option.{some}
+use Rattle.std.specs.declared.option.Option.TheVariants.{Some}
 use Prim.Native.Nat.{ℕ, zero, suc, ◌+◌, ◌≤◌, ◌<◌, min}
 use native.Mathlib.Numerals.{add-one}
 use native.Mathlib.Omega.{arith}
 use lib.Dec.{eqb}
-use lib.ListN.{length, take, drop, get_or, get_elem?, set, length-take, drop_of_length-le}
+use lib.ListN.{length, take, drop, get_or, set, length-take, drop_of_length-le}
+use Rattle.std.specs.List.{slice_get}
 use lib.Seq.{take-append_seam, drop-append_seam, drop-cons, get_or-take}
 use borrow.Author.Tests.{eqb-true, eq-eqb}
 use Rattle.rules.specs.Lists.{all, any, keep, every, member, join, place_from}
@@ -128,7 +129,7 @@ pub All-always : {A : Type 0} {P : A → Type 0} → ((x : A) → P x) → (xs :
 All-always f [] = tt
 All-always f (x ∷ xs) = (f x, All-always f xs)
 
-pub All-at : {A : Type 0} (P : A → Type 0) (xs : List A) (n : ℕ) (x : A) → All P xs → get_elem? xs n ≡ some x → P x
+pub All-at : {A : Type 0} (P : A → Type 0) (xs : List A) (n : ℕ) (x : A) → All P xs → slice_get xs n ≡ Some x → P x
 All-at P [] n x h e = let z : ◌≡◌ {A = ℕ} 0 1 = cc in absurd (omega arith)
 All-at P (y ∷ xs) zero x h e = let q : y ≡ x = cc in subst P q h.0
 All-at P (y ∷ xs) (suc n) x h e = All-at P xs n x h.1 e
@@ -142,9 +143,9 @@ map-cong f g (x ∷ xs) h = ap₂ (λ a b. a ∷ b) h.0 (map-cong f g xs h.1)
 pub map_same : {A B : Type 0} {f g : A → B} → ((x : A) → f x ≡ g x) → (xs : List A) → map f xs ≡ map g xs
 map_same {f} {g} e xs = map-cong f g xs (All-always e xs)
 
-pub map_at : {A B : Type 0} (f : A → B) (xs : List A) (n : ℕ) (x : A) → get_elem? xs n ≡ some x → get_elem? (map f xs) n ≡ some (f x)
+pub map_at : {A B : Type 0} (f : A → B) (xs : List A) (n : ℕ) (x : A) → slice_get xs n ≡ Some x → slice_get (map f xs) n ≡ Some (f x)
 map_at f [] n x e = let z : ◌≡◌ {A = ℕ} 0 1 = cc in absurd (omega arith)
-map_at f (y ∷ xs) zero x e = let q : y ≡ x = cc in ap (λ v. some (f v)) q
+map_at f (y ∷ xs) zero x e = let q : y ≡ x = cc in ap (λ v. Some (f v)) q
 map_at f (y ∷ xs) (suc n) x e = map_at f xs n x e
 
 pub map-set : {A B : Type 0} (f : A → B) (xs : List A) (i : ℕ) (x : A) → map f (set xs i x) ≡ set (map f xs) i (f x)
@@ -152,16 +153,16 @@ map-set f [] i x = refl
 map-set f (y ∷ xs) zero x = refl
 map-set f (y ∷ xs) (suc i) x = ap (λ l. f y ∷ l) (map-set f xs i x)
 
-pub some_inj : {A : Type 0} {x y : A} → some x ≡ some y → x ≡ y
+pub some_inj : {A : Type 0} {x y : A} → Some x ≡ Some y → x ≡ y
 some_inj e = cc
 
 -- what stands at an index, and that the index is one
-pub get_elem?-at : {A : Type 0} (xs : List A) (m : ℕ) (x d : A) → get_elem? xs m ≡ some x → (m < length xs) × (get_or xs m d ≡ x)
-get_elem?-at [] m x d e = let z : ◌≡◌ {A = ℕ} 0 1 = cc in absurd (omega arith)
-get_elem?-at (y ∷ xs) zero x d e = (omega arith, some_inj e)
-get_elem?-at (y ∷ xs) (suc m) x d e = let r = get_elem?-at xs m x d e in (omega (arith, r.0), r.1)
+pub slice_get-at : {A : Type 0} (xs : List A) (m : ℕ) (x d : A) → slice_get xs m ≡ Some x → (m < length xs) × (get_or xs m d ≡ x)
+slice_get-at [] m x d e = let z : ◌≡◌ {A = ℕ} 0 1 = cc in absurd (omega arith)
+slice_get-at (y ∷ xs) zero x d e = (omega arith, some_inj e)
+slice_get-at (y ∷ xs) (suc m) x d e = let r = slice_get-at xs m x d e in (omega (arith, r.0), r.1)
 
-pub Pairwise-at : {A : Type 0} (R : A → A → Type 0) (xs : List A) → Pairwise R xs → (m n : ℕ) (x y : A) → m < n → get_elem? xs m ≡ some x → get_elem? xs n ≡ some y → R x y
+pub Pairwise-at : {A : Type 0} (R : A → A → Type 0) (xs : List A) → Pairwise R xs → (m n : ℕ) (x y : A) → m < n → slice_get xs m ≡ Some x → slice_get xs n ≡ Some y → R x y
 Pairwise-at R [] h m n x y l e f = absurd (let z : ◌≡◌ {A = ℕ} 0 1 = cc in omega arith)
 Pairwise-at R (z ∷ xs) h zero zero x y l e f = absurd (omega arith)
 Pairwise-at R (z ∷ xs) h zero (suc n) x y l e f = subst (λ w. R w y) (some_inj e) (All-at (R z) xs n y h.0 f)
@@ -170,7 +171,7 @@ Pairwise-at R (z ∷ xs) h (suc m) (suc n) x y l e f = Pairwise-at R xs h.1 m n 
 
 -- ---- all, every, member
 
-eqb_comm : (x y : ℕ) → eqb x y ≡ eqb y x
+pub eqb_comm : (x y : ℕ) → eqb x y ≡ eqb y x
 eqb_comm x y = bool-ext (eqb x y) (eqb y x) (λ e. eq-eqb y x (sym (eqb-true x y e))) (λ e. eq-eqb x y (sym (eqb-true y x e)))
 
 -- what stands past the end makes no difference to what is there
@@ -262,12 +263,12 @@ drop-join k xs =
 
 -- ---- where a number stands
 
-pub place_from-is : (xs : List ℕ) (j a i : ℕ) → place_from j xs a ≡ some i → (m : ℕ) × (i ≡ j + m) × (m < length xs) × (get_or xs m 0 ≡ a)
+pub place_from-is : (xs : List ℕ) (j a i : ℕ) → place_from j xs a ≡ Some i → (m : ℕ) × (i ≡ j + m) × (m < length xs) × (get_or xs m 0 ≡ a)
 place_from-is [] j a i e = let z : ◌≡◌ {A = ℕ} 0 1 = cc in absurd (omega arith)
 place_from-is (x ∷ xs) j a i e = go (eqb x a) refl (place_from-is xs (suc j) a i) e
   where
-    go : (b : Bool) → eqb x a ≡ b → (place_from (suc j) xs a ≡ some i → (m : ℕ) × (i ≡ suc j + m) × (m < length xs) × (get_or xs m 0 ≡ a))
-        → cond b (some j) (place_from (suc j) xs a) ≡ some i → (m : ℕ) × (i ≡ j + m) × (m < suc (length xs)) × (get_or (x ∷ xs) m 0 ≡ a)
+    go : (b : Bool) → eqb x a ≡ b → (place_from (suc j) xs a ≡ Some i → (m : ℕ) × (i ≡ suc j + m) × (m < length xs) × (get_or xs m 0 ≡ a))
+        → cond b (Some j) (place_from (suc j) xs a) ≡ Some i → (m : ℕ) × (i ≡ j + m) × (m < suc (length xs)) × (get_or (x ∷ xs) m 0 ≡ a)
     go true t ih e = let q : j ≡ i = cc in (0, omega arith, omega arith, eqb-true x a t)
     go false t ih e = let r = ih e in (suc r.0, omega (arith, r.1), omega (arith, r.2), r.3)
 
@@ -321,12 +322,12 @@ pub any-nowhere : {A : Type 0} (p : A → Bool) (xs : List A) (d : A) → ((j : 
 any-nowhere p [] d f = refl
 any-nowhere p (x ∷ xs) d f = or-neither (p x) (any p xs) (f 0 (omega arith)) (any-nowhere p xs d (λ j h. f (suc j) (omega arith)))
 
-pub any_where : {A : Type 0} (p : A → Bool) (xs : List A) → any p xs ≡ true → (m : ℕ) × (x : A) × (get_elem? xs m ≡ some x) × (p x ≡ true)
+pub any_where : {A : Type 0} (p : A → Bool) (xs : List A) → any p xs ≡ true → (m : ℕ) × (x : A) × (slice_get xs m ≡ Some x) × (p x ≡ true)
 any_where p [] e = absurd (true≢false (sym e))
 any_where {A} p (x ∷ xs) e = go (any_where p xs) (p x) refl e
   where
-    go : (any p xs ≡ true → (m : ℕ) × (y : A) × (get_elem? xs m ≡ some y) × (p y ≡ true)) → (b : Bool) → p x ≡ b → (b || any p xs) ≡ true
-        → (m : ℕ) × (y : A) × (get_elem? (x ∷ xs) m ≡ some y) × (p y ≡ true)
+    go : (any p xs ≡ true → (m : ℕ) × (y : A) × (slice_get xs m ≡ Some y) × (p y ≡ true)) → (b : Bool) → p x ≡ b → (b || any p xs) ≡ true
+        → (m : ℕ) × (y : A) × (slice_get (x ∷ xs) m ≡ Some y) × (p y ≡ true)
     go later true q h = (0, x, refl, q)
     go later false q h = let r = later h in (suc r.0, r.1, r.2, r.3)
 

@@ -4,7 +4,7 @@ use Prim.Native.Nat.{ℕ, zero, suc, ◌+◌, ◌<◌, ◌≤◌, min}
 use mathlib.Core.Path.{◌≡◌, sym, ◌∙◌}
 use mathlib.Core.Bool.{Bool, true, false, ◌&&◌}
 use mathlib.Core.List.{List, [], ◌∷◌, map}
-use mathlib.Core.Option.{none, some}
+use Rattle.std.specs.declared.option.Option.TheVariants.{None, Some}
 use native.Mathlib.Numerals.{add-one}
 use native.Mathlib.Omega.{arith}
 use borrow.Author.Tests.{eq-eqb, ne_eqb}
@@ -78,13 +78,13 @@ module _ {A : Type 0} (f : A → ℕ) (xs : List A) (n i : ℕ) where
 -- ---- a search
 
 module _ (x : ℕ) (xs : List ℕ) (n i : ℕ) where
-  pub place_from-hit : i < n → i < length xs → get_or xs i 0 ≡ x → place_from i (drop i (take n xs)) x ≡ some i
+  pub place_from-hit : i < n → i < length xs → get_or xs i 0 ≡ x → place_from i (drop i (take n xs)) x ≡ Some i
   place_from-hit h k e = rw (front_at xs n i 0 h k, eq-eqb _ _ e)
 
   pub place_from-next : i < n → i < length xs → (get_or xs i 0 ≡ x → ⊥) → place_from i (drop i (take n xs)) x ≡ place_from (i + 1) (drop (i + 1) (take n xs)) x
   place_from-next h k e = rw (front_at xs n i 0 h k, ne_eqb _ _ e, add-one)
 
-  pub place_from-end : min n (length xs) ≤ i → place_from i (drop i (take n xs)) x ≡ none
+  pub place_from-end : min n (length xs) ≤ i → place_from i (drop i (take n xs)) x ≡ None
   place_from-end h = rw (front-end xs n i h)
 
 -- ---- arrays

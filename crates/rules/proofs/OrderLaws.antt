@@ -2,7 +2,8 @@
 use mathlib.Core.Path.{◌≡◌, refl, sym, ap, ◌∙◌}
 use mathlib.Core.Bool.{Bool, true, false, ◌&&◌, ◌||◌, not, cond, true≢false}
 use mathlib.Core.List.{List, [], ◌∷◌, ◌++◌}
-use mathlib.Core.Option.{Option, none, some}
+use Rattle.std.specs.declared.option.Option.{Option}
+use Rattle.std.specs.declared.option.Option.TheVariants.{None, Some}
 use Prim.Native.Nat.{ℕ, suc, ◌+◌, ◌*◌, ◌%◌, ◌≤◌}
 use native.Mathlib.Omega.{arith}
 use lib.Dec.{leb, ltb, eqb}
@@ -90,9 +91,9 @@ part_order-passed s m v a p h =
 more-dwords : (p : Part) → is_last p ≡ false → data_ok p ≡ true → (length p.bytes ≡ 4 * p.count) × (1 ≤ p.count)
 more-dwords p l d =
     let r = and_right (leb p.indicator 3) _ d in
-    let some = and_left (ltb 0 p.count || eqb p.indicator 2) _ r in (
+    let Some = and_left (ltb 0 p.count || eqb p.indicator 2) _ r in (
       eqb-true (length p.bytes) (4 * p.count) (and_right (ltb 0 p.count || eqb p.indicator 2) _ r),
-      go (ltb 0 p.count) refl (eqb p.indicator 2) (or-false-left (eqb p.indicator 2) (eqb p.indicator 3) l) some,
+      go (ltb 0 p.count) refl (eqb p.indicator 2) (or-false-left (eqb p.indicator 2) (eqb p.indicator 3) l) Some,
     )
   where
     or-false-left : (x y : Bool) → (x || y) ≡ false → x ≡ false
@@ -104,7 +105,7 @@ more-dwords p l d =
     go false e y z o = absurd (true≢false (sym o ∙ z))
 
 -- after one that does not end it, its sequence is as long as one can be
-pub joined-front : (v : Seen) (a : Arriving) (p : Part) → PartPassed v a p → is_last p ≡ false → ((f : List ℕ) → a.front ≡ some f → length f % 4 ≡ 0)
+pub joined-front : (v : Seen) (a : Arriving) (p : Part) → PartPassed v a p → is_last p ≡ false → ((f : List ℕ) → a.front ≡ Some f → length f % 4 ≡ 0)
     → front_ok (length (joined_with a.front p)) ≡ true
 joined-front v a p q l whole = go (is_first p) a.front refl q.follow q.within
   where
@@ -118,7 +119,7 @@ joined-front v a p q l whole = go (is_first p) a.front refl q.follow q.within
         → (leb (length (cond b p.bytes (so_far f ++ p.bytes))) state_most && (not (is_last p) || state_ok (cond b p.bytes (so_far f ++ p.bytes)))) ≡ true
         → front_ok (length (cond b p.bytes (so_far f ++ p.bytes))) ≡ true
     go true f e o w = fits (length p.bytes) (omega (arith, d.0, d.1)) (and_left _ _ w) (omega (arith, d.0))
-    go false none e o w = absurd (true≢false (sym o))
-    go false (some x) e o w =
+    go false None e o w = absurd (true≢false (sym o))
+    go false (Some x) e o w =
         let n : length (x ++ p.bytes) ≡ length x + 4 * p.count = length-append x p.bytes ∙ ap (λ k. length x + k) d.0 in
         fits (length (x ++ p.bytes)) (omega (arith, n, d.1)) (and_left _ _ w) (omega (arith, n, whole x e))

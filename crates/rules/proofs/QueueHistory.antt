@@ -3,7 +3,8 @@
 use mathlib.Core.Path.{◌≡◌, refl, sym, ap, ap₂, ◌∙◌}
 use mathlib.Core.Bool.{Bool, true, false, cond, true≢false}
 use mathlib.Core.List.{List, [], ◌∷◌, ◌++◌, append_assoc}
-use mathlib.Core.Option.{Option, none, some}
+use Rattle.std.specs.declared.option.Option.{Option}
+use Rattle.std.specs.declared.option.Option.TheVariants.{None, Some}
 use Prim.Native.Nat.{ℕ, ◌/◌, ◌%◌, ◌≤◌}
 use native.Mathlib.Omega.{arith}
 use lib.Dec.{leb, eqb}
@@ -30,7 +31,7 @@ logged_by-snoc f (e ∷ h) d x = logged_by-snoc f h d (cond (is_accepted e.answe
 -- the history tells its places, of which there are 2 to 1,024, what was taken and what is queued, together, and whether it has stopped
 pub record Logged (h : List Did) (q : Option Queued) : Type 0 where
   pub size : places_in q ≡ size_by h
-  pub places : (n : ℕ) → places_in q ≡ some n → (2 ≤ n) × (n ≤ 1024)
+  pub places : (n : ℕ) → places_in q ≡ Some n → (2 ≤ n) × (n ≤ 1024)
   pub entries : taken_by h ++ entries_in q ≡ stored_by h
   pub stopped : stopped_in q ≡ stopped_by h
 
@@ -40,12 +41,12 @@ drop-front (x ∷ xs) ys = drop-front xs ys
 
 -- it says what the queue is
 pub logged-is : (h : List Did) (q : Option Queued) → Logged h q → q ≡ queue_by h
-logged-is h none k = ap (queued_by h) k.size
-logged-is h (some q) k =
+logged-is h None k = ap (queued_by h) k.size
+logged-is h (Some q) k =
     let es : q.entries ≡ drop (length (taken_by h)) (stored_by h) = sym (drop-front (taken_by h) q.entries) ∙ ap (drop (length (taken_by h))) k.entries in
-    ap₂ (λ es b. some (record { size = q.size; entries = es; stopped = b })) es k.stopped ∙ ap (queued_by h) k.size
+    ap₂ (λ es b. Some (record { size = q.size; entries = es; stopped = b })) es k.stopped ∙ ap (queued_by h) k.size
 
-pub logged-fresh : Logged [] none
+pub logged-fresh : Logged [] None
 logged-fresh = record { size = refl; places = λ n e. let z : ◌≡◌ {A = ℕ} 0 1 = cc in absurd (omega arith); entries = refl; stopped = refl }
 
 -- ---- one call more
@@ -55,7 +56,7 @@ logged-same : (h : List Did) (d : Did) (q : Option Queued) → ((A : Type 0) (f 
     → Logged h q → Logged (h ++ d ∷ []) q
 logged-same h d q same k =
     record {
-      size = k.size ∙ sym (same _ size_after none);
+      size = k.size ∙ sym (same _ size_after None);
       places = k.places;
       entries = ap (λ l. l ++ entries_in q) (same _ takes_after []) ∙ k.entries ∙ sym (same _ stores_after []);
       stopped = k.stopped ∙ sym (same _ stops_after false);
@@ -83,8 +84,8 @@ Ready bytes (post e) q = is_some q ≡ true
 Ready bytes (order.take asked x) q = is_some q ≡ true
 
 places_in-some : (q : Option Queued) → is_some (places_in q) ≡ true → is_some q ≡ true
-places_in-some none e = e
-places_in-some (some q) e = refl
+places_in-some None e = e
+places_in-some (Some q) e = refl
 
 pub queue-ready : (v : Seen) (bytes : ℕ) (c : QueueCall) (q : Option Queued) → v.places ≡ places_in q → Passed (queue_order v bytes c) → Ready bytes c q
 queue-ready v bytes make q e h = h.1.1.0
@@ -104,17 +105,17 @@ pub logged-queue : (h : List Did) (bytes : ℕ) (c : QueueCall) (q : Option Queu
     → Logged (h ++ record { op = queue bytes c; answer = (queue_in bytes c q).0 } ∷ []) (queue_in bytes c q).1
 logged-queue h bytes make q r k =
     record {
-      size = sym (logged_by-snoc size_after h _ none);
+      size = sym (logged_by-snoc size_after h _ None);
       places = λ n e. let z = some_inj e in let p = places_ok-true bytes r in (omega (arith, z, p.0), omega (arith, z, p.1));
       entries = ap (λ l. l ++ []) (logged_by-snoc takes_after h _ []) ∙ sym (logged_by-snoc stores_after h _ []);
       stopped = sym (logged_by-snoc stops_after h _ false);
     }
-logged-queue h bytes (post e) none r k = absurd (true≢false (sym r))
-logged-queue h bytes (post e) (some q) r k =
+logged-queue h bytes (post e) None r k = absurd (true≢false (sym r))
+logged-queue h bytes (post e) (Some q) r k =
     let last = closes_at q.size (length q.entries) in
     let x : List ℕ = cond last closing_entry e in
     record {
-      size = k.size ∙ sym (logged_by-snoc size_after h _ none);
+      size = k.size ∙ sym (logged_by-snoc size_after h _ None);
       places = k.places;
       entries =
           ap (λ l. l ++ (q.entries ++ x ∷ [])) (logged_by-snoc takes_after h _ []) ∙ sym (append_assoc (taken_by h) q.entries (x ∷ []))
@@ -122,11 +123,11 @@ logged-queue h bytes (post e) (some q) r k =
           ∙ sym (logged_by-snoc stores_after h _ []);
       stopped = sym (logged_by-snoc stops_after h _ false);
     }
-logged-queue h bytes (order.take asked x) none r k = absurd (true≢false (sym r))
-logged-queue h bytes (order.take asked x) (some q) r k =
+logged-queue h bytes (order.take asked x) None r k = absurd (true≢false (sym r))
+logged-queue h bytes (order.take asked x) (Some q) r k =
     let es : List (List ℕ) = taken_of asked (length x) q.entries in
     record {
-      size = k.size ∙ sym (logged_by-snoc size_after h _ none);
+      size = k.size ∙ sym (logged_by-snoc size_after h _ None);
       places = k.places;
       entries =
           ap (λ l. l ++ drop (length es) q.entries) (logged_by-snoc takes_after h _ []) ∙ append_assoc (taken_by h) es (drop (length es) q.entries)

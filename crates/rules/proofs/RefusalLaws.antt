@@ -7,7 +7,12 @@ use Prim.Native.Nat.{ℕ, ◌≤◌}
 use native.Mathlib.Omega.{arith}
 use lib.Dec.{eqb}
 use borrow.Author.Tests.{ne_eqb}
-use Rattle.rules.specs.Refusals.{Test, verdict, refusal, place_in, refusal_at, passes}
+use Rattle.rules.specs.Refusals.{Test, verdict, refusal, place_in, refusal_at, passes, number_of}
+use Rattle.std.specs.declared.result.Result.{Result}
+use Rattle.std.specs.declared.result.Result.TheVariants.{Ok, Err}
+use Rattle.std.specs.Result.{IsErrAnd}
+use Rattle.rules.specs.declared.Refusal.{Refusal}
+use Rattle.rules.specs.declared.Refusal.TheVariants.{Unsound, Unknown, Tracked, Suspended, Untracked, Version, Granularity, Short, Empty, Power, Units, Limit, Running, PastEnd, Kind, Settings, Descriptor, Ranges, NoUnits, Unaligned, RangeEnd, Records, Others, Offset, Data, Order, State, Area, NoQueue, Stopped, Mark, FileVersion, Index, Shelf, FileLength}
 use Rattle.rules.proofs.ListLaws.{All, All-left, All-right, All-all, and_left, and_right}
 
 -- all tests of a table are passed
@@ -153,3 +158,51 @@ verdict-first ts us done end refuse h = verdict-append ts us done refuse ∙ ver
 -- where it is passed, the rest answers
 pub verdict-rest : {A : Type 0} (ts us : List Test) (done : A) (refuse : ℕ → ℕ → A) → passes ts ≡ true → verdict (ts ++ us) done refuse ≡ verdict us done refuse
 verdict-rest ts us done refuse e = verdict-append ts us done refuse ∙ verdict-passed ts (verdict us done refuse) refuse (passes-Passed ts e)
+
+-- ---- the numbers of refusals
+
+-- no refusal has the number of what is done
+pub number_of-pos : (r : Refusal) → number_of r ≢ 0
+number_of-pos r e = let z = go r in omega (arith, z)
+  where
+    go : (r : Refusal) → 1 ≤ number_of r
+    go Unsound = omega arith
+    go Unknown = omega arith
+    go Tracked = omega arith
+    go Suspended = omega arith
+    go Untracked = omega arith
+    go Version = omega arith
+    go Granularity = omega arith
+    go Short = omega arith
+    go Empty = omega arith
+    go Power = omega arith
+    go Units = omega arith
+    go Limit = omega arith
+    go Running = omega arith
+    go PastEnd = omega arith
+    go Kind = omega arith
+    go Settings = omega arith
+    go Descriptor = omega arith
+    go Ranges = omega arith
+    go NoUnits = omega arith
+    go Unaligned = omega arith
+    go RangeEnd = omega arith
+    go Records = omega arith
+    go Others = omega arith
+    go Offset = omega arith
+    go Data = omega arith
+    go Order = omega arith
+    go State = omega arith
+    go Area = omega arith
+    go NoQueue = omega arith
+    go Stopped = omega arith
+    go Mark = omega arith
+    go FileVersion = omega arith
+    go Index = omega arith
+    go Shelf = omega arith
+    go FileLength = omega arith
+
+-- what `?` hands on is the error that it met
+pub handed_on : {A E : Type 0} (r : Result A E) (x : E) → IsErrAnd r (λ e. e ≡ x) → r ≡ Err x
+handed_on (Ok v) x h = absurd h
+handed_on (Err e) x h = ap Err h

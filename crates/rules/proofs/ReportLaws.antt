@@ -3,12 +3,13 @@ use mathlib.Core.Path.{◌≡◌, refl, sym, ap, subst, ◌∙◌}
 use mathlib.Core.Logic.{◌↔◌}
 use mathlib.Core.Bool.{Bool, true, false, ◌&&◌, not, cond, and-true, and-false, true≢false}
 use mathlib.Core.List.{List, [], ◌∷◌, map}
-use mathlib.Core.Option.{some}
+use Rattle.std.specs.declared.option.Option.TheVariants.{Some}
 use Prim.Native.Nat.{ℕ, zero, suc, ◌+◌, ◌≤◌, ◌<◌}
 use native.Mathlib.Omega.{arith}
 use lib.Dec.{eqb}
 use borrow.Author.Tests.{eqb-true, eq-eqb}
-use lib.ListN.{length, take, drop, get_elem?, length-map}
+use lib.ListN.{length, take, drop, length-map}
+use Rattle.std.specs.List.{slice_get}
 use Rattle.rules.specs.Lists.{all, join, non_empty}
 use Rattle.rules.specs.Settings.{unit_size}
 use Rattle.rules.specs.Units.{Unit, Write, touches, mark, newly, pending}
@@ -64,7 +65,7 @@ pending-free f (u ∷ us) h = go (f u) refl (pending-free f us h.1)
     go true e ih = ((λ q. absurd (true≢false (sym e ∙ q))), with-u us h.0 ih)
     go false e ih = ((λ q. beside), ih)
 
-module _ (f : Unit → Bool) (g k : ℕ) (us : List Unit) (sized : Sized (unit_size g) us) (separate : Apart us) (n : ℕ) (u : Unit) (at : get_elem? us n ≡ some u) where
+module _ (f : Unit → Bool) (g k : ℕ) (us : List Unit) (sized : Sized (unit_size g) us) (separate : Apart us) (n : ℕ) (u : Unit) (at : slice_get us n ≡ Some u) where
   unlisted : f u ≡ false → listed g (reported_runs k us (map f us)) u ≡ false
   unlisted e =
       runs-unlisted g (reported_runs k us (map f us)) u
@@ -74,27 +75,27 @@ module _ (f : Unit → Bool) (g k : ℕ) (us : List Unit) (sized : Sized (unit_s
       (subst (All (λ v. Free v u)) (sym (join-take-drop k (runs (pending us (map f us))) ∙ runs-join (pending us (map f us))))
       (All-at (λ v. f v ≡ false → All (λ w. Free w v) (pending us (map f us))) us n u (pending-free f us separate) at e)))
 
-  pub listed-pending : listed g (reported_runs k us (map f us)) u ≡ true → get_elem? (map f us) n ≡ some true
-  listed-pending e = map_at f us n u at ∙ ap some (go (f u) refl)
+  pub listed-pending : listed g (reported_runs k us (map f us)) u ≡ true → slice_get (map f us) n ≡ Some true
+  listed-pending e = map_at f us n u at ∙ ap Some (go (f u) refl)
     where
       go : (b : Bool) → f u ≡ b → b ≡ true
       go true q = refl
       go false q = absurd (true≢false (sym e ∙ unlisted q))
 
-  left_at : get_elem? (marks_left k us (map f us)) n ≡ some (f u && not (listed g (reported_runs k us (map f us)) u))
+  left_at : slice_get (marks_left k us (map f us)) n ≡ Some (f u && not (listed g (reported_runs k us (map f us)) u))
   left_at =
-      ap (λ l. get_elem? l n) (marks_left-map f g k us sized separate)
+      ap (λ l. slice_get l n) (marks_left-map f g k us sized separate)
       ∙ map_at (λ v. f v && not (listed g (reported_runs k us (map f us)) v)) us n u at
 
-  pub listed-clear : listed g (reported_runs k us (map f us)) u ≡ true → get_elem? (marks_left k us (map f us)) n ≡ some false
-  listed-clear e = left_at ∙ rw e (ap some (and-false (f u)))
+  pub listed-clear : listed g (reported_runs k us (map f us)) u ≡ true → slice_get (marks_left k us (map f us)) n ≡ Some false
+  listed-clear e = left_at ∙ rw e (ap Some (and-false (f u)))
 
-  pub unlisted-same : listed g (reported_runs k us (map f us)) u ≡ false → get_elem? (marks_left k us (map f us)) n ≡ get_elem? (map f us) n
-  unlisted-same e = left_at ∙ rw e (ap some (and-true (f u))) ∙ sym (map_at f us n u at)
+  pub unlisted-same : listed g (reported_runs k us (map f us)) u ≡ false → slice_get (marks_left k us (map f us)) n ≡ slice_get (map f us) n
+  unlisted-same e = left_at ∙ rw e (ap Some (and-true (f u))) ∙ sym (map_at f us n u at)
 
 -- ---- pending units, in order
 
-pending-each : (us : List Unit) (p : List Bool) (n : ℕ) (u : Unit) → get_elem? us n ≡ some u → get_elem? p n ≡ some true → get_elem? (pending us p) (set_in (take n p)) ≡ some u
+pending-each : (us : List Unit) (p : List Bool) (n : ℕ) (u : Unit) → slice_get us n ≡ Some u → slice_get p n ≡ Some true → slice_get (pending us p) (set_in (take n p)) ≡ Some u
 pending-each [] p n u e f = let z : ◌≡◌ {A = ℕ} 0 1 = cc in absurd (omega arith)
 pending-each (v ∷ us) [] n u e f = let z : ◌≡◌ {A = ℕ} 0 1 = cc in absurd (omega arith)
 pending-each (v ∷ us) (true ∷ p) zero u e f = e

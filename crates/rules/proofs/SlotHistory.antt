@@ -4,7 +4,8 @@ use mathlib.Core.Path.{◌≡◌, refl, sym, ap, ap₂, subst, ◌∙◌}
 use mathlib.Core.Logic.{◌↔◌}
 use mathlib.Core.Bool.{Bool, true, false, ◌&&◌, ◌||◌, not, cond, or-false, and-true, and-false, or-true, and_assoc, true≢false}
 use mathlib.Core.List.{List, [], ◌∷◌, ◌++◌, map}
-use mathlib.Core.Option.{Option, none, some}
+use Rattle.std.specs.declared.option.Option.{Option}
+use Rattle.std.specs.declared.option.Option.TheVariants.{None, Some}
 use Prim.Native.Nat.{ℕ}
 use lib.Dec.{eqb}
 use lib.ListN.{length}
@@ -84,12 +85,12 @@ Told h (on g rs p) = (p ≡ map (pending_by h) (units g rs)) × Apart (units g r
 
 -- with what it is tracked
 abbrev pub tracking : Marks → Option (ℕ × List Range)
-tracking off = none
-tracking (on g rs p) = some (g, rs)
+tracking off = None
+tracking (on g rs p) = Some (g, rs)
 
 pub record Known (h : List Did) (c : Slot) : Type 0 where
   pub marks : Told h c.marks
-  pub tracked : tracking c.marks ≡ tracks_by none h
+  pub tracked : tracking c.marks ≡ tracks_by None h
   pub manager : c.manager ≡ manager_by h
   pub suspended : c.suspended ≡ suspended_by false h
   pub front : c.front ≡ front_by h
@@ -101,18 +102,18 @@ told_is : (h : List Did) (t : Marks) → Told h t → t ≡ marks_by h (tracking
 told_is h off k = refl
 told_is h (on g rs p) k = ap (on g rs) k.0
 
-marks_are : (h : List Did) (c : Slot) → Known h c → c.marks ≡ marks_by h (tracks_by none h)
+marks_are : (h : List Did) (c : Slot) → Known h c → c.marks ≡ marks_by h (tracks_by None h)
 marks_are h c k = told_is h c.marks k.marks ∙ ap (marks_by h) k.tracked
 
 pub known_is : (h : List Did) (c : Slot) → Known h c → c ≡ slot_by h
 known_is h c k =
     ap₂ (λ b t. record { suspended = b; manager = c.manager; marks = t; front = c.front; queue = c.queue }) k.suspended (marks_are h c k)
-    ∙ ap (λ m. record { suspended = suspended_by false h; manager = m; marks = marks_by h (tracks_by none h); front = c.front; queue = c.queue }) k.manager
-    ∙ ap₂ (λ (f : Option (List ℕ)) (q : Option Queued). record { suspended = suspended_by false h; manager = manager_by h; marks = marks_by h (tracks_by none h); front = f; queue = q }) k.front (logged-is h c.queue k.queue)
+    ∙ ap (λ m. record { suspended = suspended_by false h; manager = m; marks = marks_by h (tracks_by None h); front = c.front; queue = c.queue }) k.manager
+    ∙ ap₂ (λ (f : Option (List ℕ)) (q : Option Queued). record { suspended = suspended_by false h; manager = manager_by h; marks = marks_by h (tracks_by None h); front = f; queue = q }) k.front (logged-is h c.queue k.queue)
 
 -- W13: as many units are pending by the history as in the slot
 pub known-pending : (h : List Did) (c : Slot) → Known h c → units_pending h ≡ length (pending_on c.marks)
-known-pending h c k = sym (ap (λ t. length (pending_on t)) (marks_are h c k) ∙ pending_among-is h (tracks_by none h))
+known-pending h c k = sym (ap (λ t. length (pending_on t)) (marks_are h c k) ∙ pending_among-is h (tracks_by None h))
 
 pub known-fresh : Known [] fresh_slot
 known-fresh = record { marks = tt; tracked = refl; manager = refl; suspended = refl; front = refl; queue = logged-fresh; accounts = refl }
@@ -135,10 +136,10 @@ known-refused : (h : List Did) (o : Op) (n i : ℕ) (c : Slot) → Known h c →
 known-refused h o n i c k =
     record {
       marks = told-idle h d c.marks (λ u. refl) (λ u. refl) k.marks;
-      tracked = k.tracked ∙ sym (told_by-snoc tracks_after h d none);
+      tracked = k.tracked ∙ sym (told_by-snoc tracks_after h d None);
       manager = k.manager ∙ sym (told_by-snoc manages_after h d 0);
       suspended = k.suspended ∙ sym (told_by-snoc suspends_after h d false);
-      front = k.front ∙ ap₂ (λ b x. cond b (some x) none) (sym (told_by-snoc opens_after h d false)) (sym (told_by-snoc joins_after h d []));
+      front = k.front ∙ ap₂ (λ b x. cond b (Some x) None) (sym (told_by-snoc opens_after h d false)) (sym (told_by-snoc joins_after h d []));
       queue = logged-refused h o n i c.queue k.queue;
       accounts = accounts-idle h d c.marks refl refl refl k.accounts;
     }
@@ -230,17 +231,17 @@ accepted-done c (suspend m kind) = refl
 accepted-done c (resume m) = refl
 accepted-done c (part m p) = go (is_last p)
   where
-    go : (b : Bool) → is_accepted (cond {A = Answer × Option (List ℕ)} b (assembled (joined_with c.front p), none) (done, some (joined_with c.front p))).0 ≡ true
+    go : (b : Bool) → is_accepted (cond {A = Answer × Option (List ℕ)} b (assembled (joined_with c.front p), None) (done, Some (joined_with c.front p))).0 ≡ true
     go true = refl
     go false = refl
 accepted-done c (queue bytes k) = go k c.queue
   where
     go : (k : QueueCall) (q : Option Queued) → is_accepted (queue_in bytes k q).0 ≡ true
     go make q = refl
-    go (post e) none = refl
-    go (post e) (some q) = refl
-    go (take asked x) none = refl
-    go (take asked x) (some q) = refl
+    go (post e) None = refl
+    go (post e) (Some q) = refl
+    go (take asked x) None = refl
+    go (take asked x) (Some q) = refl
 
 accepted-tracks : (c : Slot) (o : Op) → tracking (accepted c o).1.marks ≡ tracks_after (tracking c.marks) o
 accepted-tracks c (start m x) = refl
@@ -284,14 +285,14 @@ accepted-suspends c (queue bytes k) = refl
 pub joined_with-told : (h : List Did) (p : Part) (y : Option (List ℕ)) → y ≡ front_by h → follows y p ≡ true → joined_with y p ≡ joins_with (joined_by h) p
 joined_with-told h p y e o = go (is_first p) (open_by h) e o
   where
-    go : (f b : Bool) → y ≡ cond b (some (joined_by h)) none → cond f (eqb (offset_of p) 0) (follows_on y p) ≡ true
+    go : (f b : Bool) → y ≡ cond b (Some (joined_by h)) None → cond f (eqb (offset_of p) 0) (follows_on y p) ≡ true
         → cond f p.bytes (so_far y ++ p.bytes) ≡ cond f p.bytes (joined_by h ++ p.bytes)
     go true b e o = refl
     go false true e o = rw e
     go false false e o = absurd (true≢false (sym o ∙ ap (λ z. follows_on z p) e))
 
 accepted-front : (h : List Did) (c : Slot) (o : Op) → Allowed c o → c.front ≡ front_by h
-    → (accepted c o).1.front ≡ cond (opens_after (open_by h) o) (some (joins_after (joined_by h) o)) none
+    → (accepted c o).1.front ≡ cond (opens_after (open_by h) o) (Some (joins_after (joined_by h) o)) None
 accepted-front h c (start m x) free k = k
 accepted-front h c (stop m) free k = k
 accepted-front h c (write w) free k = k
@@ -302,9 +303,9 @@ accepted-front h c (queue bytes j) free k = k
 accepted-front h c (part m p) free k = go (is_last p) (joined_with-told h p c.front k free)
   where
     go : (l : Bool) {x : List ℕ} → joined_with c.front p ≡ x
-        → (cond {A = Answer × Option (List ℕ)} l (assembled (joined_with c.front p), none) (done, some (joined_with c.front p))).1 ≡ cond (not l) (some x) none
+        → (cond {A = Answer × Option (List ℕ)} l (assembled (joined_with c.front p), None) (done, Some (joined_with c.front p))).1 ≡ cond (not l) (Some x) None
     go true e = refl
-    go false e = ap some e
+    go false e = ap Some e
 
 accepted-told : (h : List Did) (c : Slot) (o : Op) → Allowed c o → Told h c.marks → Told (h ++ did o (accepted c o).0 ∷ []) (accepted c o).1.marks
 accepted-told h c (start m x) free i = told-start h m x free.0
@@ -315,17 +316,17 @@ accepted-told h c (suspend m kind) free i = told-idle h (did (suspend m kind) do
 accepted-told h c (resume m) free i = told-idle h (did (resume m) done) c.marks (λ u. refl) (λ u. refl) i
 accepted-told h c (part m p) free i = go (is_last p)
   where
-    go : (b : Bool) → Told (h ++ did (part m p) (cond {A = Answer × Option (List ℕ)} b (assembled (joined_with c.front p), none) (done, some (joined_with c.front p))).0 ∷ []) c.marks
+    go : (b : Bool) → Told (h ++ did (part m p) (cond {A = Answer × Option (List ℕ)} b (assembled (joined_with c.front p), None) (done, Some (joined_with c.front p))).0 ∷ []) c.marks
     go true = told-idle h (did (part m p) (assembled (joined_with c.front p))) c.marks (λ u. refl) (λ u. refl) i
     go false = told-idle h (did (part m p) done) c.marks (λ u. refl) (λ u. refl) i
 accepted-told h c (queue bytes k) free i = go k c.queue
   where
     go : (k : QueueCall) (q : Option Queued) → Told (h ++ did (queue bytes k) (queue_in bytes k q).0 ∷ []) c.marks
     go make q = told-idle h _ c.marks (λ u. refl) (λ u. refl) i
-    go (post e) none = told-idle h _ c.marks (λ u. refl) (λ u. refl) i
-    go (post e) (some q) = told-idle h _ c.marks (λ u. refl) (λ u. refl) i
-    go (take asked x) none = told-idle h _ c.marks (λ u. refl) (λ u. refl) i
-    go (take asked x) (some q) = told-idle h _ c.marks (λ u. refl) (λ u. refl) i
+    go (post e) None = told-idle h _ c.marks (λ u. refl) (λ u. refl) i
+    go (post e) (Some q) = told-idle h _ c.marks (λ u. refl) (λ u. refl) i
+    go (take asked x) None = told-idle h _ c.marks (λ u. refl) (λ u. refl) i
+    go (take asked x) (Some q) = told-idle h _ c.marks (λ u. refl) (λ u. refl) i
 
 accepted-logged : (h : List Did) (c : Slot) (o : Op) → Allowed c o → Logged h c.queue → Logged (h ++ did o (accepted c o).0 ∷ []) (accepted c o).1.queue
 accepted-logged h c (start m x) free k = logged-idle h _ c.queue (λ A f y. refl) k
@@ -352,10 +353,10 @@ known-accepted : (h : List Did) (c : Slot) (o : Op) → Allowed c o → Known h 
 known-accepted h c o free k =
     record {
       marks = accepted-told h c o free k.marks;
-      tracked = accepted-tracks c o ∙ ap (λ x. tracks_after x o) k.tracked ∙ sym (told tracks_after none);
+      tracked = accepted-tracks c o ∙ ap (λ x. tracks_after x o) k.tracked ∙ sym (told tracks_after None);
       manager = accepted-manages c o ∙ ap (λ x. manages_after x o) k.manager ∙ sym (told manages_after 0);
       suspended = accepted-suspends c o ∙ ap (λ x. suspends_after x o) k.suspended ∙ sym (told suspends_after false);
-      front = accepted-front h c o free k.front ∙ ap₂ (λ b x. cond b (some x) none) (sym (told opens_after false)) (sym (told joins_after []));
+      front = accepted-front h c o free k.front ∙ ap₂ (λ b x. cond b (Some x) None) (sym (told opens_after false)) (sym (told joins_after []));
       queue = accepted-logged h c o free k.queue;
       accounts = accepted-accounts h c o free (known-pending h c k) k.accounts;
     }

@@ -4,7 +4,8 @@ use mathlib.Core.Path.{◌≡◌, refl, sym, ap, subst, ◌∙◌}
 use mathlib.Core.Logic.{◌≢◌}
 use mathlib.Core.Bool.{Bool, true, false, ◌&&◌, ◌||◌, not, cond, true≢false}
 use mathlib.Core.List.{List, [], ◌∷◌, map}
-use mathlib.Core.Option.{Option, none, some}
+use Rattle.std.specs.declared.option.Option.{Option}
+use Rattle.std.specs.declared.option.Option.TheVariants.{None, Some}
 use Prim.Native.Nat.{ℕ, zero, suc, ◌+◌, ◌%◌, ◌≤◌}
 use native.Mathlib.Omega.{arith}
 use lib.Dec.{leb, eqb}
@@ -21,7 +22,6 @@ use Rattle.rules.specs.Order.{Op, start, stop, write, receive, suspend, resume, 
 use Rattle.rules.specs.Device.{Held, held_ok, held_count, held_count_by, counts_by, is_within, held_units, front_ok, sound, sound_rules, cleaned}
 use Rattle.rules.specs.Machine.{Answer, refused, done, assembled, Marks, off, on, Slot, fresh_slot, held_on, held_by, front_kept, open_ok, wrote_in, reported_in, accepted, slot_step, State, closed, opened, fresh, sound_state, seen_at, arriving_at, step_at, Call, step, after}
 use Rattle.rules.specs.declared.Second.{Second}
-use Rattle.rules.specs.declared.Second.TheVariants.{Nothing, Is}
 use Rattle.rules.specs.declared.Settings.{Settings}
 use Rattle.rules.proofs.ListLaws.{all-member, all-members, all_set, all_get_d, every-at, and_left, and_right, and_intro, map-set}
 use Rattle.rules.proofs.RefusalLaws.{Passed, verdict-has, verdict-refused, passes-all}
@@ -78,7 +78,7 @@ record Within (s : Settings) (v : Seen) : Type 0 where
   units : v.units ≤ most_units
 
 started-ok : (s : Settings) (m : ℕ) (v : Seen) (x : List ℕ) → StartPassed s m v x
-    → held_ok s (some (record { manager = m; granularity = granularity_of x; count = length (ranges_of x); ranges = ranges_of x })) ≡ true
+    → held_ok s (Some (record { manager = m; granularity = granularity_of x; count = length (ranges_of x); ranges = ranges_of x })) ≡ true
 unfolding held_ok
 started-ok s m v x p = rw (p.manager, ranges_of-length x, p.granularity) (passes-all (list_tests s (granularity_of x) (count_of x) (ranges_of x)) p.list)
 
@@ -110,7 +110,7 @@ started-managed s m v x q h j k = go (eqb m j) refl
     go true e = subst (λ i. v.managed i + length (ranges_of x) ≤ limit_of s i) (eqb-true m j e) (omega (arith, q.limit, ranges_of-length x))
     go false e = omega (arith, h.managed j k)
 
-held_ok-none : (s : Settings) → held_ok s none ≡ true
+held_ok-none : (s : Settings) → held_ok s None ≡ true
 unfolding held_ok
 held_ok-none s = refl
 
@@ -143,10 +143,10 @@ slot_step-stays s v a c o e h =
 -- W6: a state that is under way stays as it may be
 kept_more : (b k : Bool) (f : Option (List ℕ)) → front_kept b f ≡ true → front_kept (b || k) f ≡ true
 kept_more true k f e = e
-kept_more false k none e = refl
-kept_more false k (some f) e = absurd (true≢false (sym e))
+kept_more false k None e = refl
+kept_more false k (Some f) e = absurd (true≢false (sym e))
 
-kept-dwords : (b : Bool) (g : Option (List ℕ)) → front_kept b g ≡ true → (f : List ℕ) → g ≡ some f → length f % 4 ≡ 0
+kept-dwords : (b : Bool) (g : Option (List ℕ)) → front_kept b g ≡ true → (f : List ℕ) → g ≡ Some f → length f % 4 ≡ 0
 kept-dwords b g e f z =
     let k : (b && front_ok (length f)) ≡ true = sym (ap (front_kept b) z) ∙ e in
     let r = and_right b (front_ok (length f)) k in
@@ -167,7 +167,7 @@ accepted-open s v a c (part m x) p f g e = go (is_last x) refl
     q : PartPassed v a x
     q = part_order-passed s m v a x p
 
-    go : (b : Bool) → is_last x ≡ b → front_kept c.suspended (cond {A = Answer × Option (List ℕ)} b (assembled (joined_with c.front x), none) (done, some (joined_with c.front x))).1 ≡ true
+    go : (b : Bool) → is_last x ≡ b → front_kept c.suspended (cond {A = Answer × Option (List ℕ)} b (assembled (joined_with c.front x), None) (done, Some (joined_with c.front x))).1 ≡ true
     go true l = refl
     go false l =
         and_intro c.suspended _ (sym f ∙ q.suspended)
@@ -179,7 +179,7 @@ slot_step-open s v a c o f g e =
 
 -- ---- the device
 
-sum-set : (f : Option Held → ℕ) → f none ≡ 0 → (cs : List Slot) (i : ℕ) (c : Slot)
+sum-set : (f : Option Held → ℕ) → f None ≡ 0 → (cs : List Slot) (i : ℕ) (c : Slot)
     → sum (map f (map held_by (set cs i c))) + f (held_by (get_or cs i fresh_slot)) ≤ sum (map f (map held_by cs)) + f (held_by c)
 sum-set f z [] i c = omega (arith, z)
 sum-set f z (x ∷ cs) zero c = omega arith
@@ -201,10 +201,10 @@ step-sound st k e = go (place_of s k.id)
     cs = st.slots
 
     go : (p : Option ℕ) → sound_state (step_at st p k.op).1 ≡ true
-    go none = e
-    go (some i) =
-        let v = seen_at st (some i) in
-        let w = arriving_at st (some i) in
+    go None = e
+    go (Some i) =
+        let v = seen_at st (Some i) in
+        let w = arriving_at st (Some i) in
         let x = get_or cs i fresh_slot in
         let c : Slot = (slot_step s v w x k.op).1 in
         let stays = slot_step-stays s v w x k.op (all-held_by s cs i (sound-held s (map held_by cs) _ e)) (record { managed = sound-managed s (map held_by cs) _ e; counts = sound-shelf s (map held_by cs) _ e; units = sound-units s (map held_by cs) _ e }) in
@@ -226,9 +226,9 @@ after-sound (k ∷ ks) st e = after-sound ks (step st k).1 (step-sound st k e)
 
 fresh-held : (s : Settings) (xs : List ℕ) → all (held_ok s) (map held_by (map (λ (i : ℕ). fresh_slot) xs)) ≡ true
 fresh-held s [] = refl
-fresh-held s (x ∷ xs) = and_intro (held_ok s none) _ (held_ok-none s) (fresh-held s xs)
+fresh-held s (x ∷ xs) = and_intro (held_ok s None) _ (held_ok-none s) (fresh-held s xs)
 
-pub fresh-sum : (f : Option Held → ℕ) → f none ≡ 0 → (xs : List ℕ) → sum (map f (map held_by (map (λ (i : ℕ). fresh_slot) xs))) ≡ 0
+pub fresh-sum : (f : Option Held → ℕ) → f None ≡ 0 → (xs : List ℕ) → sum (map f (map held_by (map (λ (i : ℕ). fresh_slot) xs))) ≡ 0
 fresh-sum f z [] = refl
 fresh-sum f z (x ∷ xs) = omega (arith, z, fresh-sum f z xs)
 
@@ -236,9 +236,9 @@ fresh-closed-off : (xs : List ℕ) → all open_ok (map (λ (i : ℕ). fresh_slo
 fresh-closed-off [] = refl
 fresh-closed-off (x ∷ xs) = fresh-closed-off xs
 
-cleaned-second : (s : Settings) (x : Second) → second_rules (cleaned s) x ≡ second_rules s x
-cleaned-second s Nothing = refl
-cleaned-second s (Is id limit) = rw (cleaned-identifiers s)
+cleaned-second : (s : Settings) (x : Option Second) → second_rules (cleaned s) x ≡ second_rules s x
+cleaned-second s None = refl
+cleaned-second s (Some two) = rw (cleaned-identifiers s)
 
 pub cleaned-ok : (s : Settings) → settings_ok (cleaned s) ≡ settings_ok s
 unfolding settings_ok

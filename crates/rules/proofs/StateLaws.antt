@@ -4,7 +4,8 @@ use mathlib.Core.Path.{◌≡◌, refl, sym, ap, ◌∙◌}
 use mathlib.Core.Logic.{◌≢◌}
 use mathlib.Core.Bool.{Bool, true, false, cond}
 use mathlib.Core.List.{List, [], ◌∷◌, ◌++◌, map}
-use mathlib.Core.Option.{Option, none, some}
+use Rattle.std.specs.declared.option.Option.{Option}
+use Rattle.std.specs.declared.option.Option.TheVariants.{None, Some}
 use Prim.Native.Nat.{ℕ, zero, suc, ◌-◌, ◌<◌}
 use native.Mathlib.Omega.{arith}
 use lib.ListN.{length, take, get_or, length-set, length-map, replicate}
@@ -22,14 +23,14 @@ use Rattle.rules.proofs.RefusalLaws.{verdict-has}
 
 -- a place is one of a list's; nowhere is, too
 abbrev pub Fits : {A : Type 0} → Option ℕ → List A → Type 0
-Fits none xs = Prim.Unit {0}
-Fits (some i) xs = i < length xs
+Fits None xs = Prim.Unit {0}
+Fits (Some i) xs = i < length xs
 
 -- there is a slot for each identifier
 abbrev pub Sized : State → Type 0
 Sized st = length st.slots ≡ length (identifiers_of st.settings)
 
-pub place_of-is : (s : Settings) (a i : ℕ) → place_of s a ≡ some i → (i < length (identifiers_of s)) × (get_or (identifiers_of s) i 0 ≡ a)
+pub place_of-is : (s : Settings) (a i : ℕ) → place_of s a ≡ Some i → (i < length (identifiers_of s)) × (get_or (identifiers_of s) i 0 ≡ a)
 unfolding place_of
 place_of-is s a i e =
     let r = place_from-is (identifiers_of s) 0 a i e in
@@ -37,15 +38,15 @@ place_of-is s a i e =
     (omega (arith, r.2), ap (λ m. get_or (identifiers_of s) m 0) q ∙ r.3)
 
 -- two controllers of the settings stand apart
-pub place_of-apart : (s : Settings) (a b i j : ℕ) → place_of s a ≡ some i → place_of s b ≡ some j → (a ≡ b → ⊥) → i ≢ j
+pub place_of-apart : (s : Settings) (a b i j : ℕ) → place_of s a ≡ Some i → place_of s b ≡ Some j → (a ≡ b → ⊥) → i ≢ j
 place_of-apart s a b i j p q f e = f (sym (place_of-is s a i p).1 ∙ ap (λ m. get_or (identifiers_of s) m 0) e ∙ (place_of-is s b j q).1)
 
 pub place_of-fits : (st : State) → Sized st → (a : ℕ) → Fits (place_of st.settings a) st.slots
 place_of-fits st z a = go (place_of st.settings a) refl
   where
     go : (p : Option ℕ) → place_of st.settings a ≡ p → Fits p st.slots
-    go none e = tt
-    go (some i) e = omega (arith, (place_of-is st.settings a i e).0)
+    go None e = tt
+    go (Some i) e = omega (arith, (place_of-is st.settings a i e).0)
 
 -- ---- a call to a controller that the settings lack
 
@@ -87,8 +88,8 @@ unfolding step
 step-settings st k = go (place_of st.settings k.id)
   where
     go : (p : Option ℕ) → (step_at st p k.op).1.settings ≡ st.settings
-    go none = refl
-    go (some i) = refl
+    go None = refl
+    go (Some i) = refl
 
 pub after-settings : (ks : List Call) (st : State) → (after st ks).settings ≡ st.settings
 after-settings [] st = refl
@@ -99,16 +100,16 @@ unfolding step
 step-sized st k z = go (place_of st.settings k.id)
   where
     go : (p : Option ℕ) → Sized (step_at st p k.op).1
-    go none = z
-    go (some i) = length-set st.slots i _ ∙ z
+    go None = z
+    go (Some i) = length-set st.slots i _ ∙ z
 
 pub step-own-answer : (st : State) (k : Call) (a : ℕ) → k.id ≡ a → (step st k).0 ≡ (own_step st a k.op).0
 unfolding step
 step-own-answer st k a e = rw e
 
-with_slot-same : (st : State) (p : Option ℕ) (c : Slot) → Fits p st.slots → (p ≡ none → c ≡ fresh_slot) → slot_at (with_slot st p c) p ≡ c
-with_slot-same st none c h f = sym (f refl)
-with_slot-same st (some i) c h f = get_or-set_same st.slots i c fresh_slot h
+with_slot-same : (st : State) (p : Option ℕ) (c : Slot) → Fits p st.slots → (p ≡ None → c ≡ fresh_slot) → slot_at (with_slot st p c) p ≡ c
+with_slot-same st None c h f = sym (f refl)
+with_slot-same st (Some i) c h f = get_or-set_same st.slots i c fresh_slot h
 
 pub step-own : (st : State) (k : Call) (a : ℕ) → Sized st → k.id ≡ a → slot_of (step st k).1 a ≡ (own_step st a k.op).1
 unfolding step
@@ -116,8 +117,8 @@ step-own st k a z e =
     ap (λ s. slot_at (step st k).1 (place_of s a)) (step-settings st k)
     ∙ rw e (with_slot-same st (place_of st.settings a) (own_step st a k.op).1 (place_of-fits st z a) unknown)
   where
-    unknown : place_of st.settings a ≡ none → (own_step st a k.op).1 ≡ fresh_slot
-    unknown q = rw q (ap (λ (r : Answer × Slot). r.1) (slot_step-unknown st.settings (seen_at st none) (arriving_at st none) fresh_slot k.op refl refl))
+    unknown : place_of st.settings a ≡ None → (own_step st a k.op).1 ≡ fresh_slot
+    unknown q = rw q (ap (λ (r : Answer × Slot). r.1) (slot_step-unknown st.settings (seen_at st None) (arriving_at st None) fresh_slot k.op refl refl))
 
 pub step_other : (st : State) (k : Call) (a : ℕ) → (k.id ≡ a → ⊥) → slot_of (step st k).1 a ≡ slot_of st a
 unfolding step
@@ -127,10 +128,10 @@ step_other st k a f =
   where
     go : (q : Option ℕ) → place_of st.settings k.id ≡ q → (p : Option ℕ) → place_of st.settings a ≡ p
         → slot_at (step_at st q k.op).1 p ≡ slot_at st p
-    go none e none e' = refl
-    go none e (some i) e' = refl
-    go (some j) e none e' = refl
-    go (some j) e (some i) e' =
+    go None e None e' = refl
+    go None e (Some i) e' = refl
+    go (Some j) e None e' = refl
+    go (Some j) e (Some i) e' =
         get_or-set_other st.slots j i _ fresh_slot (place_of-apart st.settings a k.id i j e' e (λ q. f (sym q)))
 
 -- ---- a fresh device
@@ -159,10 +160,10 @@ pub fresh-sized : (s : Settings) (words : ℕ) → Sized (fresh s words)
 fresh-sized s words = fresh-has Sized s words (length-map (identifiers_of s) (λ (i : ℕ). fresh_slot) ∙ ap length (sym (cleaned-identifiers s))) refl
 
 fresh-slots : (xs : List ℕ) (p : Option ℕ) (s : Settings) → slot_at (record { settings = s; slots = map (λ (i : ℕ). fresh_slot) xs; amiss = false }) p ≡ fresh_slot
-fresh-slots xs none s = refl
-fresh-slots [] (some i) s = refl
-fresh-slots (x ∷ xs) (some zero) s = refl
-fresh-slots (x ∷ xs) (some (suc i)) s = fresh-slots xs (some i) s
+fresh-slots xs None s = refl
+fresh-slots [] (Some i) s = refl
+fresh-slots (x ∷ xs) (Some zero) s = refl
+fresh-slots (x ∷ xs) (Some (suc i)) s = fresh-slots xs (Some i) s
 
 pub fresh-slot : (s : Settings) (words a : ℕ) → slot_of (fresh s words) a ≡ fresh_slot
 fresh-slot s words a =

@@ -3,11 +3,13 @@ use mathlib.Core.Path.{◌≡◌, refl, sym, ap, subst, ◌∙◌}
 use mathlib.Core.Logic.{◌↔◌, ◌≢◌}
 use mathlib.Core.Bool.{Bool, true, false, cond, and-false, true≢false}
 use mathlib.Core.List.{List, [], ◌∷◌, ◌++◌}
-use mathlib.Core.Option.{Option, some}
+use Rattle.std.specs.declared.option.Option.{Option}
+use Rattle.std.specs.declared.option.Option.TheVariants.{Some}
 use Prim.Native.Nat.{ℕ, ◌+◌, ◌-◌, ◌%◌, ◌^◌, ◌≤◌, ◌<◌}
 use native.Mathlib.Omega.{arith}
 use native.Mathlib.Nat.{lt_of_lt_of_le, mul-mod_right}
-use lib.ListN.{length, get_elem?}
+use lib.ListN.{length}
+use Rattle.std.specs.List.{slice_get}
 use Rattle.rules.specs.declared.Range.{Range}
 use lib.Pow.{pow-add, pow_mono, shl_lt}
 use Rattle.little.specs.Little.{number_at, number_bytes, records, records_at}
@@ -86,9 +88,9 @@ pending-exactly s words ks a =
       exactly = λ g rs p e n u at.
           let h : List Did = session_history s words ks a in
           let k : Told h (on g rs p) = rw e at (known-session s words a ks).marks in
-          let m : get_elem? p n ≡ some (pending_by h u) = ap (λ l. get_elem? l n) k.0 ∙ map_at (pending_by h) (units g rs) n u at in (
+          let m : slice_get p n ≡ Some (pending_by h u) = ap (λ l. slice_get l n) k.0 ∙ map_at (pending_by h) (units g rs) n u at in (
             (λ t. (pending_by-iff h u).0 (some_inj (sym m ∙ t))),
-            (λ w. m ∙ ap some ((pending_by-iff h u).1 w)),
+            (λ w. m ∙ ap Some ((pending_by-iff h u).1 w)),
           );
     }
 

@@ -4,7 +4,8 @@ use mathlib.Core.Path.{◌≡◌, refl, sym, ap, ap₂, ◌∙◌}
 use mathlib.Core.Logic.{inl, inr}
 use mathlib.Core.Bool.{Bool, true, false, ◌&&◌, not, cond, and-false, true≢false}
 use mathlib.Core.List.{List, [], ◌∷◌, ◌++◌, map, append_assoc, append-nil}
-use mathlib.Core.Option.{Option, none, some}
+use Rattle.std.specs.declared.option.Option.{Option}
+use Rattle.std.specs.declared.option.Option.TheVariants.{None, Some}
 use Prim.Native.Nat.{ℕ, ◌+◌, ◌^◌, ◌≤◌, ◌<◌}
 use native.Mathlib.Omega.{arith}
 use native.Mathlib.Nat.{add_assoc}
@@ -75,8 +76,8 @@ pending-keep f (u ∷ us) = go (f u) (pending-keep f us)
     go false e = e
 
 pub pending_among-is : (h : List Did) (t : Option (ℕ × List Range)) → length (pending_on (marks_by h t)) ≡ pending_among h t
-pending_among-is h none = refl
-pending_among-is h (some t) = ap length (pending-keep (pending_by h) (units t.0 t.1))
+pending_among-is h None = refl
+pending_among-is h (Some t) = ap length (pending-keep (pending_by h) (units t.0 t.1))
 
 pending-clear : (us : List Unit) → length (pending us (clear us)) ≡ 0
 pending-clear [] = refl
@@ -150,17 +151,17 @@ accounts-receive h m x b (on g rs p) =
 pub accounts-part : (h : List Did) (m : ℕ) (p : Part) (f : Option (List ℕ)) (t : Marks) → Accounts h t → Accounts (h ++ did (part m p) (arrived_in p f).0 ∷ []) t
 accounts-part h m p f t k = go (is_last p)
   where
-    go : (b : Bool) → Accounts (h ++ did (part m p) (cond {A = Answer × Option (List ℕ)} b (assembled (joined_with f p), none) (done, some (joined_with f p))).0 ∷ []) t
+    go : (b : Bool) → Accounts (h ++ did (part m p) (cond {A = Answer × Option (List ℕ)} b (assembled (joined_with f p), None) (done, Some (joined_with f p))).0 ∷ []) t
     go true = accounts-idle h (did (part m p) (assembled (joined_with f p))) t refl refl refl k
     go false = accounts-idle h (did (part m p) done) t refl refl refl k
 
 pub accounts-queue : (h : List Did) (bytes : ℕ) (j : QueueCall) (q : Option Queued) (t : Marks) → Accounts h t
     → Accounts (h ++ did (queue bytes j) (queue_in bytes j q).0 ∷ []) t
 accounts-queue h bytes make q t = accounts-idle h (did (queue bytes make) (queue_in bytes make q).0) t refl refl refl
-accounts-queue h bytes (post e) none t = accounts-idle h (did (queue bytes (post e)) (queue_in bytes (post e) none).0) t refl refl refl
-accounts-queue h bytes (post e) (some q) t = accounts-idle h (did (queue bytes (post e)) (queue_in bytes (post e) (some q)).0) t refl refl refl
-accounts-queue h bytes (order.take n x) none t = accounts-idle h (did (queue bytes (order.take n x)) (queue_in bytes (order.take n x) none).0) t refl refl refl
-accounts-queue h bytes (order.take n x) (some q) t = accounts-idle h (did (queue bytes (order.take n x)) (queue_in bytes (order.take n x) (some q)).0) t refl refl refl
+accounts-queue h bytes (post e) None t = accounts-idle h (did (queue bytes (post e)) (queue_in bytes (post e) None).0) t refl refl refl
+accounts-queue h bytes (post e) (Some q) t = accounts-idle h (did (queue bytes (post e)) (queue_in bytes (post e) (Some q)).0) t refl refl refl
+accounts-queue h bytes (order.take n x) None t = accounts-idle h (did (queue bytes (order.take n x)) (queue_in bytes (order.take n x) None).0) t refl refl refl
+accounts-queue h bytes (order.take n x) (Some q) t = accounts-idle h (did (queue bytes (order.take n x)) (queue_in bytes (order.take n x) (Some q)).0) t refl refl refl
 
 -- ---- what a log shows
 

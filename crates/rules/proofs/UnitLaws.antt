@@ -4,13 +4,14 @@ use mathlib.Core.Path.{◌≡◌, refl, sym, ap, subst, ◌∙◌}
 use mathlib.Core.Logic.{◌↔◌}
 use mathlib.Core.Bool.{Bool, true, false, ◌&&◌, ◌||◌, not, cond, true≢false}
 use mathlib.Core.List.{List, [], ◌∷◌, ◌++◌, map}
-use mathlib.Core.Option.{none, some}
+use Rattle.std.specs.declared.option.Option.TheVariants.{None, Some}
 use Prim.Native.Nat.{ℕ, zero, suc, ◌+◌, ◌*◌, ◌/◌, ◌%◌, ◌≤◌, ◌<◌, max}
 use native.Mathlib.Omega.{arith}
 use native.Mathlib.Nat.{zero-add, add_assoc, zero-mul, suc-mul, add-mod_right, div-add-mod', mul-le-mul_right}
 use native.Mathlib.Decide.{dec_le, dec_lt}
 use lib.Dec.{leb, ltb}
-use lib.ListN.{length, get_or, get_elem?, length-append}
+use lib.ListN.{length, get_or, length-append}
+use Rattle.std.specs.List.{slice_get}
 use lib.Pow.{pow_pos}
 use borrow.Author.Tests.{ltb-true, le-leb, lt-ltb, not-true}
 use Rattle.rules.specs.Lists.{any, keep, sum}
@@ -266,10 +267,10 @@ All-pending P (u ∷ us) (true ∷ p) h = (h.0, All-pending P us p h.1)
 All-pending P (u ∷ us) (false ∷ p) h = All-pending P us p h.1
 
 -- units that share a byte are one
-pub Apart-at : (us : List Unit) → Apart us → (m n : ℕ) (u v : Unit) → get_elem? us m ≡ some u → get_elem? us n ≡ some v → (x : ℕ) → In x u → In x v → m ≡ n
+pub Apart-at : (us : List Unit) → Apart us → (m n : ℕ) (u v : Unit) → slice_get us m ≡ Some u → slice_get us n ≡ Some v → (x : ℕ) → In x u → In x v → m ≡ n
 Apart-at [] h m n u v e f x i j = absurd (none-some e)
   where
-    none-some : {A : Type 0} {a : A} → none ≡ some a → ⊥
+    none-some : {A : Type 0} {a : A} → None ≡ Some a → ⊥
     none-some q = let z : ◌≡◌ {A = ℕ} 0 1 = cc in absurd (omega arith)
 Apart-at (w ∷ us) h zero zero u v e f x i j = refl
 Apart-at (w ∷ us) h zero (suc n) u v e f x i j = absurd (All-at (Free w) us n v h.0 f x (subst (In x) (sym (some_inj e)) i) j)

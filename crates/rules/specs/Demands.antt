@@ -1,8 +1,8 @@
 -- What is asked of the rules, as statements, each proved in proofs/Theorems.antt. A session is any list of calls from a fresh device, each call given what
 -- the last one left; a refused fresh makes the closed device, and the statements hold of it too.
 use Rattle.std.specs.Prelude.{ℕ, suc, ◌+◌, ◌*◌, ◌/◌, ◌%◌, ◌^◌, ◌≤◌, ◌<◌, ◌≡◌, ◌≢◌, ◌↔◌, ◌⊎◌, Bool, true, false, ◌&&◌, not, List, [], ◌∷◌, ◌++◌, map, leb, length, take, drop, get_or}
-use Rattle.std.proofs.Math.Option.{none, some}
-use Rattle.std.proofs.Math.ListN.{get_elem?}
+use Rattle.std.specs.declared.option.Option.TheVariants.{None, Some}
+use Rattle.std.specs.List.{slice_get}
 use Rattle.rules.specs.Lists.{all, any, join, member, sum}
 use Rattle.rules.specs.Refusals.{◌else◌, refusal}
 use Rattle.rules.specs.Settings.{is_manager, limit_of, unit_size, bytes_of}
@@ -88,7 +88,7 @@ Lie = (shares : List Share) → (shares_ok shares ≡ true) ↔ Lying shares
 -- and of its manager that it is one (W12)
 abbrev pub Held : Type 0
 Held = (s : Settings) (m g n : ℕ) (rs : List Range)
-    → (held_ok s (some (record { manager = m; granularity = g; count = n; ranges = rs })) ≡ true) ↔ ((is_manager s m ≡ true) × Lawful s g n rs)
+    → (held_ok s (Some (record { manager = m; granularity = g; count = n; ranges = rs })) ≡ true) ↔ ((is_manager s m ≡ true) × Lawful s g n rs)
 
 -- "From a fresh device no sequence of calls leads to an unsound record, save the closed device of a refused fresh", which answers 1 to every call
 pub record Soundness : Type 0 where
@@ -103,8 +103,8 @@ pub record Pending (s : Settings) (words : ℕ) (ks : List Call) (a : ℕ) : Typ
   -- what the controller's slot holds is told by its calls and answers alone
   pub told : slot_of (session_end s words ks) a ≡ slot_by (session_history s words ks a)
   pub exactly : (g : ℕ) (rs : List Range) (p : List Bool) → (slot_of (session_end s words ks) a).marks ≡ on g rs p
-      → (n : ℕ) (u : Unit) → get_elem? (units g rs) n ≡ some u
-      → (get_elem? p n ≡ some true) ↔ PendingBy (session_history s words ks a) u
+      → (n : ℕ) (u : Unit) → slice_get (units g rs) n ≡ Some u
+      → (slice_get p n ≡ Some true) ↔ PendingBy (session_history s words ks a) u
 
 -- a byte lies in a range, with units of 2^g times 4 KiB
 abbrev pub InRange : ℕ → Range → ℕ → Type 0
@@ -113,19 +113,19 @@ InRange g r x = (r.start ≤ x) × (x < r.start + r.length * 2 ^ (12 + g))
 -- which units ranges have, and their order: of ranges of which each breaks no rule of a row
 pub record UnitsListed (g : ℕ) (rs : List Range) : Type 0 where
   -- "A granularity n means a unit of 2^n times 4 KiB": each has that size, and stands at a multiple of it
-  pub sized : (m : ℕ) (u : Unit) → get_elem? (units g rs) m ≡ some u → u.size ≡ unit_size g
-  pub multiple : (m : ℕ) (u : Unit) → get_elem? (units g rs) m ≡ some u → u.address % unit_size g ≡ 0
+  pub sized : (m : ℕ) (u : Unit) → slice_get (units g rs) m ≡ Some u → u.size ≡ unit_size g
+  pub multiple : (m : ℕ) (u : Unit) → slice_get (units g rs) m ≡ Some u → u.address % unit_size g ≡ 0
   -- "in the order of the ranges as listed and by address within a range"
-  pub in_order : (m n : ℕ) (u v : Unit) → m < n → get_elem? (units g rs) m ≡ some u → get_elem? (units g rs) n ≡ some v
+  pub in_order : (m n : ℕ) (u v : Unit) → m < n → slice_get (units g rs) m ≡ Some u → slice_get (units g rs) n ≡ Some v
       → (u.row < v.row) ⊎ ((u.row ≡ v.row) × (u.address < v.address))
   -- W2: "A unit covered by several ranges counts once and belongs to the earliest listed": it is covered by the range in whose row it stands, and by none
   -- that is listed before
-  pub own : (m : ℕ) (u : Unit) → get_elem? (units g rs) m ≡ some u → InRange g (get_or rs u.row no_range) u.address
-  pub earliest : (m : ℕ) (u : Unit) → get_elem? (units g rs) m ≡ some u → (j : ℕ) → j < u.row → InRange g (get_or rs j no_range) u.address → ⊥
+  pub own : (m : ℕ) (u : Unit) → slice_get (units g rs) m ≡ Some u → InRange g (get_or rs u.row no_range) u.address
+  pub earliest : (m : ℕ) (u : Unit) → slice_get (units g rs) m ≡ Some u → (j : ℕ) → j < u.row → InRange g (get_or rs j no_range) u.address → ⊥
   -- each one that a range covers is there
-  pub there : (x j : ℕ) → x % unit_size g ≡ 0 → InRange g (get_or rs j no_range) x → (m : ℕ) × (u : Unit) × (get_elem? (units g rs) m ≡ some u) × (u.address ≡ x)
+  pub there : (x j : ℕ) → x % unit_size g ≡ 0 → InRange g (get_or rs j no_range) x → (m : ℕ) × (u : Unit) × (slice_get (units g rs) m ≡ Some u) × (u.address ≡ x)
   -- and once: no two have a byte in common
-  pub apart : (m n : ℕ) (u v : Unit) → get_elem? (units g rs) m ≡ some u → get_elem? (units g rs) n ≡ some v
+  pub apart : (m n : ℕ) (u v : Unit) → slice_get (units g rs) m ≡ Some u → slice_get (units g rs) n ≡ Some v
       → (x : ℕ) → (u.address ≤ x) × (x < u.address + u.size) → (v.address ≤ x) × (x < v.address + v.size) → m ≡ n
 
 -- each unit of a run follows the one before it, in one range
@@ -157,7 +157,7 @@ set_in (false ∷ p) = set_in p
 
 -- a pending unit stands behind as many as are pending before it, and there are no others
 pub record PendingAre (us : List Unit) (p : List Bool) : Type 0 where
-  pub each : (n : ℕ) (u : Unit) → get_elem? us n ≡ some u → get_elem? p n ≡ some true → get_elem? (pending us p) (set_in (take n p)) ≡ some u
+  pub each : (n : ℕ) (u : Unit) → slice_get us n ≡ Some u → slice_get p n ≡ Some true → slice_get (pending us p) (set_in (take n p)) ≡ Some u
   pub no_more : length (pending us p) ≤ set_in p
 
 -- "A run is a longest row of consecutive pending units within one range"; it is told by its first address and its length in units
@@ -177,18 +177,18 @@ pub record Reports (b : Bool) (g k : ℕ) (us : List Unit) (p : List Bool) : Typ
   -- the first k are listed
   pub earliest : (report_on b g k us p).descriptors ≡ map descriptor (take k (runs (pending us p)))
   -- what is reported was pending and is clear afterwards; all else is unchanged
-  pub was_pending : (n : ℕ) (u : Unit) → get_elem? us n ≡ some u
-      → any (λ (d : Descriptor). lists g d u) (report_on b g k us p).descriptors ≡ true → get_elem? p n ≡ some true
-  pub clear_afterwards : (n : ℕ) (u : Unit) → get_elem? us n ≡ some u
-      → any (λ (d : Descriptor). lists g d u) (report_on b g k us p).descriptors ≡ true → get_elem? (marks_left k us p) n ≡ some false
-  pub else_unchanged : (n : ℕ) (u : Unit) → get_elem? us n ≡ some u
-      → any (λ (d : Descriptor). lists g d u) (report_on b g k us p).descriptors ≡ false → get_elem? (marks_left k us p) n ≡ get_elem? p n
+  pub was_pending : (n : ℕ) (u : Unit) → slice_get us n ≡ Some u
+      → any (λ (d : Descriptor). lists g d u) (report_on b g k us p).descriptors ≡ true → slice_get p n ≡ Some true
+  pub clear_afterwards : (n : ℕ) (u : Unit) → slice_get us n ≡ Some u
+      → any (λ (d : Descriptor). lists g d u) (report_on b g k us p).descriptors ≡ true → slice_get (marks_left k us p) n ≡ Some false
+  pub else_unchanged : (n : ℕ) (u : Unit) → slice_get us n ≡ Some u
+      → any (λ (d : Descriptor). lists g d u) (report_on b g k us p).descriptors ≡ false → slice_get (marks_left k us p) n ≡ slice_get p n
   -- More is clear exactly when nothing stays pending
   pub more : ((report_on b g k us p).more ≡ false) ↔ (pending us (marks_left k us p) ≡ [])
   -- W10: "up to and including the one where run k + 1 begins", which is unit n, "or, if there is none, all"; there is one exactly if More is set
-  pub examined : (n : ℕ) (u : Unit) (vs : List Unit) → get_elem? (runs (pending us p)) k ≡ some (u ∷ vs) → get_elem? us n ≡ some u → (report_on b g k us p).groups ≡ n / 64 + 1
-  pub examined_all : get_elem? (runs (pending us p)) k ≡ none → (report_on b g k us p).groups ≡ (length us + 63) / 64
-  pub stays : ((report_on b g k us p).more ≡ false) ↔ (get_elem? (runs (pending us p)) k ≡ none)
+  pub examined : (n : ℕ) (u : Unit) (vs : List Unit) → slice_get (runs (pending us p)) k ≡ Some (u ∷ vs) → slice_get us n ≡ Some u → (report_on b g k us p).groups ≡ n / 64 + 1
+  pub examined_all : slice_get (runs (pending us p)) k ≡ None → (report_on b g k us p).groups ≡ (length us + 63) / 64
+  pub stays : ((report_on b g k us p).more ≡ false) ↔ (slice_get (runs (pending us p)) k ≡ None)
   pub examined_most : length us ≤ 16384 → (report_on b g k us p).groups ≤ 256
   -- and nothing behind these groups is asked: with other marks there the report is the same
   pub no_further : (q : List Bool) → length q ≡ length p
@@ -266,7 +266,7 @@ pub record ReadBack (id : ℕ) (r : Report) (x : List ℕ) : Type 0 where
   pub granularity : report_granularity x ≡ r.granularity
   pub count : report_count x ≡ length r.descriptors
   -- each run at its index
-  pub run : (i : ℕ) (d : Descriptor) → get_elem? r.descriptors i ≡ some d
+  pub run : (i : ℕ) (d : Descriptor) → slice_get r.descriptors i ≡ Some d
       → (report_refusal_at x i ≡ 0) × (report_address x i ≡ d.address) × (report_length x i ≡ d.length)
   -- and none from the count on
   pub past : (i : ℕ) → length r.descriptors ≤ i → report_refusal_at x i ≡ 33

@@ -1,7 +1,8 @@
 -- Document 01, "Refusal numbers": when a record is sound (refusal 1), a fresh device and the closed one. Unused places are not looked at, and
 -- fresh fills them with zeros.
 use Rattle.std.specs.Prelude.{ℕ, ◌+◌, ◌-◌, ◌%◌, Bool, true, false, ◌&&◌, ◌||◌, cond, List, [], ◌∷◌, ◌++◌, map, leb, eqb, length, take, get_or, replicate}
-use Rattle.std.proofs.Math.Option.{Option, none, some}
+use Rattle.std.specs.declared.option.Option.{Option}
+use Rattle.std.specs.declared.option.Option.TheVariants.{None, Some}
 use Rattle.rules.specs.Lists.{all, every, sum}
 use Rattle.rules.specs.Refusals.{◌else◌, passes, verdict}
 use Rattle.rules.specs.Settings.{most_units, settings_ok, managers_of, is_manager, limit_of, granularity_ok, identifiers_of, place_of}
@@ -16,9 +17,6 @@ use Rattle.rules.specs.declared.Tracking.{Tracking}
 use Rattle.rules.specs.declared.Tracking.TheVariants.{Off, On}
 use Rattle.rules.specs.declared.Share.{Share}
 use Rattle.rules.specs.declared.Sequence.{Sequence}
-use Rattle.rules.specs.declared.Sequence.TheVariants.{Nothing, Open}
-use Rattle.rules.specs.declared.Queue.TheVariants as queue
-use Rattle.rules.specs.declared.Second.TheVariants as second
 use Rattle.rules.specs.declared.Controller.{Controller}
 use Rattle.rules.specs.declared.Settings.{Settings}
 use Rattle.rules.specs.declared.Device.{Device}
@@ -34,23 +32,23 @@ pub record Held : Type 0 where
 
 -- whether a controller is not tracked, or its manager is in the settings and its granularity and ranges pass 7, 18 to 21 and 10
 unfoldable pub held_ok : Settings → Option Held → Bool
-held_ok s none = true
-held_ok s (some h) = is_manager s h.manager && passes ((granularity_ok s h.granularity else 7) ∷ list_tests s h.granularity h.count h.ranges)
+held_ok s None = true
+held_ok s (Some h) = is_manager s h.manager && passes ((granularity_ok s h.granularity else 7) ∷ list_tests s h.granularity h.count h.ranges)
 
 -- how many ranges it holds
 abbrev pub held_count : Option Held → ℕ
-held_count none = 0
-held_count (some h) = h.count
+held_count None = 0
+held_count (Some h) = h.count
 
 -- W12: how many of these a manager tracks
 abbrev pub held_count_by : ℕ → Option Held → ℕ
-held_count_by m none = 0
-held_count_by m (some h) = cond (eqb h.manager m) h.count 0
+held_count_by m None = 0
+held_count_by m (Some h) = cond (eqb h.manager m) h.count 0
 
 -- how many different units they have
 abbrev pub held_units : Option Held → ℕ
-held_units none = 0
-held_units (some h) = length (units h.granularity h.ranges)
+held_units None = 0
+held_units (Some h) = length (units h.granularity h.ranges)
 
 -- W7: a share of the pool that has no bits is nowhere
 abbrev pub no_share : Share
@@ -97,23 +95,23 @@ sound s hs rest = every (sound_rules s hs rest)
 
 -- what a controller of the record holds: of its ranges as many as it counts
 abbrev pub held_in : Tracking → ℕ → List Range → Option Held
-held_in Off m rs = none
-held_in (On g n) m rs = some (record { manager = m; granularity = g; count = n; ranges = take n rs })
+held_in Off m rs = None
+held_in (On g n) m rs = Some (record { manager = m; granularity = g; count = n; ranges = take n rs })
 
 abbrev pub held_of : Controller → Option Held
 held_of c = held_in c.tracking c.manager c.ranges
 
 -- its share: one that is not tracked has none, whatever its base
 abbrev pub share_in : ℕ → Option Held → Share
-share_in base none = no_share
-share_in base (some h) = record { base = base; size = held_units (some h) }
+share_in base None = no_share
+share_in base (Some h) = record { base = base; size = held_units (Some h) }
 
 abbrev pub share_of : Controller → Share
 share_of c = share_in c.base (held_of c)
 
 -- a controller that is neither tracked nor suspended, and has no queue
 abbrev pub fresh_controller : Controller
-fresh_controller = record { tracking = Off; manager = 0; base = 0; suspended = false; ranges = placed []; queue = queue.Nothing }
+fresh_controller = record { tracking = Off; manager = 0; base = 0; suspended = false; ranges = placed []; queue = None }
 
 -- the controllers in use
 abbrev pub controllers_of : Device → List Controller
@@ -121,13 +119,13 @@ controllers_of d = take d.settings.count d.controllers
 
 -- W6: whether the controller at a place in use is suspended
 abbrev pub suspended_at : List Controller → Option ℕ → Bool
-suspended_at cs none = false
-suspended_at cs (some i) = (get_or cs i fresh_controller).suspended
+suspended_at cs None = false
+suspended_at cs (Some i) = (get_or cs i fresh_controller).suspended
 
 -- no sequence is open, or its owner is in the settings and suspended, and its end is one that parts can have
-abbrev pub sequence_ok : Settings → List Controller → Sequence → Bool
-sequence_ok s cs Nothing = true
-sequence_ok s cs (Open owner end) = suspended_at cs (place_of s owner) && front_ok end
+abbrev pub sequence_ok : Settings → List Controller → Option Sequence → Bool
+sequence_ok s cs None = true
+sequence_ok s cs (Some seq) = suspended_at cs (place_of s seq.owner) && front_ok seq.end
 
 -- W7: the shares of its eight places; one that is not in use has none
 abbrev pub shares_of : Device → List Share
@@ -160,14 +158,14 @@ cleaned s =
     }
 
 abbrev pub fresh_device : Settings → Device
-fresh_device s = record { settings = cleaned s; controllers = replicate 8 fresh_controller; sequence = Nothing }
+fresh_device s = record { settings = cleaned s; controllers = replicate 8 fresh_controller; sequence = None }
 
 -- the device of a refused fresh: all zeros, which no settings rule passes
 abbrev pub closed_settings : Settings
-closed_settings = record { manager = 0; least = 0; greatest = 0; powers = false; limit = 0; second = second.Nothing; shelf = 0; count = 0; identifiers = replicate 8 0 }
+closed_settings = record { manager = 0; least = 0; greatest = 0; powers = false; limit = 0; second = None; shelf = 0; count = 0; identifiers = replicate 8 0 }
 
 abbrev pub closed_device : Device
-closed_device = record { settings = closed_settings; controllers = replicate 8 fresh_controller; sequence = Nothing }
+closed_device = record { settings = closed_settings; controllers = replicate 8 fresh_controller; sequence = None }
 
 -- what fresh returns, from settings and a number of mark words
 unfoldable pub fresh_of : Settings → ℕ → Device

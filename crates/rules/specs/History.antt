@@ -1,7 +1,8 @@
 -- What demand 2 speaks of, told from calls and answers alone: "an accepted write by its controller touched it after tracking last started and after
 -- it was last reported". Nothing here looks at a device.
 use Rattle.std.specs.Prelude.{ℕ, ◌/◌, ◌≡◌, Bool, true, false, ◌&&◌, ◌||◌, not, cond, List, [], ◌∷◌, ◌++◌, map, eqb, length, drop}
-use Rattle.std.proofs.Math.Option.{Option, none, some}
+use Rattle.std.specs.declared.option.Option.{Option}
+use Rattle.std.specs.declared.option.Option.TheVariants.{None, Some}
 use Rattle.rules.specs.Lists.{any}
 use Rattle.rules.specs.Settings.{unit_size}
 use Rattle.rules.specs.Units.{Unit, covers, touches, units}
@@ -103,8 +104,8 @@ told_by f x (d ∷ h) = told_by f (cond (is_accepted d.answer) (f x d.op) x) h
 
 -- with what granularity and ranges it is tracked: those of the last accepted start, unless a stop was accepted after it
 abbrev pub tracks_after : Option (ℕ × List Range) → Op → Option (ℕ × List Range)
-tracks_after t (start m x) = some (granularity_of x, ranges_of x)
-tracks_after t (stop m) = none
+tracks_after t (start m x) = Some (granularity_of x, ranges_of x)
+tracks_after t (stop m) = None
 tracks_after t (write w) = t
 tracks_after t (receive m x) = t
 tracks_after t (suspend m kind) = t
@@ -175,7 +176,7 @@ abbrev pub joined_by : List Did → List ℕ
 joined_by h = told_by joins_after [] h
 
 abbrev pub front_by : List Did → Option (List ℕ)
-front_by h = cond (open_by h) (some (joined_by h)) none
+front_by h = cond (open_by h) (Some (joined_by h)) None
 
 -- ---- W8: what a history says of a controller's queue
 
@@ -197,12 +198,12 @@ logged_by f x (d ∷ h) = logged_by f (cond (is_accepted d.answer) (on_queue f x
 
 -- how many places the queue has: as the last accepted make says
 abbrev pub size_after : Option ℕ → ℕ → QueueCall → Answer → Option ℕ
-size_after n bytes make a = some (bytes / entry_bytes)
+size_after n bytes make a = Some (bytes / entry_bytes)
 size_after n bytes (post e) a = n
 size_after n bytes (take asked x) a = n
 
 abbrev pub size_by : List Did → Option ℕ
-size_by h = logged_by size_after none h
+size_by h = logged_by size_after None h
 
 -- the entries stored since then, in order: those of the accepted posts, and for one that is marked stopped the closing entry in its place
 abbrev pub stores_after : List (List ℕ) → ℕ → QueueCall → Answer → List (List ℕ)
@@ -233,16 +234,16 @@ stopped_by h = logged_by stops_after false h
 
 -- the queue that it tells: what was stored and not taken yet
 abbrev pub queued_by : List Did → Option ℕ → Option Queued
-queued_by h none = none
-queued_by h (some n) = some (record { size = n; entries = drop (length (taken_by h)) (stored_by h); stopped = stopped_by h })
+queued_by h None = None
+queued_by h (Some n) = Some (record { size = n; entries = drop (length (taken_by h)) (stored_by h); stopped = stopped_by h })
 
 abbrev pub queue_by : List Did → Option Queued
 queue_by h = queued_by h (size_by h)
 
 -- the slot that a history tells: each unit of the tracked ranges is pending as the history says
 abbrev pub marks_by : List Did → Option (ℕ × List Range) → Marks
-marks_by h none = off
-marks_by h (some t) = on t.0 t.1 (map (pending_by h) (units t.0 t.1))
+marks_by h None = off
+marks_by h (Some t) = on t.0 t.1 (map (pending_by h) (units t.0 t.1))
 
 abbrev pub slot_by : List Did → Slot
-slot_by h = record { suspended = suspended_by false h; manager = manager_by h; marks = marks_by h (tracks_by none h); front = front_by h; queue = queue_by h }
+slot_by h = record { suspended = suspended_by false h; manager = manager_by h; marks = marks_by h (tracks_by None h); front = front_by h; queue = queue_by h }

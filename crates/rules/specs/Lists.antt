@@ -1,6 +1,7 @@
 -- Plain functions of lists, with which the rules are written. No rule stands here.
 use Rattle.std.specs.Prelude.{ℕ, zero, suc, ◌+◌, Bool, true, false, not, ◌&&◌, ◌||◌, cond, List, [], ◌∷◌, ◌++◌, eqb}
-use Rattle.std.proofs.Math.Option.{Option, none, some}
+use Rattle.std.specs.declared.option.Option.{Option}
+use Rattle.std.specs.declared.option.Option.TheVariants.{None, Some}
 
 -- whether a test holds of each element
 abbrev pub all : {A : Type 0} → (A → Bool) → List A → Bool
@@ -42,13 +43,13 @@ different xs = pairs (λ x y. not (eqb x y)) xs
 
 -- the place of a number in a list whose first place is n, the earliest if there are several
 abbrev pub place_from : ℕ → List ℕ → ℕ → Option ℕ
-place_from n [] x = none
-place_from n (y ∷ ys) x = cond (eqb y x) (some n) (place_from (suc n) ys x)
+place_from n [] x = None
+place_from n (y ∷ ys) x = cond (eqb y x) (Some n) (place_from (suc n) ys x)
 
 -- whether there is something
 abbrev pub is_some : {A : Type 0} → Option A → Bool
-is_some none = false
-is_some (some x) = true
+is_some None = false
+is_some (Some x) = true
 
 -- whether a list has an element
 abbrev pub non_empty : {A : Type 0} → List A → Bool

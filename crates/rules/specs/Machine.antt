@@ -1,7 +1,8 @@
 -- Document 01 as a machine: a device is its settings and a slot for each controller; a call to a controller is answered and leaves a device.
 -- One call sees the settings, its own controller's slot and what `Seen` says of the device, and changes that slot alone.
 use Rattle.std.specs.Prelude.{ℕ, Bool, true, false, ◌&&◌, ◌||◌, not, cond, List, [], ◌∷◌, map, eqb, length, get_or, set}
-use Rattle.std.proofs.Math.Option.{Option, none, some}
+use Rattle.std.specs.declared.option.Option.{Option}
+use Rattle.std.specs.declared.option.Option.TheVariants.{None, Some}
 use Rattle.little.specs.Little.{put}
 use Rattle.rules.specs.Lists.{all, any, sum, is_some}
 use Rattle.rules.specs.Refusals.{verdict}
@@ -32,7 +33,7 @@ pub record Slot : Type 0 where
   pub queue : Option Queued
 
 abbrev pub fresh_slot : Slot
-fresh_slot = record { suspended = false; manager = 0; marks = off; front = none; queue = none }
+fresh_slot = record { suspended = false; manager = 0; marks = off; front = None; queue = None }
 
 -- the same slot tracked by another manager with other marks, with other marks alone, with its flag set or clear, with other bytes so far, and with another queue
 abbrev pub tracked_with : Slot → ℕ → Marks → Slot
@@ -55,16 +56,16 @@ is_suspended c = c.suspended
 
 -- the manager that tracks it, if one does
 abbrev pub tracker_on : ℕ → Marks → Option ℕ
-tracker_on m off = none
-tracker_on m (on g rs p) = some m
+tracker_on m off = None
+tracker_on m (on g rs p) = Some m
 
 abbrev pub tracker_in : Slot → Option ℕ
 tracker_in c = tracker_on c.manager c.marks
 
 -- what it holds
 abbrev pub held_on : ℕ → Marks → Option Held
-held_on m off = none
-held_on m (on g rs p) = some (record { manager = m; granularity = g; count = length rs; ranges = rs })
+held_on m off = None
+held_on m (on g rs p) = Some (record { manager = m; granularity = g; count = length rs; ranges = rs })
 
 abbrev pub held_by : Slot → Option Held
 held_by c = held_on c.manager c.marks
@@ -74,8 +75,8 @@ abbrev pub is_open : Slot → Bool
 is_open c = is_some c.front
 
 abbrev pub front_kept : Bool → Option (List ℕ) → Bool
-front_kept b none = true
-front_kept b (some f) = b && front_ok (length f)
+front_kept b None = true
+front_kept b (Some f) = b && front_ok (length f)
 
 abbrev pub open_ok : Slot → Bool
 open_ok c = front_kept c.suspended c.front
@@ -90,16 +91,16 @@ pending_in c = pending_on c.marks
 
 -- W8: the places of its queue, if it has one, whether that has stopped, and the entries queued
 abbrev pub places_in : Option Queued → Option ℕ
-places_in none = none
-places_in (some q) = some q.size
+places_in None = None
+places_in (Some q) = Some q.size
 
 abbrev pub stopped_in : Option Queued → Bool
-stopped_in none = false
-stopped_in (some q) = q.stopped
+stopped_in None = false
+stopped_in (Some q) = q.stopped
 
 abbrev pub entries_in : Option Queued → List (List ℕ)
-entries_in none = []
-entries_in (some q) = q.entries
+entries_in None = []
+entries_in (Some q) = q.entries
 
 -- ---- one call
 
@@ -127,21 +128,21 @@ reported_in b bytes (on g rs p) = (reported (report_on b g (room bytes) (units g
 
 -- what a part answers and leaves of the bytes so far: the last one yields them all
 abbrev pub arrived_in : Part → Option (List ℕ) → Answer × Option (List ℕ)
-arrived_in p f = cond (is_last p) (assembled (joined_with f p), none) (done, some (joined_with f p))
+arrived_in p f = cond (is_last p) (assembled (joined_with f p), None) (done, Some (joined_with f p))
 
 -- what a call to a queue answers and leaves of it. (Of one that was not made a post and a take are refused with 29.)
 abbrev pub posted_in : List ℕ → Option Queued → Answer × Option Queued
-posted_in e none = (done, none)
-posted_in e (some q) = (posted (closes_at q.size (length q.entries)), some (posted_to e q))
+posted_in e None = (done, None)
+posted_in e (Some q) = (posted (closes_at q.size (length q.entries)), Some (posted_to e q))
 
 abbrev pub taken_in : ℕ → ℕ → Option Queued → Answer × Option Queued
-taken_in asked bytes none = (done, none)
-taken_in asked bytes (some q) =
+taken_in asked bytes None = (done, None)
+taken_in asked bytes (Some q) =
     let es = taken_of asked bytes q.entries in
-    (taken es (closes_with q.stopped (length es) (length q.entries)), some (taken_from (length es) q))
+    (taken es (closes_with q.stopped (length es) (length q.entries)), Some (taken_from (length es) q))
 
 abbrev pub queue_in : ℕ → QueueCall → Option Queued → Answer × Option Queued
-queue_in bytes make q = (done, some (made_of bytes))
+queue_in bytes make q = (done, Some (made_of bytes))
 queue_in bytes (post e) q = posted_in e q
 queue_in bytes (take asked x) q = taken_in asked (length x) q
 
@@ -156,7 +157,7 @@ accepted c (stop m) = (done, tracked_with c 0 off)
 accepted c (write w) = leaving c (wrote_in w c.marks)
 accepted c (receive m x) = leaving c (reported_in c.suspended (length x) c.marks)
 accepted c (suspend m kind) = (done, with_flag c (c.suspended || eqb kind 1))
-accepted c (resume m) = (done, with_front (with_flag c false) none)
+accepted c (resume m) = (done, with_front (with_flag c false) None)
 accepted c (part m p) = ((arrived_in p c.front).0, with_front c (arrived_in p c.front).1)
 accepted c (queue bytes k) = ((queue_in bytes k c.queue).0, with_queued c (queue_in bytes k c.queue).1)
 
@@ -199,12 +200,12 @@ units_in st = sum (map held_units (map held_by st.slots))
 
 -- the slot at a place, and a device with it replaced
 abbrev pub slot_at : State → Option ℕ → Slot
-slot_at st none = fresh_slot
-slot_at st (some i) = get_or st.slots i fresh_slot
+slot_at st None = fresh_slot
+slot_at st (Some i) = get_or st.slots i fresh_slot
 
 abbrev pub with_slot : State → Option ℕ → Slot → State
-with_slot st none c = st
-with_slot st (some i) c = record { settings = st.settings; slots = set st.slots i c; amiss = st.amiss }
+with_slot st None c = st
+with_slot st (Some i) c = record { settings = st.settings; slots = set st.slots i c; amiss = st.amiss }
 
 -- the slot of a controller
 abbrev pub slot_of : State → ℕ → Slot
@@ -227,8 +228,8 @@ seen_at st i =
 
 -- whether a state is under way in another slot than that at a place
 abbrev pub others_open : State → Option ℕ → Bool
-others_open st none = any is_open st.slots
-others_open st (some i) = any is_open (set st.slots i fresh_slot)
+others_open st None = any is_open st.slots
+others_open st (Some i) = any is_open (set st.slots i fresh_slot)
 
 -- what a part sees beside that. The area that a session hands on has its bytes
 abbrev pub arriving_at : State → Option ℕ → Arriving

@@ -1,7 +1,8 @@
 -- Document 01, "Refusal numbers": the calls, and the order of each call's refusals, a table each, first hit answers. What a call that is not refused
 -- does stands in Machine.antt.
 use Rattle.std.specs.Prelude.{ℕ, ◌+◌, ◌*◌, ◌%◌, ◌^◌, Bool, true, false, ◌&&◌, ◌||◌, not, cond, List, [], ◌∷◌, ◌++◌, leb, ltb, eqb, length}
-use Rattle.std.proofs.Math.Option.{Option, none, some}
+use Rattle.std.specs.declared.option.Option.{Option}
+use Rattle.std.specs.declared.option.Option.TheVariants.{None, Some}
 use Rattle.rules.specs.Lists.{is_some}
 use Rattle.rules.specs.Refusals.{Test, ◌else◌}
 use Rattle.rules.specs.Settings.{mark_words, most_units, most_notes, settings_ok, is_manager, limit_of, granularity_ok}
@@ -105,8 +106,8 @@ start_order s m v x = start_own s m v x ++ start_shared s m v.units (v.managed m
 
 -- whether it is that manager who tracks
 abbrev pub is_tracker : ℕ → Option ℕ → Bool
-is_tracker m none = false
-is_tracker m (some t) = eqb t m
+is_tracker m None = false
+is_tracker m (Some t) = eqb t m
 
 abbrev pub stop_order : Settings → ℕ → Seen → List Test
 stop_order s m v =
@@ -195,16 +196,16 @@ data_ok p = are_counted p.indicator p.count (length p.bytes)
 
 -- 26: "a first or only part begins anew at offset 0, every other where the open sequence's last accepted part ended"
 abbrev pub follows_on : Option (List ℕ) → Part → Bool
-follows_on none p = false
-follows_on (some f) p = eqb (offset_of p) (length f)
+follows_on None p = false
+follows_on (Some f) p = eqb (offset_of p) (length f)
 
 abbrev pub follows : Option (List ℕ) → Part → Bool
 follows front p = cond (is_first p) (eqb (offset_of p) 0) (follows_on front p)
 
 -- the bytes so far, with its own behind them
 abbrev pub so_far : Option (List ℕ) → List ℕ
-so_far none = []
-so_far (some f) = f
+so_far None = []
+so_far (Some f) = f
 
 abbrev pub joined_with : Option (List ℕ) → Part → List ℕ
 joined_with front p = cond (is_first p) p.bytes (so_far front ++ p.bytes)
@@ -234,8 +235,8 @@ part_order s m v a p =
 
 -- 28: "area isn't a whole 2 to 1,024 places, or, for posts and takes, not the size made"
 abbrev pub size_made : Option ℕ → ℕ → Bool
-size_made none bytes = true
-size_made (some n) bytes = eqb bytes (entry_bytes * n)
+size_made None bytes = true
+size_made (Some n) bytes = eqb bytes (entry_bytes * n)
 
 -- what a call to a queue asks past 1 and 2, of an area of so many bytes
 abbrev pub queue_tests : Seen → ℕ → QueueCall → List Test

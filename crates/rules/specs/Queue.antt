@@ -2,8 +2,8 @@
 use Rattle.std.specs.Prelude.{ℕ, ◌+◌, ◌-◌, ◌/◌, ◌%◌, ◌^◌, Bool, true, false, ◌&&◌, ◌||◌, cond, List, [], ◌∷◌, ◌++◌, leb, ltb, eqb, length, take, drop, replicate}
 use Rattle.little.specs.Little.{records}
 use Rattle.rules.specs.declared.Ring.{Ring}
-use Rattle.rules.specs.declared.Queue.{Queue}
-use Rattle.rules.specs.declared.Queue.TheVariants.{Nothing, Is}
+use Rattle.std.specs.declared.option.Option.{Option}
+use Rattle.std.specs.declared.option.Option.TheVariants.{None, Some}
 
 -- ---- sizes
 
@@ -41,9 +41,9 @@ ring_ok r =
     let fill = fill_of r.posted r.taken in
     leb fill r.size && (ltb r.place r.size && (ltb fill r.size || r.stopped))
 
-unfoldable pub queue_ok : Queue → Bool
-queue_ok Nothing = true
-queue_ok (Is r) = ring_ok r
+unfoldable pub queue_ok : Option Ring → Bool
+queue_ok None = true
+queue_ok (Some r) = ring_ok r
 
 -- ---- what a controller's queue is for the rules: its places, the entries queued now, the oldest first, and whether logging has stopped
 

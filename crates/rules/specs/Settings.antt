@@ -1,9 +1,9 @@
 -- Document 01, "Settings and sizes", with the managers of document 02 (W12): the settings and their rule (16), the sizes, and what a granularity means.
 use Rattle.std.specs.Prelude.{ℕ, ◌+◌, ◌*◌, ◌/◌, ◌^◌, Bool, ◌&&◌, not, cond, List, [], ◌∷◌, take, leb, eqb}
-use Rattle.std.proofs.Math.Option.{Option}
+use Rattle.std.specs.declared.option.Option.{Option}
 use Rattle.rules.specs.Lists.{every, member, different, place_from}
 use Rattle.rules.specs.declared.Second.{Second}
-use Rattle.rules.specs.declared.Second.TheVariants.{Nothing, Is}
+use Rattle.std.specs.declared.option.Option.TheVariants.{None, Some}
 use Rattle.rules.specs.declared.Settings.{Settings}
 
 -- ---- settings
@@ -13,12 +13,12 @@ abbrev pub identifiers_of : Settings → List ℕ
 identifiers_of s = take s.count s.identifiers
 
 -- W12: a second manager is not the first, not among the controllers, and has a limit of 0 to 128
-abbrev pub second_rules : Settings → Second → List Bool
-second_rules s Nothing = []
-second_rules s (Is id limit) =
-    not (eqb id s.manager)
-    ∷ not (member id (identifiers_of s))
-    ∷ leb limit 128
+abbrev pub second_rules : Settings → Option Second → List Bool
+second_rules s None = []
+second_rules s (Some two) =
+    not (eqb two.id s.manager)
+    ∷ not (member two.id (identifiers_of s))
+    ∷ leb two.limit 128
     ∷ []
 
 -- 1 to 8 identifiers, all different; the manager's not among them; least ≤ greatest ≤ 20; limits of 0 to 128, the shelf's too
@@ -39,9 +39,9 @@ unfoldable pub settings_ok : Settings → Bool
 settings_ok s = every (settings_rules s)
 
 -- W12: the managers, one or two
-abbrev pub seconds : Second → List ℕ
-seconds Nothing = []
-seconds (Is id limit) = id ∷ []
+abbrev pub seconds : Option Second → List ℕ
+seconds None = []
+seconds (Some two) = two.id ∷ []
 
 abbrev pub managers_of : Settings → List ℕ
 managers_of s = s.manager ∷ seconds s.second
@@ -51,9 +51,9 @@ unfoldable pub is_manager : Settings → ℕ → Bool
 is_manager s m = member m (managers_of s)
 
 -- the limit of a manager. (Of no other identifier it is asked.)
-abbrev pub second_limit : Second → ℕ
-second_limit Nothing = 0
-second_limit (Is id limit) = limit
+abbrev pub second_limit : Option Second → ℕ
+second_limit None = 0
+second_limit (Some two) = two.limit
 
 unfoldable pub limit_of : Settings → ℕ → ℕ
 limit_of s m = cond (eqb m s.manager) s.limit (second_limit s.second)

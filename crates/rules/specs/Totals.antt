@@ -1,7 +1,8 @@
 -- Document 02, W13, "Numbers for the migration log": for each controller since the device was made, units newly marked, units reported, and units dropped by a stop while
 -- still pending. Each is told by the controller's calls and answers alone, and none by the others. Then what a log shows of them.
 use Rattle.std.specs.Prelude.{ℕ, ◌+◌, ◌^◌, Bool, true, false, ◌&&◌, cond, List, [], ◌∷◌, ◌++◌, map, ltb, length}
-use Rattle.std.proofs.Math.Option.{Option, none, some}
+use Rattle.std.specs.declared.option.Option.{Option}
+use Rattle.std.specs.declared.option.Option.TheVariants.{None, Some}
 use Rattle.rules.specs.Lists.{keep, sum}
 use Rattle.rules.specs.Units.{units}
 use Rattle.rules.specs.Report.{Descriptor, Report}
@@ -44,12 +45,12 @@ ended_by d = is_accepted d.answer && stops d.op
 
 -- how many units of ranges, if there are any, are pending by a history
 abbrev pub pending_among : List Did → Option (ℕ × List Range) → ℕ
-pending_among h none = 0
-pending_among h (some t) = length (keep (pending_by h) (units t.0 t.1))
+pending_among h None = 0
+pending_among h (Some t) = length (keep (pending_by h) (units t.0 t.1))
 
 -- and of the ranges tracked by then
 abbrev pub units_pending : List Did → ℕ
-units_pending h = pending_among h (tracks_by none h)
+units_pending h = pending_among h (tracks_by None h)
 
 -- how many units a call dropped, after a history: an accepted stop those that were still pending by it, any other call none
 abbrev pub dropped_by : List Did → Did → ℕ

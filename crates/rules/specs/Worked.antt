@@ -15,7 +15,7 @@ use Rattle.rules.specs.Machine.{Answer, refused, done, wrote, reported, assemble
 use Rattle.rules.specs.History.{Did, history_of}
 use Rattle.rules.specs.Totals.{Shown, known, unknown, shown_by}
 use Rattle.rules.specs.declared.Range.{Range}
-use Rattle.rules.specs.declared.Second.TheVariants.{Nothing, Is}
+use Rattle.std.specs.declared.option.Option.TheVariants.{None, Some}
 use Rattle.rules.specs.declared.Settings.{Settings}
 
 -- ---- words for the table
@@ -121,7 +121,7 @@ settings powers =
       greatest = 8;
       powers = powers;
       limit = 16;
-      second = Nothing;
+      second = None;
       shelf = 128;
       count = 2;
       identifiers = 5 ∷ 6 ∷ 0 ∷ 0 ∷ 0 ∷ 0 ∷ 0 ∷ 0 ∷ [];
@@ -136,7 +136,7 @@ two_managers =
       greatest = 8;
       powers = false;
       limit = 16;
-      second = Is 2 4;
+      second = Some (record { id = 2; limit = 4 });
       shelf = 18;
       count = 3;
       identifiers = 5 ∷ 6 ∷ 7 ∷ 0 ∷ 0 ∷ 0 ∷ 0 ∷ 0 ∷ [];
@@ -144,7 +144,7 @@ two_managers =
 
 -- one manager with limit 16, the shelf's 3
 abbrev small_shelf : Settings
-small_shelf = record { manager = 1; least = 0; greatest = 8; powers = false; limit = 16; second = Nothing; shelf = 3; count = 2; identifiers = 5 ∷ 6 ∷ 0 ∷ 0 ∷ 0 ∷ 0 ∷ 0 ∷ 0 ∷ [] }
+small_shelf = record { manager = 1; least = 0; greatest = 8; powers = false; limit = 16; second = None; shelf = 3; count = 2; identifiers = 5 ∷ 6 ∷ 0 ∷ 0 ∷ 0 ∷ 0 ∷ 0 ∷ 0 ∷ [] }
 
 -- ---- the table
 

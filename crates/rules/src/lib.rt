@@ -2,6 +2,7 @@
 #![tactic(auto)]
 
 ghost use Rattle.std.specs.Prelude.{◌≡◌, replicate};
+ghost use Rattle.rules.specs.Refusals.{number_of};
 ghost use Rattle.rules.specs.StartData.{no_range};
 
 // The lent words of marks: one pool.
@@ -37,7 +38,7 @@ pub struct Range {
     pub length: u32,
 }
 
-// Either not tracked, or tracked with a granularity and a number of ranges.
+// Either not tracked, or tracked with a granularity and a number of ranges. No Option, as document 01 names this enum.
 #[derive(Clone, Copy)]
 pub enum Tracking {
     Off,
@@ -55,15 +56,8 @@ pub struct Ring {
     pub stopped: bool,
 }
 
-// Whether a queue was made for a controller.
-#[derive(Clone, Copy)]
-pub enum Queue {
-    Nothing,
-    Is(Ring),
-}
-
 // A migratable controller. Tracked, it says which manager tracks it; its marks stand from bit `base` of the pool on, and of its ranges the first so many are in use as its
-// tracking says. Of one that is off, none of these is looked at.
+// tracking says. Of one that is off, none of these is looked at. Its queue is there once it was made.
 #[derive(Clone, Copy)]
 pub struct Controller {
     pub tracking: Tracking,
@@ -71,7 +65,7 @@ pub struct Controller {
     pub base: u16,
     pub suspended: bool,
     pub ranges: [Range; 16],
-    pub queue: Queue,
+    pub queue: Option<Ring>,
 }
 
 // Where a controller's marks lie in the pool: as many bits as it has units, from its base on. A share of no bits is nowhere.
@@ -81,14 +75,14 @@ pub struct Share {
     pub size: usize,
 }
 
-// A second managing controller (document 02, W12): none, or its identifier and its descriptor limit.
+// A managing controller beside the first (document 02, W12): its identifier and its descriptor limit.
 #[derive(Clone, Copy)]
-pub enum Second {
-    Nothing,
-    Is(u16, u16),
+pub struct Second {
+    pub id: u16,
+    pub limit: u16,
 }
 
-// The settings: the first manager and its limit, a second one, the limit over both. Of the identifiers the first `count` are in use.
+// The settings: the first manager and its limit, a second one if there is one, the limit over both. Of the identifiers the first `count` are in use.
 #[derive(Clone, Copy)]
 pub struct Settings {
     pub manager: u16,
@@ -96,28 +90,29 @@ pub struct Settings {
     pub greatest: u8,
     pub powers: bool,
     pub limit: u16,
-    pub second: Second,
+    pub second: Option<Second>,
     pub shelf: u16,
     pub count: usize,
     pub identifiers: [u16; 8],
 }
 
-// A controller's state that arrives in parts: none is under way, or one of the controller with this identifier, whose parts so far end at this byte.
+// A controller's state that arrives in parts: the identifier of its controller, and the byte at which the parts so far end.
 #[derive(Clone, Copy)]
-pub enum Sequence {
-    Nothing,
-    Open(u16, u16),
+pub struct Sequence {
+    pub owner: u16,
+    pub end: u16,
 }
 
-// The device record. The controllers stand in the order of their identifiers in the settings.
+// The device record. The controllers stand in the order of their identifiers in the settings; a sequence of parts is there while one is under way.
 #[derive(Clone, Copy)]
 pub struct Device {
     pub settings: Settings,
     pub controllers: [Controller; 8],
-    pub sequence: Sequence,
+    pub sequence: Option<Sequence>,
 }
 
-// A start structure's header: its granularity and its count of ranges, or a refusal's number and the byte where reading stopped.
+// A start structure's header: its granularity and its count of ranges, or a refusal's number and the byte where reading stopped. No Result, as document 01 names the reader's
+// enum, and the definition `header_of` with the theorems over it (`Structures`) speaks of its number and byte.
 #[derive(Clone, Copy)]
 pub enum Header {
     Is(u8, u32),
@@ -131,11 +126,103 @@ pub struct StartData {
     pub ranges: [Range; 16],
 }
 
-// What a table answers of listed ranges: a refusal's number, and the row that it is about; zeros where nothing is refused.
-#[derive(Clone, Copy)]
-pub struct Refusal {
-    pub number: u8,
+// Why something is refused, with the number that document 01 or 02 gives it.
+#[derive(Clone, Copy, Debug, PartialEq, Eq)]
+pub enum Refusal {
+    // the record is unsound, or the marks or the area have another size
+    Unsound = 1,
+    // an identifier that the settings lack
+    Unknown = 2,
+    // the controller is tracked already
+    Tracked = 3,
+    // the controller is suspended
+    Suspended = 4,
+    // the controller is not tracked, or by the other manager
+    Untracked = 5,
+    // a structure of another version
+    Version = 6,
+    // a granularity outside the settings
+    Granularity = 7,
+    // too few bytes
+    Short = 8,
+    // more to report, and no descriptor
+    Empty = 9,
+    // a length that is no power of two
+    Power = 10,
+    // more units than the pool has
+    Units = 11,
+    // past the manager's descriptor limit
+    Limit = 12,
+    // the controller is not suspended
+    Running = 13,
+    // a written range that ends past 2^64
+    PastEnd = 14,
+    // another type of suspend
+    Kind = 15,
+    // settings that break their rules
+    Settings = 16,
+    // a bad descriptor
+    Descriptor = 17,
+    // no range, or more than 16
+    Ranges = 18,
+    // a range of length 0
+    NoUnits = 19,
+    // a range off its unit
+    Unaligned = 20,
+    // a range that ends past 2^64
+    RangeEnd = 21,
+    // a batch of more than 1,024 records
+    Records = 22,
+    // another controller's sequence
+    Others = 23,
+    // an offset that is no whole dwords of the area
+    Offset = 24,
+    // an indicator, a count or data that do not fit
+    Data = 25,
+    // a part out of sequence
+    Order = 26,
+    // past the area, or no finished state
+    State = 27,
+    // no area of a queue's size
+    Area = 28,
+    // no queue was made
+    NoQueue = 29,
+    // logging has stopped
+    Stopped = 30,
+    // a file with another mark
+    Mark = 31,
+    // a file of another version
+    FileVersion = 32,
+    // an index past the last descriptor
+    Index = 33,
+    // past the shelf's descriptor limit
+    Shelf = 34,
+    // a file of another length
+    FileLength = 35,
+}
+
+impl Refusal {
+    // Its number.
+    pub fn number(self) -> u8
+        ensures { result ≡ number_of self }
+    {
+        self as u8
+    }
+}
+
+// Why listed ranges are refused, and the row that this is about, 0 where it is about them all.
+#[derive(Clone, Copy, Debug, PartialEq, Eq)]
+pub struct RowRefusal {
+    pub refusal: Refusal,
     pub row: u8,
+}
+
+impl From<Refusal> for RowRefusal {
+    ghost from_gives = { λ r at. at ≡ record { refusal = r; row = 0 } };
+
+    fn from(refusal: Refusal) -> RowRefusal {
+        RowRefusal { refusal, row: 0 }
+    }
 }
 
 // No range: zeros in all places.

@@ -3,12 +3,14 @@
 use mathlib.Core.Path.{◌≡◌, refl, sym, ap, ap₂, ◌∙◌}
 use mathlib.Core.Bool.{Bool, true, false, true≢false}
 use mathlib.Core.List.{List, [], ◌∷◌, ◌++◌, map}
-use mathlib.Core.Option.{some}
-use Prim.Native.Nat.{ℕ, zero, suc, ◌+◌, ◌-◌, ◌*◌, ◌/◌, ◌%◌, ◌≤◌, ◌<◌}
+use Rattle.std.specs.declared.option.Option.TheVariants.{Some}
+use Prim.Native.Nat.{ℕ, zero, suc, ◌+◌, ◌-◌, ◌*◌, ◌/◌, ◌≤◌, ◌<◌}
 use native.Mathlib.Numerals.{add-one}
 use native.Mathlib.Omega.{arith}
 use native.Mathlib.Decide.{dec_lt}
-use lib.ListN.{length, get_or, get_elem?, take, drop, length-append, length-take, length-drop, length-map, get_or-append, drop_of_length-le}
+use lib.ListN.{length, get_or, take, drop, length-append, length-take, length-drop, length-map, get_or-append, drop_of_length-le}
+use Rattle.std.specs.Int.{div_ceil}
+use Rattle.std.specs.List.{slice_get}
 use lib.Seq.{ext_get_or, get_or-append-add, get_or-drop, drop_at, take_all, drop-drop}
 use Rattle.bits.specs.Span.{fill}
 use Rattle.bits.specs.Share.{get_share, put_share}
@@ -83,9 +85,9 @@ clear_before-fill n from to p h k l f =
         fill-at-above false (clear_before n p) from (to - from) i false (omega arith) ∙ clear_before-above n p (omega arith) i (omega arith) ∙ sym (clear_before-above to p l i (omega arith))
 
 -- a set mark
-set_at : (p : List Bool) (i : ℕ) → get_or p i false ≡ true → get_elem? p i ≡ some true
+set_at : (p : List Bool) (i : ℕ) → get_or p i false ≡ true → slice_get p i ≡ Some true
 set_at [] i e = absurd (true≢false (sym e))
-set_at (b ∷ p) zero e = ap some e
+set_at (b ∷ p) zero e = ap Some e
 set_at (b ∷ p) (suc i) e = set_at p i e
 
 -- ---- the first element of what is left of a list
@@ -168,7 +170,7 @@ module _ (g : ℕ) (rs : List Range) (l : List Bool) (base : ℕ) (x : List ℕ)
 
     -- nothing more is pending: all n units were examined
     pub listing-done : (n : ℕ) → (pending (drop pos us) (drop pos (get_share l' base (length us))) ≡ []) × (n ≡ length us)
-        → Lists g rs l base x room j false (n / 64 + (n % 64 + 63) / 64) l' x'
+        → Lists g rs l base x room j false (div_ceil n 64) l' x'
     listing-done n e =
         record {
           count_is = sym (ap length whole ∙ exact);
@@ -188,7 +190,7 @@ module _ (g : ℕ) (rs : List Range) (l : List Bool) (base : ℕ) (x : List ℕ)
         none_stays = ap non_empty (drop_of_length-le every {i = room} (omega (arith, short, s.few)))
 
         -- rounded up
-        up : n / 64 + (n % 64 + 63) / 64 ≡ (length us + 63) / 64
+        up : div_ceil n 64 ≡ (length us + 63) / 64
         up = omega (arith, e.1)
 
         first : take j every ≡ every

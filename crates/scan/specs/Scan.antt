@@ -12,8 +12,8 @@ use Rattle.rules.specs.declared.Range.{Range}
 use Rattle.pieces.specs.Pieces.{row_of, units_left, PieceFound}
 use Rattle.scan.specs.declared.Found.{Found}
 use Rattle.scan.specs.declared.Run.{Run}
-use Rattle.scan.specs.declared.Next.{Next}
-use Rattle.scan.specs.declared.Next.TheVariants.{Is, Nothing}
+use Rattle.std.specs.declared.result.Result.{Result}
+use Rattle.std.specs.declared.result.Result.TheVariants.{Err, Ok}
 
 -- the units that are left from unit `pos` on are those from unit `unit` of a row on
 pub record Stands (g : ℕ) (rs : List Range) (row unit pos : ℕ) : Type 0 where
@@ -41,9 +41,9 @@ pub record PendingFound (g : ℕ) (rs : List Range) (p : List Bool) (pos : ℕ) 
   pub inside : f.from < piece_end f
 
 -- what the search answers: the next pending unit, or that none is from there on, with the number of all units
-abbrev pub NextIs : ℕ → List Range → List Bool → ℕ → Next → Type 0
-NextIs g rs p pos (Is f) = PendingFound g rs p pos f
-NextIs g rs p pos (Nothing n) = (pending (drop pos (units g rs)) (drop pos p) ≡ []) × (n ≡ length (units g rs))
+abbrev pub NextIs : ℕ → List Range → List Bool → ℕ → Result Found ℕ → Type 0
+NextIs g rs p pos (Ok f) = PendingFound g rs p pos f
+NextIs g rs p pos (Err n) = (pending (drop pos (units g rs)) (drop pos p) ≡ []) × (n ≡ length (units g rs))
 
 -- a pending unit whose marks stand in bits l from `base` on, in a piece that lies in memory
 pub record Begins (l : List Bool) (base g : ℕ) (f : Found) : Type 0 where
@@ -64,11 +64,6 @@ run_of g f to =
       from = f.from;
       to = to;
     }
-
--- that number
-abbrev pub units_in : Next → ℕ
-units_in (Is r) = 0
-units_in (Nothing n) = n
 
 -- what a report with room for so many runs lists and leaves, of the marks that stand in bits l from `base` on and of a buffer x
 pub record Lists (g : ℕ) (rs : List Range) (l : List Bool) (base : ℕ) (x : List ℕ) (room count : ℕ) (more : Bool) (groups : ℕ) (l' : List Bool) (x' : List ℕ) : Type 0 where

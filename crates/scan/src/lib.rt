@@ -8,9 +8,9 @@ ghost use Rattle.bits.specs.Next.{next};
 ghost use Rattle.bits.specs.Share.{Holds, get_share};
 ghost use Rattle.rules.specs.Units.{units};
 ghost use Rattle.rules.specs.Ranges.{rows_ok};
-ghost use Rattle.scan.specs.Scan.{Stands, NextIs, Begins, piece_end, run_of, units_in, Lists};
+ghost use Rattle.scan.specs.Scan.{Stands, NextIs, Begins, piece_end, run_of, Lists};
 
-use pieces::{NextPiece, Piece, Span};
+use pieces::{Piece, Span};
 use rules::{Range, Units};
 
 // A pending unit: the piece of a range that has it, the piece's own first unit, and the unit itself.
@@ -21,14 +21,8 @@ pub struct Found {
     pub from: usize,
 }
 
-// The next pending unit, or that there is none, with the number of all units.
-#[derive(Clone, Copy)]
-pub enum Next {
-    Is(Found),
-    Nothing(usize),
-}
-
-// The next pending unit from unit `pos` on, which is, or comes next after, unit `unit` of a row's range. No mark behind its word is read.
+// The next pending unit from unit `pos` on, which is, or comes next after, unit `unit` of a row's range; where there is none, the number of all units.
+// No mark behind its word is read.
 fn next_pending(
     marks: &[u64],
     base: usize,
@@ -38,27 +32,24 @@ fn next_pending(
     row: usize,
     unit: Units,
     pos: usize,
-) -> Next
+) -> Result<Found, usize>
     requires { (g ≤ 20) × (n ≤ 16) × (rows_ok g (take n ranges) ≡ true) × Holds marks.now base (length (units g (take n ranges))) × Stands g (take n ranges) row unit.0 pos }
     ensures { NextIs g (take n ranges) (get_share (flat marks.now) base (length (units g (take n ranges)))) pos result }
 {
     let mut i = row;
     let mut u = unit;
     let mut at = pos;
-    loop {
-        let NextPiece::Is(piece) = pieces::next_piece(g, n, ranges, i, u) else {
-            return Next::Nothing(at);
-        };
-        let r = piece.range;
-        let end = at + r.length as usize;
+    while let Some(piece) = pieces::next_piece(g, n, ranges, i, u) {
+        let end = at + piece.range.length as usize;
         let from = bits::next_set(marks, base + at, base + end) - base;
         if from < end {
-            return Next::Is(Found { piece, at, from });
+            return Ok(Found { piece, at, from });
         }
         i = piece.row;
         u = piece.next;
         at = end;
     }
+    Err(at)
 }
 
 // A run: its row, the unit of the row's range just past it, itself as a range, its own first unit and the unit just past it.
@@ -77,28 +68,17 @@ fn run_from(marks: &[u64], base: usize, g: u8, f: Found) -> Run
     ensures { result ≡ run_of g f (next false (flat marks.now) (base + f.from) (base + piece_end f) - base) }
 {
     let piece = f.piece;
-    let r = piece.range;
-    let end = f.at + r.length as usize;
+    let end = f.at + piece.range.length as usize;
     let to = bits::next_clear(marks, base + f.from, base + end) - base;
     let a = Units((f.from - f.at) as u64);
     let e = Units((to - f.at) as u64);
-    let range = pieces::part(g, r, Span { from: a, to: e });
+    let range = pieces::part(g, piece.range, Span { from: a, to: e });
     Run {
         row: piece.row,
         next: Units(piece.next.0 - (end - to) as u64),
         range,
         from: f.from,
         to,
-    }
-}
-
-// The number of all units, of a search that found no run.
-fn units_in(next: Next) -> usize
-    ensures { result ≡ units_in next }
-{
-    match next {
-        Next::Is(_) => 0,
-        Next::Nothing(total) => total,
     }
 }
 
@@ -130,19 +110,19 @@ pub fn list_runs(
     let mut unit = Units(0);
     let mut pos: usize = 0;
     loop {
-        let next = next_pending(marks, base, g, n, ranges, row, unit, pos);
-        let Next::Is(found) = next else {
-            let total = units_in(next);
-            // all groups: the total divided by 64, rounded up, with no sum above 64 bits
-            return Listed {
-                runs: runs,
-                more: false,
-                groups: total / 64 + (total % 64 + 63) / 64,
-            };
+        let found = match next_pending(marks, base, g, n, ranges, row, unit, pos) {
+            Ok(found) => found,
+            Err(total) => {
+                return Listed {
+                    runs,
+                    more: false,
+                    groups: total.div_ceil(64),
+                };
+            }
         };
         if runs == room {
             return Listed {
-                runs: runs,
+                runs,
                 more: true,
                 groups: found.from / 64 + 1,
             };
@@ -150,11 +130,9 @@ pub fn list_runs(
         let run = run_from(marks, base, g, found);
         row = run.row;
         unit = run.next;
-        let r = run.range;
-        let from = run.from;
         pos = run.to;
-        bits::clear_span(marks, base + from, base + pos);
-        report_data::put_descriptor(buffer, 16 + 16 * runs, r.start, r.length);
+        bits::clear_span(marks, base + run.from, base + pos);
+        report_data::put_descriptor(buffer, 16 + 16 * runs, run.range.start, run.range.length);
         runs += 1;
     }
 }

@@ -6,35 +6,19 @@ ghost use Rattle.std.specs.Prelude.{◌≡◌, ◌≤◌, min, drop};
 ghost use Rattle.rules.specs.Lists.{different, member, every};
 ghost use Rattle.rules.specs.Settings.{identifiers_of, second_rules, settings_ok, is_manager, second_limit, limit_of, place_of, granularity_ok};
 ghost use Rattle.rules.specs.Device.{cleaned, closed_settings};
-ghost use Rattle.settings.specs.Found.{found_at};
 
 use rules::{Second, Settings};
 
-// What a search for an identifier finds.
-#[derive(Clone, Copy)]
-pub enum Found {
-    At(usize),
-    Nothing,
-}
-
-// How many identifiers there are: as many as the settings count, and at most 8.
-fn listed(count: usize) -> usize
-    ensures { result ≡ min count 8 }
-{
-    if count < 8 { count } else { 8 }
-}
-
 // Where an identifier stands in the settings: the earliest place, or nothing.
-pub fn find(s: Settings, id: u16) -> Found
-    ensures { result ≡ found_at (place_of s id) }
+pub fn find(s: Settings, id: u16) -> Option<usize>
+    ensures { result ≡ place_of s id }
 {
-    let n = listed(s.count);
-    for i in 0..n {
+    for i in 0..s.count.min(8) {
         if s.identifiers[i] == id {
-            return Found::At(i);
+            return Some(i);
         }
     }
-    Found::Nothing
+    None
 }
 
 // Whether `x` is among the identifiers from a place on.
@@ -70,72 +54,39 @@ fn second_ok(s: Settings) -> bool
     requires { s.count ≤ 8 }
     ensures { result ≡ every (second_rules s s.second) }
 {
-    let second = s.second;
-    let Second::Is(id, limit) = second else {
+    let Some(two) = s.second else {
         return true;
     };
-    if id == s.manager {
-        return false;
-    }
-    if limit > 128 {
-        return false;
-    }
-    !among(s, id, 0)
+    two.id != s.manager && two.limit <= 128 && !among(s, two.id, 0)
 }
 
 // Whether settings pass 16. The cheap rules are asked first; which one is broken makes no difference.
 pub fn settings_ok(s: Settings) -> bool
     ensures { result ≡ settings_ok s }
 {
-    if s.count < 1 {
-        return false;
-    }
-    if s.count > 8 {
-        return false;
-    }
-    if s.least > s.greatest {
-        return false;
-    }
-    if s.greatest > 20 {
-        return false;
-    }
-    if s.limit > 128 {
-        return false;
-    }
-    if s.shelf > 128 {
-        return false;
-    }
-    if !second_ok(s) {
-        return false;
-    }
-    if among(s, s.manager, 0) {
-        return false;
-    }
-    all_different(s)
+    1 <= s.count
+        && s.count <= 8
+        && s.least <= s.greatest
+        && s.greatest <= 20
+        && s.limit <= 128
+        && s.shelf <= 128
+        && second_ok(s)
+        && !among(s, s.manager, 0)
+        && all_different(s)
 }
 
 // Whether an identifier is a manager's.
 pub fn is_manager(s: Settings, m: u16) -> bool
     ensures { result ≡ is_manager s m }
 {
-    if m == s.manager {
-        return true;
-    }
-    let second = s.second;
-    let Second::Is(id, _) = second else {
-        return false;
-    };
-    id == m
+    m == s.manager || s.second.is_some_and(|two| two.id == m)
 }
 
 // The limit of a second manager, 0 where there is none.
-pub fn second_limit(second: Second) -> u16
+pub fn second_limit(second: Option<Second>) -> u16
     ensures { result ≡ second_limit second }
 {
-    match second {
-        Second::Nothing => 0,
-        Second::Is(_, limit) => limit,
-    }
+    second.map_or(0, |two| two.limit)
 }
 
 // The limit of a manager.
@@ -143,34 +94,30 @@ pub fn limit_of(s: Settings, m: u16) -> u16
     ensures { result ≡ limit_of s m }
 {
     if m == s.manager {
-        return s.limit;
+        s.limit
+    } else {
+        second_limit(s.second)
     }
-    let second = s.second;
-    second_limit(second)
 }
 
 // Whether a granularity passes 7: not below the settings' least, and not above their greatest.
 pub fn granularity_ok(s: Settings, g: u8) -> bool
     ensures { result ≡ granularity_ok s g }
 {
-    if g < s.least {
-        return false;
-    }
-    g <= s.greatest
+    s.least <= g && g <= s.greatest
 }
 
 // No settings: zeros in all fields.
 pub fn no_settings() -> Settings
     ensures { result ≡ closed_settings }
 {
-    let second = Second::Nothing;
     Settings {
         manager: 0,
         least: 0,
         greatest: 0,
         powers: false,
         limit: 0,
-        second,
+        second: None,
         shelf: 0,
         count: 0,
         identifiers: [0; 8],
@@ -183,10 +130,6 @@ pub fn clean(s: Settings) -> Settings
     ensures { result ≡ cleaned s }
 {
     let mut t = s;
-    let mut i = s.count;
-    while i < 8 {
-        t.identifiers[i] = 0;
-        i += 1;
-    }
+    t.identifiers[s.count..].fill(0);
     t
 }

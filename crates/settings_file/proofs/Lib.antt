@@ -1,5 +1,4 @@
 mod FieldLaws
-mod Cases
 pub mod ReaderLaws
 pub mod RoundTrip
 pub mod Refused

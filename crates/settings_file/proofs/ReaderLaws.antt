@@ -12,7 +12,7 @@ use Rattle.rules.specs.Lists.{every}
 use Rattle.rules.specs.Refusals.{refusal}
 use Rattle.rules.specs.Settings.{settings_ok}
 use Rattle.rules.specs.Device.{closed_settings}
-use Rattle.rules.specs.declared.Second.TheVariants.{Nothing}
+use Rattle.std.specs.declared.option.Option.TheVariants.{None}
 use Rattle.rules.proofs.ListLaws.{every-at, and_right}
 use Rattle.rules.proofs.RefusalLaws.{Passed, verdict-map, verdict-passed, passes-Passed, refusal-none}
 use Rattle.settings_file.specs.File.{file_size, mark, mark_rules, mark_ok, version_in, rule_in, second_in, shelf_in, settings_in, spare_ok, plain_rules, known_version, read_tests, read_up_to, old_read, new_read}
@@ -108,7 +108,7 @@ same : (x : List ℕ) → version_in x ≡ 1 → new_read x ≡ old_read x
 unfolding read_up_to
 same x e = rw e
 
-one : (x : List ℕ) → version_in x ≡ 1 → (new_read x).number ≡ 0 → ((new_read x).settings.second ≡ Nothing) × ((new_read x).settings.shelf ≡ 128)
+one : (x : List ℕ) → version_in x ≡ 1 → (new_read x).number ≡ 0 → ((new_read x).settings.second ≡ None) × ((new_read x).settings.shelf ≡ 128)
 unfolding second_in shelf_in
 one x e h = rw ((accepted x h).read, e) (refl, refl)
 

@@ -20,7 +20,8 @@ use Rattle.rules.specs.Settings.{settings_ok, second_limit}
 use Rattle.rules.specs.Device.{cleaned}
 use Rattle.rules.specs.Demands.{Bytes}
 use Rattle.rules.specs.declared.Second.{Second}
-use Rattle.rules.specs.declared.Second.TheVariants.{Nothing, Is}
+use Rattle.std.specs.declared.option.Option.{Option}
+use Rattle.std.specs.declared.option.Option.TheVariants.{None, Some}
 use Rattle.rules.specs.declared.Settings.{Settings}
 use Rattle.rules.proofs.SoundLaws.{cleaned-ok}
 use Rattle.rules.proofs.RefusalLaws.{Passed, passes-Passed, refusal-none}
@@ -66,7 +67,7 @@ module _ (manager id limit : ℕ) where
   unfolding second_of
   place-back = go (eqb id manager) refl (eqb limit 0)
     where
-      go : (t : Bool) → eqb id manager ≡ t → (u : Bool) → second_place manager (cond (t && u) Nothing (Is id limit)) ≡ id
+      go : (t : Bool) → eqb id manager ≡ t → (u : Bool) → second_place manager (cond (t && u) None (Some (record { id = id; limit = limit }))) ≡ id
       go true e true = sym (eqb-true id manager e)
       go true e false = refl
       go false e u = refl
@@ -75,7 +76,7 @@ module _ (manager id limit : ℕ) where
   unfolding second_of
   limit-back = go (eqb id manager) (eqb limit 0) refl
     where
-      go : (t u : Bool) → eqb limit 0 ≡ u → second_limit (cond (t && u) Nothing (Is id limit)) ≡ limit
+      go : (t u : Bool) → eqb limit 0 ≡ u → second_limit (cond (t && u) None (Some (record { id = id; limit = limit }))) ≡ limit
       go true true e = sym (eqb-true limit 0 e)
       go true false e = refl
       go false u e = refl
@@ -281,16 +282,16 @@ module _ (s : Settings) (ok : settings_ok s ≡ true) where
   unfolding second_of
   second-told = go s.second refl
     where
-      go : (m : Second) → s.second ≡ m → second_of s.manager (second_place s.manager m) (second_limit m) ≡ m
-      go Nothing e = rw (eq-eqb s.manager s.manager refl)
-      go (Is id limit) e = rw (ne_eqb id s.manager (settings_ok-other s id limit ok e).0)
+      go : (m : Option Second) → s.second ≡ m → second_of s.manager (second_place s.manager m) (second_limit m) ≡ m
+      go None e = rw (eq-eqb s.manager s.manager refl)
+      go (Some two) e = rw (ne_eqb two.id s.manager (settings_ok-other s two ok e).0)
 
   second-limit : second_limit s.second ≤ 128
   second-limit = go s.second refl
     where
-      go : (m : Second) → s.second ≡ m → second_limit m ≤ 128
-      go Nothing e = omega arith
-      go (Is id limit) e = (settings_ok-other s id limit ok e).2
+      go : (m : Option Second) → s.second ≡ m → second_limit m ≤ 128
+      go None e = omega arith
+      go (Some two) e = (settings_ok-other s two ok e).2
 
 module _ (v : ℕ) (s : Settings) (fit : Fits s) (ok : settings_ok s ≡ true) where
   abbrev more : List ℕ
@@ -344,9 +345,9 @@ module _ (v : ℕ) (s : Settings) (fit : Fits s) (ok : settings_ok s ≡ true) w
     place_here : number_at (file_bytes v s) 29 2 ≡ second_place s.manager s.second
     place_here = number_at-here (file_bytes v s) 29 2 _ _ after-head (place-small s.second refl)
       where
-        place-small : (m : Second) → s.second ≡ m → second_place s.manager m < 2 ^ 16
-        place-small Nothing e = fit.manager
-        place-small (Is id limit) e = fit.second id limit e
+        place-small : (m : Option Second) → s.second ≡ m → second_place s.manager m < 2 ^ 16
+        place-small None e = fit.manager
+        place-small (Some two) e = fit.second two.id two.limit e
 
     limit-here : number_at (file_bytes v s) 31 2 ≡ second_limit s.second
     limit-here = number_at-here (file_bytes v s) 31 2 _ _ after-place (omega (arith, second-limit s ok))
@@ -369,7 +370,7 @@ module _ (v : ℕ) (s : Settings) (fit : Fits s) (ok : settings_ok s ≡ true) w
         go true e = inl (eqb-true v 1 e)
         go false e = inr (eqb-true v 2 (rw e at can))
 
-    alone : v ≡ 1 → (s.second ≡ Nothing) × (s.shelf ≡ 128)
+    alone : v ≡ 1 → (s.second ≡ None) × (s.shelf ≡ 128)
     alone one = (holds-one s).0 (rw one at can)
 
     second-here : second_in v (file_bytes v s) ≡ s.second
@@ -442,14 +443,16 @@ identifiers-small x b = go 13 8
     go at (suc n) zero = number_at-bound x b at 2
     go at (suc n) (suc i) = go (at + 2) n i
 
-second-small : (v : ℕ) (x : List ℕ) → Bytes x → (id limit : ℕ) → second_in v x ≡ Is id limit → id < 2 ^ 16
+second-small : (v : ℕ) (x : List ℕ) → Bytes x → (id limit : ℕ) → second_in v x ≡ Some (record { id = id; limit = limit }) → id < 2 ^ 16
 unfolding second_in second_of
 second-small v x b id limit = go (eqb v 1) (eqb (number_at x 29 2) (number_at x 5 2) && eqb (number_at x 31 2) 0)
   where
-    go : (t u : Bool) → cond t Nothing (cond u Nothing (Is (number_at x 29 2) (number_at x 31 2))) ≡ Is id limit → id < 2 ^ 16
+    go : (t u : Bool) → cond {A = Option Second} t None (cond {A = Option Second} u None (Some (record { id = number_at x 29 2; limit = number_at x 31 2 }))) ≡ Some (record { id = id; limit = limit }) → id < 2 ^ 16
     go true u e = let z : ◌≡◌ {A = ℕ} 0 1 = cc in absurd (omega arith)
     go false true e = let z : ◌≡◌ {A = ℕ} 0 1 = cc in absurd (omega arith)
-    go false false e = let z : number_at x 29 2 ≡ id = cc in omega (arith, number_at-bound x b 29 2, z)
+    go false false e =
+        let z : ◌≡◌ {A = Second} (record { id = number_at x 29 2; limit = number_at x 31 2 }) (record { id = id; limit = limit }) = cc in
+        omega (arith, number_at-bound x b 29 2, ap (λ (two : Second). two.id) z)
 
 read_fits : (v : ℕ) (x : List ℕ) → Bytes x → Fits (settings_in v x)
 read_fits v x b =
@@ -473,7 +476,7 @@ pub begins : Begins
 unfolding number_at
 begins = record { mark = refl; version = λ x. omega arith; one = refl; two = refl }
 
-module _ (x : List ℕ) (m : Second) (e : second_in 2 x ≡ m) where
+module _ (x : List ℕ) (m : Option Second) (e : second_in 2 x ≡ m) where
   laid-place : number_at x 29 2 ≡ second_place (number_at x 5 2) m
   unfolding second_in
   laid-place = sym (place-back (number_at x 5 2) (number_at x 29 2) (number_at x 31 2)) ∙ ap (second_place (number_at x 5 2)) e
@@ -493,8 +496,8 @@ laid-at v x e a =
       limit = refl;
       count = refl;
       identifiers = λ i h. sym (records_at-at identifier_at 2 x 13 8 i 0 h);
-      none = λ two. let k : v ≡ 2 = sym e ∙ two in rw k (λ q. (laid-place x Nothing q, laid-limit x Nothing q));
-      second = λ two. let k : v ≡ 2 = sym e ∙ two in rw k (λ id limit q. (laid-place x (Is id limit) q, laid-limit x (Is id limit) q));
+      none = λ two. let k : v ≡ 2 = sym e ∙ two in rw k (λ q. (laid-place x None q, laid-limit x None q));
+      second = λ two. let k : v ≡ 2 = sym e ∙ two in rw k (λ id limit q. (laid-place x (Some (record { id = id; limit = limit })) q, laid-limit x (Some (record { id = id; limit = limit })) q));
       shelf = λ two. let k : v ≡ 2 = sym e ∙ two in rw k;
     }
 

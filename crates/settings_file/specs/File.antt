@@ -8,7 +8,8 @@ use Rattle.rules.specs.Refusals.{Test, ◌else◌, verdict}
 use Rattle.rules.specs.Settings.{settings_ok, managers_of, second_limit}
 use Rattle.rules.specs.Device.{cleaned, closed_settings}
 use Rattle.rules.specs.declared.Second.{Second}
-use Rattle.rules.specs.declared.Second.TheVariants.{Nothing, Is}
+use Rattle.std.specs.declared.option.Option.{Option}
+use Rattle.std.specs.declared.option.Option.TheVariants.{None, Some}
 use Rattle.rules.specs.declared.Settings.{Settings}
 use Rattle.settings_file.specs.declared.Read.{Read}
 
@@ -43,17 +44,17 @@ abbrev pub identifiers_in : List ℕ → List ℕ
 identifiers_in x = records_at identifier_at 2 x 13 8
 
 -- the second manager that an identifier and a limit stand for: the first manager again, with the limit 0, for none
-unfoldable pub second_of : ℕ → ℕ → ℕ → Second
-second_of manager id limit = cond (eqb id manager && eqb limit 0) Nothing (Is id limit)
+unfoldable pub second_of : ℕ → ℕ → ℕ → Option Second
+second_of manager id limit = cond (eqb id manager && eqb limit 0) None (Some (record { id = id; limit = limit }))
 
 -- and the identifier that stands for it; the limit is `second_limit`
-abbrev pub second_place : ℕ → Second → ℕ
-second_place manager Nothing = manager
-second_place manager (Is id limit) = id
+abbrev pub second_place : ℕ → Option Second → ℕ
+second_place manager None = manager
+second_place manager (Some two) = two.id
 
 -- a file of version 1 has one manager, and the shelf's limit 128
-unfoldable pub second_in : ℕ → List ℕ → Second
-second_in v x = cond (eqb v 1) Nothing (second_of (number_at x 5 2) (number_at x 29 2) (number_at x 31 2))
+unfoldable pub second_in : ℕ → List ℕ → Option Second
+second_in v x = cond (eqb v 1) None (second_of (number_at x 5 2) (number_at x 29 2) (number_at x 31 2))
 
 unfoldable pub shelf_in : ℕ → List ℕ → ℕ
 shelf_in v x = cond (eqb v 1) 128 (number_at x 33 2)

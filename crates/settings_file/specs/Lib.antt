@@ -1,3 +1,4 @@
 pub mod File
+pub mod Inner
 pub mod Statements
 pub mod Worked

@@ -5,14 +5,14 @@ use Rattle.rules.specs.Demands.{Bytes}
 use Rattle.rules.specs.Refusals.{refusal}
 use Rattle.rules.specs.Settings.{settings_ok}
 use Rattle.rules.specs.Device.{cleaned, closed_settings}
-use Rattle.rules.specs.declared.Second.TheVariants.{Nothing, Is}
+use Rattle.std.specs.declared.option.Option.TheVariants.{None, Some}
 use Rattle.rules.specs.declared.Settings.{Settings}
 use Rattle.settings_file.specs.File.{file_size, mark, version_in, old_read, new_read, holds, write_tests, file_written}
 
 -- what the code's types hold: identifiers of 16 bits, 8 places for them
 pub record Fits (s : Settings) : Type 0 where
   pub manager : s.manager < 2 ^ 16
-  pub second : (id limit : ℕ) → s.second ≡ Is id limit → id < 2 ^ 16
+  pub second : (id limit : ℕ) → s.second ≡ Some (record { id = id; limit = limit }) → id < 2 ^ 16
   pub places : length s.identifiers ≡ 8
   pub identifiers : (i : ℕ) → get_or s.identifiers i 0 < 2 ^ 16
 
@@ -33,8 +33,8 @@ pub record Laid (x : List ℕ) (s : Settings) : Type 0 where
   pub count : number_at x 12 1 ≡ s.count
   pub identifiers : (i : ℕ) → i < 8 → number_at x (13 + 2 * i) 2 ≡ get_or s.identifiers i 0
   -- version 2: none is the first manager again with limit 0
-  pub none : version_in x ≡ 2 → s.second ≡ Nothing → (number_at x 29 2 ≡ s.manager) × (number_at x 31 2 ≡ 0)
-  pub second : version_in x ≡ 2 → (id limit : ℕ) → s.second ≡ Is id limit → (number_at x 29 2 ≡ id) × (number_at x 31 2 ≡ limit)
+  pub none : version_in x ≡ 2 → s.second ≡ None → (number_at x 29 2 ≡ s.manager) × (number_at x 31 2 ≡ 0)
+  pub second : version_in x ≡ 2 → (id limit : ℕ) → s.second ≡ Some (record { id = id; limit = limit }) → (number_at x 29 2 ≡ id) × (number_at x 31 2 ≡ limit)
   pub shelf : version_in x ≡ 2 → number_at x 33 2 ≡ s.shelf
 
 -- each accepted file is laid out so
@@ -63,7 +63,7 @@ pub record Writer : Type 0 where
   pub version : (size v : ℕ) (s : Settings) → settings_ok s ≡ true → holds v s ≡ false → refusal (write_tests size v s) ≡ 32
   pub short : (size v : ℕ) (s : Settings) → settings_ok s ≡ true → holds v s ≡ true → size < file_size v → refusal (write_tests size v s) ≡ 8
   pub done : (size v : ℕ) (s : Settings) → settings_ok s ≡ true → holds v s ≡ true → file_size v ≤ size → refusal (write_tests size v s) ≡ 0
-  pub one : (s : Settings) → (holds 1 s ≡ true) ↔ ((s.second ≡ Nothing) × (s.shelf ≡ 128))
+  pub one : (s : Settings) → (holds 1 s ≡ true) ↔ ((s.second ≡ None) × (s.shelf ≡ 128))
   pub two : (s : Settings) → holds 2 s ≡ true
   pub other : (v : ℕ) (s : Settings) → v ≢ 1 → v ≢ 2 → holds v s ≡ false
   -- a refused one changes no byte, and a done one none after the file
@@ -89,6 +89,6 @@ pub record OneEncoding : Type 0 where
 pub record BothReaders : Type 0 where
   -- a file of version 1 means the same to both readers: they refuse it with one number, or take it with one manager and the shelf limit 128
   pub same : (x : List ℕ) → version_in x ≡ 1 → new_read x ≡ old_read x
-  pub one : (x : List ℕ) → version_in x ≡ 1 → (new_read x).number ≡ 0 → ((new_read x).settings.second ≡ Nothing) × ((new_read x).settings.shelf ≡ 128)
+  pub one : (x : List ℕ) → version_in x ≡ 1 → (new_read x).number ≡ 0 → ((new_read x).settings.second ≡ None) × ((new_read x).settings.shelf ≡ 128)
   -- every file of version 2, and all else that begins like one, is refused by the old reader with 32
   pub version_two : (x : List ℕ) → 5 ≤ length x → take 3 x ≡ mark → version_in x ≡ 2 → old_read x ≡ record { number = 32; settings = closed_settings }

@@ -1,7 +1,7 @@
 -- Worked numbers of the settings file: files with what both readers answer, and settings with the bytes of their files. That the definitions give these
 -- answers is a claim for each, `Worked`, proved by computing (proofs/Theorems.antt).
 use Rattle.std.specs.Prelude.{ℕ, true, false, ◌≡◌, List, [], ◌∷◌, ◌++◌, map, take, set, replicate}
-use Rattle.rules.specs.declared.Second.TheVariants.{Nothing, Is}
+use Rattle.std.specs.declared.option.Option.TheVariants.{None, Some}
 use Rattle.rules.specs.declared.Settings.{Settings}
 use Rattle.settings_file.specs.File.{old_read, new_read, file_bytes}
 
@@ -9,11 +9,11 @@ use Rattle.settings_file.specs.File.{old_read, new_read, file_bytes}
 
 -- `dev 1 0 8 0 16 5 6`
 abbrev pub alone56 : Settings
-alone56 = record { manager = 1; least = 0; greatest = 8; powers = false; limit = 16; second = Nothing; shelf = 128; count = 2; identifiers = 5 ∷ 6 ∷ replicate 6 0 }
+alone56 = record { manager = 1; least = 0; greatest = 8; powers = false; limit = 16; second = None; shelf = 128; count = 2; identifiers = 5 ∷ 6 ∷ replicate 6 0 }
 
 -- managers 1 (limit 16) and 2 (limit 4), shelf limit 18, controllers 5, 6 and 7
 abbrev pub both567 : Settings
-both567 = record { manager = 1; least = 0; greatest = 8; powers = false; limit = 16; second = Is 2 4; shelf = 18; count = 3; identifiers = 5 ∷ 6 ∷ 7 ∷ replicate 5 0 }
+both567 = record { manager = 1; least = 0; greatest = 8; powers = false; limit = 16; second = Some (record { id = 2; limit = 4 }); shelf = 18; count = 3; identifiers = 5 ∷ 6 ∷ 7 ∷ replicate 5 0 }
 
 -- the file of `alone56` at version 1, at version 2, and that of `both567` at version 2
 abbrev pub alone_one : List ℕ
@@ -34,7 +34,7 @@ full =
       greatest = 4;
       powers = true;
       limit = 5;
-      second = Is 0x1716 24;
+      second = Some (record { id = 0x1716; limit = 24 });
       shelf = 25;
       count = 8;
       identifiers = 0x0706 ∷ 0x0908 ∷ 0x0b0a ∷ 0x0d0c ∷ 0x0f0e ∷ 0x1110 ∷ 0x1312 ∷ 0x1514 ∷ [];

@@ -5,13 +5,14 @@
 ghost use Rattle.std.specs.Prelude.{◌≡◌, cond, ◌≤◌, length};
 ghost use Rattle.little.specs.Little.{put, records};
 ghost use Rattle.rules.specs.Lists.{every};
-ghost use Rattle.rules.specs.Refusals.{refusal};
-ghost use Rattle.rules.specs.Device.{closed_settings};
+ghost use Rattle.rules.specs.Refusals.{refusal, refused_by};
 ghost use Rattle.settings_file.specs.File.{file_size, mark, mark_ok, known_version, identifiers_in, second_of, second_place, second_in, shelf_in, settings_in, spare_ok, plain_rules, read_up_to, old_read, new_read, identifier_bytes, numbers_bytes, head_bytes, second_bytes, file_bytes, holds, write_tests, file_written};
+ghost use Rattle.settings_file.specs.Inner.{read_of};
 
-use rules::{Second, Settings};
+use rules::{Refusal, Second, Settings};
 
-// What a reader answers: a refusal's number, or 0 and the settings.
+// What a reader answers: a refusal's number, or 0 and the settings. No Result, as the theorems of crates/demands/specs/SettingsFile.antt speak of these fields; inside it is one
+// (`try_read`).
 #[derive(Clone, Copy)]
 pub struct Read {
     pub number: u8,
@@ -21,36 +22,42 @@ pub struct Read {
 // ---- a second manager in two numbers
 
 // The second manager that an identifier and a limit stand for: the first manager again, with the limit 0, for none.
-pub fn second_of(manager: u16, id: u16, limit: u16) -> Second
+#[tactic(auto, unfolding(crate::specs::File::second_of))]
+pub fn second_of(manager: u16, id: u16, limit: u16) -> Option<Second>
     ensures { result ≡ second_of manager id limit }
 {
-    if id != manager {
-        return Second::Is(id, limit);
+    if id == manager && limit == 0 {
+        None
+    } else {
+        Some(Second { id, limit })
     }
-    if limit != 0 {
-        return Second::Is(id, limit);
-    }
-    Second::Nothing
 }
 
 // The identifier that stands for a second manager. (Its limit is `settings::second_limit`.)
-pub fn second_place(manager: u16, second: Second) -> u16
+pub fn second_place(manager: u16, second: Option<Second>) -> u16
     ensures { result ≡ second_place manager second }
 {
-    match second {
-        Second::Nothing => manager,
-        Second::Is(id, _) => id,
-    }
+    second.map_or(manager, |two| two.id)
 }
 
 // ---- reading
 
-// What a reader answers with a refusal.
-fn refuse(number: u8) -> Read
-    ensures { result ≡ record { number = number; settings = closed_settings } }
-{
-    let settings = settings::no_settings();
-    Read { number, settings }
+// What a reader answers: the settings, or a refusal, which comes with zeros in all fields.
+impl From<Result<Settings, Refusal>> for Read {
+    ghost from_gives = { λ found read. read ≡ read_of found };
+
+    fn from(found: Result<Settings, Refusal>) -> Read {
+        match found {
+            Ok(settings) => Read {
+                number: 0,
+                settings,
+            },
+            Err(refusal) => Read {
+                number: refusal.number(),
+                settings: settings::no_settings(),
+            },
+        }
+    }
 }
 
 // Whether the file begins with the mark `TRK`.
@@ -58,23 +65,14 @@ fn marked(file: &[u8]) -> bool
     requires { 5 ≤ length file.now }
     ensures { result ≡ mark_ok file.now }
 {
-    if file[0] != b'T' {
-        return false;
-    }
-    if file[1] != b'R' {
-        return false;
-    }
-    file[2] == b'K'
+    file.starts_with(b"TRK")
 }
 
 // Whether a version is one of 1 to `last`.
 fn known(version: u16, last: u16) -> bool
     ensures { result ≡ known_version last version }
 {
-    if version < 1 {
-        return false;
-    }
-    version <= last
+    1 <= version && version <= last
 }
 
 // The bytes of a file of this version.
@@ -89,30 +87,26 @@ fn read_identifiers(file: &[u8]) -> [u16; 8]
     requires { 29 ≤ length file.now }
     ensures { result ≡ identifiers_in file.now }
 {
-    let mut a = [0; 8];
-    let mut i: usize = 0;
-    while i < 8 {
-        a[i] = little::read_u16(file, 13 + 2 * i);
-        i = i + 1;
-    }
-    a
+    std::array::from_fn(|i| little::read::<u16>(file, 13 + 2 * i))
 }
 
 // The second manager of a file of this version.
-fn read_second(file: &[u8], version: u16) -> Second
+#[tactic(auto, unfolding(crate::specs::File::second_in))]
+fn read_second(file: &[u8], version: u16) -> Option<Second>
     requires { file_size version ≤ length file.now }
     ensures { result ≡ second_in version file.now }
 {
     if version == 1 {
-        return Second::Nothing;
+        return None;
     }
-    let manager = little::read_u16(file, 5);
-    let id = little::read_u16(file, 29);
-    let limit = little::read_u16(file, 31);
+    let manager = little::read::<u16>(file, 5);
+    let id = little::read::<u16>(file, 29);
+    let limit = little::read::<u16>(file, 31);
     second_of(manager, id, limit)
 }
 
 // The shelf's limit in a file of this version.
+#[tactic(auto, unfolding(crate::specs::File::shelf_in))]
 fn read_shelf(file: &[u8], version: u16) -> u16
     requires { file_size version ≤ length file.now }
     ensures { result ≡ shelf_in version file.now }
@@ -120,7 +114,7 @@ fn read_shelf(file: &[u8], version: u16) -> u16
     if version == 1 {
         return 128;
     }
-    little::read_u16(file, 33)
+    little::read::<u16>(file, 33)
 }
 
 // The settings of a file of this version.
@@ -128,15 +122,15 @@ fn read_settings(file: &[u8], version: u16) -> Settings
     requires { (29 ≤ length file.now) × (file_size version ≤ length file.now) }
     ensures { result ≡ settings_in version file.now }
 {
-    let manager = little::read_u16(file, 5);
-    let least = little::read_u8(file, 7);
-    let greatest = little::read_u8(file, 8);
-    let rule = little::read_u8(file, 9);
+    let manager = little::read::<u16>(file, 5);
+    let least = little::read::<u8>(file, 7);
+    let greatest = little::read::<u8>(file, 8);
+    let rule = little::read::<u8>(file, 9);
     let powers = rule == 1;
-    let limit = little::read_u16(file, 10);
+    let limit = little::read::<u16>(file, 10);
     let second = read_second(file, version);
     let shelf = read_shelf(file, version);
-    let count = little::read_u8(file, 12) as usize;
+    let count = little::read::<u8>(file, 12) as usize;
     let identifiers = read_identifiers(file);
     Settings {
         manager,
@@ -155,14 +149,7 @@ fn read_settings(file: &[u8], version: u16) -> Settings
 fn spare_ok(s: Settings) -> bool
     ensures { result ≡ spare_ok s }
 {
-    let mut i = s.count;
-    while i < 8 {
-        if s.identifiers[i] != 0 {
-            return false;
-        }
-        i = i + 1;
-    }
-    true
+    s.identifiers.iter().skip(s.count).all(|id| *id == 0)
 }
 
 // Whether a file has its settings in their one encoding: the rule's byte is 0 or 1, and spare places hold zeros.
@@ -170,41 +157,33 @@ fn plain(file: &[u8], s: Settings) -> bool
     requires { 29 ≤ length file.now }
     ensures { result ≡ every (plain_rules file.now s) }
 {
-    if 1 < little::read_u8(file, 9) {
-        return false;
-    }
-    spare_ok(s)
+    little::read::<u8>(file, 9) <= 1 && spare_ok(s)
 }
 
 // The settings of a file of a version up to `last`. Refused, in this order: 35 fewer than 5 bytes, 31 another mark, 32 another version, 35 another length than the
-// version's, 16 settings that break the rules or are not in their one encoding. A refusal comes with zeros in all fields.
-fn read_up_to(file: &[u8], last: u16) -> Read
-    ensures { result ≡ read_up_to last file.now }
+// version's, 16 settings that break the rules or are not in their one encoding.
+#[tactic(auto, unfolding(crate::specs::File::read_up_to))]
+fn try_read(file: &[u8], last: u16) -> Result<Settings, Refusal>
+    ensures { read_of result ≡ read_up_to last file.now }
 {
     if file.len() < 5 {
-        return refuse(35);
+        return Err(Refusal::FileLength);
     }
     if !marked(file) {
-        return refuse(31);
+        return Err(Refusal::Mark);
     }
-    let version = little::read_u16(file, 3);
+    let version = little::read::<u16>(file, 3);
     if !known(version, last) {
-        return refuse(32);
+        return Err(Refusal::FileVersion);
     }
     if file.len() != file_size(version) {
-        return refuse(35);
+        return Err(Refusal::FileLength);
     }
     let settings = read_settings(file, version);
-    if !plain(file, settings) {
-        return refuse(16);
+    if !plain(file, settings) || !settings::settings_ok(settings) {
+        return Err(Refusal::Settings);
     }
-    if !settings::settings_ok(settings) {
-        return refuse(16);
-    }
-    Read {
-        number: 0,
-        settings,
-    }
+    Ok(settings)
 }
 
 // The settings of a version 1 file: one manager, and the shelf's limit 128. Refused, in this order: 35 fewer than 5 bytes, 31 another mark, 32 another version than 1,
@@ -212,7 +191,7 @@ fn read_up_to(file: &[u8], last: u16) -> Read
 pub fn read_v1(file: &[u8]) -> Read
     ensures { result ≡ old_read file.now }
 {
-    read_up_to(file, 1)
+    Read::from(try_read(file, 1))
 }
 
 // The settings of a file of version 1 or 2. Refused, in this order: 35 fewer than 5 bytes, 31 another mark, 32 another version, 35 another length than the
@@ -220,7 +199,7 @@ pub fn read_v1(file: &[u8]) -> Read
 pub fn read_file(file: &[u8]) -> Read
     ensures { result ≡ new_read file.now }
 {
-    read_up_to(file, 2)
+    Read::from(try_read(file, 2))
 }
 
 // ---- writing
@@ -237,9 +216,7 @@ fn put_mark(buffer: &mut [u8])
     requires { 29 ≤ length buffer.old }
     ensures { buffer.new ≡ put buffer.old 0 mark }
 {
-    buffer[0] = b'T';
-    buffer[1] = b'R';
-    buffer[2] = b'K';
+    buffer[..3].copy_from_slice(b"TRK");
 }
 
 // Stores the 8 places for identifiers.
@@ -247,13 +224,8 @@ fn put_identifiers(buffer: &mut [u8], identifiers: [u16; 8])
     requires { 29 ≤ length buffer.old }
     ensures { buffer.new ≡ put buffer.old 13 (records identifier_bytes identifiers) }
 {
-    let mut at: usize = 13;
-    let mut i: usize = 0;
-    while i < 8 {
-        let id = identifiers[i];
-        little::put_u16(buffer, at, id);
-        at = at + 2;
-        i = i + 1;
+    for (i, id) in identifiers.iter().enumerate() {
+        little::write(buffer, 13 + 2 * i, *id);
     }
 }
 
@@ -264,11 +236,11 @@ fn put_numbers(buffer: &mut [u8], s: Settings)
 {
     let rule = bit(s.powers);
     let count = s.count as u64;
-    little::put_u16(buffer, 5, s.manager);
-    little::put_u8(buffer, 7, s.least);
-    little::put_u8(buffer, 8, s.greatest);
-    little::put_u8(buffer, 9, rule);
-    little::put_u16(buffer, 10, s.limit);
+    little::write(buffer, 5, s.manager);
+    little::write(buffer, 7, s.least);
+    little::write(buffer, 8, s.greatest);
+    little::write(buffer, 9, rule);
+    little::write(buffer, 10, s.limit);
     little::put_number(buffer, 12, 1, count);
 }
 
@@ -278,7 +250,7 @@ fn put_head(buffer: &mut [u8], version: u16, s: Settings)
     ensures { buffer.new ≡ put buffer.old 0 (head_bytes version s) }
 {
     put_mark(buffer);
-    little::put_u16(buffer, 3, version);
+    little::write(buffer, 3, version);
     put_numbers(buffer, s);
     let identifiers = s.identifiers;
     put_identifiers(buffer, identifiers);
@@ -289,29 +261,25 @@ fn put_second(buffer: &mut [u8], s: Settings)
     requires { 35 ≤ length buffer.old }
     ensures { buffer.new ≡ put buffer.old 29 (second_bytes s) }
 {
-    let second = s.second;
-    let place = second_place(s.manager, second);
-    let limit = settings::second_limit(second);
-    little::put_u16(buffer, 29, place);
-    little::put_u16(buffer, 31, limit);
-    little::put_u16(buffer, 33, s.shelf);
+    little::write(buffer, 29, second_place(s.manager, s.second));
+    little::write(buffer, 31, settings::second_limit(s.second));
+    little::write(buffer, 33, s.shelf);
 }
 
 // Whether a version can hold these settings.
+#[tactic(auto, unfolding(crate::specs::File::holds))]
 fn can_hold(version: u16, s: Settings) -> bool
     ensures { result ≡ holds version s }
 {
-    if version != 1 {
-        return version == 2;
+    if version == 1 {
+        s.second.is_none() && s.shelf == 128
+    } else {
+        version == 2
     }
-    let second = s.second;
-    let Second::Nothing = second else {
-        return false;
-    };
-    s.shelf == 128
 }
 
 // Stores the file of this version, zeros in its spare bytes.
+#[tactic(auto, unfolding(crate::specs::File::file_bytes))]
 fn put_file(buffer: &mut [u8], version: u16, s: Settings)
     requires { (s.count ≤ 8) × (file_size version ≤ length buffer.old) }
     ensures { buffer.new ≡ put buffer.old 0 (file_bytes version s) }
@@ -323,21 +291,33 @@ fn put_file(buffer: &mut [u8], version: u16, s: Settings)
     }
 }
 
-// Writes the file of this version to the front of the buffer, zeros in its spare bytes, and answers 0; bytes after it stay as they were. Refused, in this
-// order: 16 settings that break the rules, 32 a version that cannot hold them, 8 a buffer too short; then no byte changes.
+// Writes the file of this version to the front of the buffer, zeros in its spare bytes; bytes after it stay as they were. Refused, in this order: 16 settings
+// that break the rules, 32 a version that cannot hold them, 8 a buffer too short; then no byte changes.
+#[tactic(auto, unfolding(crate::specs::File::file_written))]
+fn try_write(buffer: &mut [u8], version: u16, s: Settings) -> Result<(), Refusal>
+    ensures number { refused_by result ≡ refusal (write_tests (length buffer.old) version s) }
+    ensures bytes { buffer.new ≡ file_written buffer.old version s }
+{
+    if !settings::settings_ok(s) {
+        return Err(Refusal::Settings);
+    }
+    if !can_hold(version, s) {
+        return Err(Refusal::FileVersion);
+    }
+    if buffer.len() < file_size(version) {
+        return Err(Refusal::Short);
+    }
+    put_file(buffer, version, s);
+    Ok(())
+}
+
+// The same, with a number: the refusal's, or 0 where it is written.
 pub fn write_file(buffer: &mut [u8], version: u16, s: Settings) -> u8
     ensures number { result ≡ refusal (write_tests (length buffer.old) version s) }
     ensures bytes { buffer.new ≡ file_written buffer.old version s }
 {
-    if !settings::settings_ok(s) {
-        return 16;
+    match try_write(buffer, version, s) {
+        Ok(()) => 0,
+        Err(refusal) => refusal.number(),
     }
-    if !can_hold(version, s) {
-        return 32;
-    }
-    if buffer.len() < file_size(version) {
-        return 8;
-    }
-    put_file(buffer, version, s);
-    0
 }

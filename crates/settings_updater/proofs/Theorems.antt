@@ -1,20 +1,29 @@
 -- An updater's answers, in the reader's and the writer's own numbers. Assumes nothing.
 use Prim.Native.Nat.{ℕ}
 use mathlib.Core.Path.{◌≡◌, refl, sym, ap, ◌∙◌}
+use mathlib.Core.Logic.{◌≢◌}
 use mathlib.Core.List.{List}
 use lib.ListN.{length, take}
+use borrow.Author.Tests.{eq-eqb, ne_eqb}
 use Rattle.rules.specs.Refusals.{refusal}
-use Rattle.settings_file.specs.File.{file_size, new_read, write_tests, file_written}
+use Rattle.settings_file.specs.File.{file_size, version_in, new_read, write_tests, file_written}
 use Rattle.settings_file.proofs.RoundTrip.{one-encoding}
-use Rattle.settings_updater.specs.Answers.{save_number, saved}
+use Rattle.settings_updater.specs.Answers.{file_version, save_number, saved}
 use Rattle.settings_updater.specs.Statements.{Numbers, Saves, Updater}
-use Rattle.settings_updater.proofs.AnswerLaws.{version-refused, save-refused, saved-refused, version-accepted, save-accepted, saved-accepted}
+
+no-version : (x : List ℕ) → (new_read x).number ≢ 0 → file_version x ≡ 0
+unfolding file_version
+no-version x h = rw (ne_eqb (new_read x).number 0 h)
+
+version : (x : List ℕ) → (new_read x).number ≡ 0 → file_version x ≡ version_in x
+unfolding file_version
+version x h = rw (eq-eqb (new_read x).number 0 h)
 
 numbers : (x : List ℕ) → Numbers x
 numbers x =
     record {
-      no_version = λ h. sym (version-refused x (new_read x).number refl h);
-      version = λ h. sym (version-accepted x (new_read x).number refl h);
+      no_version = no-version x;
+      version = version x;
       on = λ h. rw h;
       off = λ h. rw h;
       identifier = λ i. refl;
@@ -23,18 +32,21 @@ numbers x =
     }
 
 module _ (x : List ℕ) (v : ℕ) (buffer : List ℕ) where
-  number : (new_read x).number ≡ 0 → save_number x v (length buffer) ≡ refusal (write_tests (length buffer) v (new_read x).settings)
-  number h = sym (save-accepted x (new_read x).number refl h v (length buffer) (new_read x).settings _ refl refl)
+  refused : (new_read x).number ≢ 0 → (save_number x v (length buffer) ≡ (new_read x).number) × (saved x v buffer ≡ buffer)
+  unfolding save_number saved
+  refused h = let no = ne_eqb (new_read x).number 0 h in (rw no, rw no)
 
-  bytes : (new_read x).number ≡ 0 → saved x v buffer ≡ file_written buffer v (new_read x).settings
-  bytes h = sym (saved-accepted x (new_read x).number refl h v buffer (new_read x).settings _ refl refl)
+  written : (new_read x).number ≡ 0
+      → (save_number x v (length buffer) ≡ refusal (write_tests (length buffer) v (new_read x).settings)) × (saved x v buffer ≡ file_written buffer v (new_read x).settings)
+  unfolding save_number saved
+  written h = let yes-it-is = eq-eqb (new_read x).number 0 h in (rw yes-it-is, rw yes-it-is)
 
   saves : Saves x v buffer
   saves =
       record {
-        refused = λ h. (sym (save-refused x (new_read x).number refl h v (length buffer)), sym (saved-refused x (new_read x).number refl h v buffer));
-        written = λ h. (number h, bytes h);
-        survives = λ b h w. ap (λ l. new_read (take (file_size v) l)) (bytes h) ∙ one-encoding.survives buffer x v b h (sym (number h) ∙ w);
+        refused = refused;
+        written = written;
+        survives = λ b h w. ap (λ l. new_read (take (file_size v) l)) (written h).1 ∙ one-encoding.survives buffer x v b h (sym (written h).0 ∙ w);
       }
 
 pub updater : Updater

@@ -2,7 +2,7 @@
 use Rattle.std.specs.Prelude.{ℕ, ◌≡◌, ◌≢◌, true, false, List, length, get_or, take}
 use Rattle.rules.specs.Refusals.{refusal}
 use Rattle.rules.specs.Demands.{Bytes}
-use Rattle.rules.specs.declared.Second.TheVariants.{Nothing, Is}
+use Rattle.std.specs.declared.option.Option.TheVariants.{None, Some}
 use Rattle.settings_file.specs.File.{file_size, version_in, new_read, write_tests, file_written}
 use Rattle.settings_updater.specs.Answers.{file_version, file_rule, file_identifier, file_second, file_second_limit, save_number, saved}
 
@@ -13,8 +13,8 @@ pub record Numbers (x : List ℕ) : Type 0 where
   pub on : (new_read x).settings.powers ≡ true → file_rule x ≡ 1
   pub off : (new_read x).settings.powers ≡ false → file_rule x ≡ 0
   pub identifier : (i : ℕ) → file_identifier x i ≡ get_or (new_read x).settings.identifiers i 0
-  pub alone : (new_read x).settings.second ≡ Nothing → (file_second x ≡ (new_read x).settings.manager) × (file_second_limit x ≡ 0)
-  pub second : (id limit : ℕ) → (new_read x).settings.second ≡ Is id limit → (file_second x ≡ id) × (file_second_limit x ≡ limit)
+  pub alone : (new_read x).settings.second ≡ None → (file_second x ≡ (new_read x).settings.manager) × (file_second_limit x ≡ 0)
+  pub second : (id limit : ℕ) → (new_read x).settings.second ≡ Some (record { id = id; limit = limit }) → (file_second x ≡ id) × (file_second_limit x ≡ limit)
 
 -- the file at another version
 pub record Saves (x : List ℕ) (v : ℕ) (buffer : List ℕ) : Type 0 where

@@ -1,5 +1,6 @@
 // The settings file for an updater in C (document 02, W11): each function is given a file's bytes, and answers one number; the last one writes the file's settings
 // as a file of another version. Any bytes and any numbers are met with an answer. A refused file answers 0 to every question but those for its refusal.
+// The numbers are no Options and Results, as C asks for them.
 #![tactic(auto)]
 
 ghost use Rattle.std.specs.Prelude.{◌≡◌, length};
@@ -15,8 +16,7 @@ use rules::Settings;
 pub extern "C" fn trk_settings_v1_refusal(file: &[u8]) -> u8
     ensures { result ≡ (old_read file.now).number }
 {
-    let read = settings_file::read_v1(file);
-    read.number
+    settings_file::read_v1(file).number
 }
 
 // What the reader of both versions refuses a file with, 0 where it accepts it.
@@ -24,13 +24,13 @@ pub extern "C" fn trk_settings_v1_refusal(file: &[u8]) -> u8
 pub extern "C" fn trk_settings_refusal(file: &[u8]) -> u8
     ensures { result ≡ (new_read file.now).number }
 {
-    let read = settings_file::read_file(file);
-    read.number
+    settings_file::read_file(file).number
 }
 
 // ---- its numbers, as the reader of both versions has them
 
 // The version.
+#[tactic(auto, unfolding(crate::specs::Answers::file_version))]
 #[unsafe(no_mangle)]
 pub extern "C" fn trk_settings_version(file: &[u8]) -> u16
     ensures { result ≡ file_version file.now }
@@ -38,15 +38,14 @@ pub extern "C" fn trk_settings_version(file: &[u8]) -> u16
     if trk_settings_refusal(file) != 0 {
         return 0;
     }
-    little::read_u16(file, 3)
+    little::read::<u16>(file, 3)
 }
 
 // The settings of a file, zeros where it is refused.
 fn settings_of(file: &[u8]) -> Settings
     ensures { result ≡ (new_read file.now).settings }
 {
-    let read = settings_file::read_file(file);
-    read.settings
+    settings_file::read_file(file).settings
 }
 
 // The first manager's identifier.
@@ -54,8 +53,7 @@ fn settings_of(file: &[u8]) -> Settings
 pub extern "C" fn trk_settings_manager(file: &[u8]) -> u16
     ensures { result ≡ (new_read file.now).settings.manager }
 {
-    let s = settings_of(file);
-    s.manager
+    settings_of(file).manager
 }
 
 // The least granularity.
@@ -63,8 +61,7 @@ pub extern "C" fn trk_settings_manager(file: &[u8]) -> u16
 pub extern "C" fn trk_settings_least(file: &[u8]) -> u8
     ensures { result ≡ (new_read file.now).settings.least }
 {
-    let s = settings_of(file);
-    s.least
+    settings_of(file).least
 }
 
 // The greatest granularity.
@@ -72,8 +69,7 @@ pub extern "C" fn trk_settings_least(file: &[u8]) -> u8
 pub extern "C" fn trk_settings_greatest(file: &[u8]) -> u8
     ensures { result ≡ (new_read file.now).settings.greatest }
 {
-    let s = settings_of(file);
-    s.greatest
+    settings_of(file).greatest
 }
 
 // The power-of-two rule, 0 or 1.
@@ -81,8 +77,7 @@ pub extern "C" fn trk_settings_greatest(file: &[u8]) -> u8
 pub extern "C" fn trk_settings_rule(file: &[u8]) -> u8
     ensures { result ≡ file_rule file.now }
 {
-    let s = settings_of(file);
-    if s.powers { 1 } else { 0 }
+    if settings_of(file).powers { 1 } else { 0 }
 }
 
 // The first manager's descriptor limit.
@@ -90,8 +85,7 @@ pub extern "C" fn trk_settings_rule(file: &[u8]) -> u8
 pub extern "C" fn trk_settings_limit(file: &[u8]) -> u16
     ensures { result ≡ (new_read file.now).settings.limit }
 {
-    let s = settings_of(file);
-    s.limit
+    settings_of(file).limit
 }
 
 // The number of controllers.
@@ -99,8 +93,7 @@ pub extern "C" fn trk_settings_limit(file: &[u8]) -> u16
 pub extern "C" fn trk_settings_count(file: &[u8]) -> u64
     ensures { result ≡ (new_read file.now).settings.count }
 {
-    let s = settings_of(file);
-    s.count as u64
+    settings_of(file).count as u64
 }
 
 // The identifier of the controller in this place, counted from 0; 0 past the last.
@@ -112,8 +105,7 @@ pub extern "C" fn trk_settings_identifier(file: &[u8], place: u64) -> u16
     if 8 <= place {
         return 0;
     }
-    let i = place as usize;
-    s.identifiers[i]
+    s.identifiers[place as usize]
 }
 
 // The second manager's identifier; where there is none, the first manager's, as in a file.
@@ -122,8 +114,7 @@ pub extern "C" fn trk_settings_second(file: &[u8]) -> u16
     ensures { result ≡ file_second file.now }
 {
     let s = settings_of(file);
-    let second = s.second;
-    settings_file::second_place(s.manager, second)
+    settings_file::second_place(s.manager, s.second)
 }
 
 // The second manager's descriptor limit; 0 where there is none.
@@ -131,9 +122,7 @@ pub extern "C" fn trk_settings_second(file: &[u8]) -> u16
 pub extern "C" fn trk_settings_second_limit(file: &[u8]) -> u16
     ensures { result ≡ file_second_limit file.now }
 {
-    let s = settings_of(file);
-    let second = s.second;
-    settings::second_limit(second)
+    settings::second_limit(settings_of(file).second)
 }
 
 // The limit over both managers.
@@ -141,14 +130,14 @@ pub extern "C" fn trk_settings_second_limit(file: &[u8]) -> u16
 pub extern "C" fn trk_settings_shelf(file: &[u8]) -> u16
     ensures { result ≡ (new_read file.now).settings.shelf }
 {
-    let s = settings_of(file);
-    s.shelf
+    settings_of(file).shelf
 }
 
 // ---- written at another version
 
 // Writes the settings of a file as a file of this version to the front of the buffer, and answers 0; bytes after it stay as they were. Refused, in this order: what the
 // reader of both versions refuses it with, 32 a version that cannot hold them, 8 a buffer too short; then no byte changes.
+#[tactic(auto, unfolding(crate::specs::Answers::save_number, crate::specs::Answers::saved))]
 #[unsafe(no_mangle)]
 pub extern "C" fn trk_settings_save(file: &[u8], version: u16, buffer: &mut [u8]) -> u8
     ensures number { result ≡ save_number file.now version (length buffer.old) }
@@ -158,6 +147,5 @@ pub extern "C" fn trk_settings_save(file: &[u8], version: u16, buffer: &mut [u8]
     if read.number != 0 {
         return read.number;
     }
-    let s = read.settings;
-    settings_file::write_file(buffer, version, s)
+    settings_file::write_file(buffer, version, read.settings)
 }

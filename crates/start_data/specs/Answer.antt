@@ -2,8 +2,11 @@
 -- use that definition." The reader's enum is the header, in both its answers; which it is for which bytes is said by rules' `header_of` and `start_data`.
 use Rattle.std.specs.Prelude.{ℕ, ◌≡◌, ◌&&◌, cond, List, leb, length, replicate}
 use Rattle.little.specs.Little.{records_at}
-use Rattle.rules.specs.Refusals.{Test, refusal, place_in, or_zero}
+use Rattle.rules.specs.Refusals.{Test, number_of, refusal, place_in, or_zero}
 use Rattle.rules.specs.StartData.{granularity_of, count_of, range_at, start_size, header_tests, header_of, read_tests, start_data, no_range, placed}
+use Rattle.std.specs.declared.result.Result.{Result}
+use Rattle.std.specs.declared.result.Result.TheVariants.{Err, Ok}
+use Rattle.rules.specs.declared.Refusal.{Refusal}
 use Rattle.rules.specs.declared.Range.{Range}
 use Rattle.rules.specs.declared.Header.{Header}
 use Rattle.rules.specs.declared.Header.TheVariants.{Is, Refused}
@@ -19,6 +22,11 @@ pub record Said : Type 0 where
 abbrev pub header_says : Header → Said
 header_says (Is g n) = record { number = 0; place = 0; granularity = g; count = n }
 header_says (Refused k at) = record { number = k; place = at; granularity = 0; count = 0 }
+
+-- the header that is read by its two numbers, or refused
+abbrev pub header_by : Result (ℕ × ℕ) Refusal → Header
+header_by (Ok h) = Is h.0 h.1
+header_by (Err r) = Refused (number_of r) 0
 
 -- what a table of tests lets be said of a structure's bytes
 abbrev pub said_by : List Test → List ℕ → Said

@@ -4,14 +4,11 @@ use mathlib.Core.Path.{◌≡◌, sym, ◌∙◌}
 use mathlib.Core.Bool.{false}
 use mathlib.Core.List.{List}
 use native.Mathlib.Nat.{add-zero, sub-zero, pow-zero, pow-succ', pow-le-pow_right}
-use native.Mathlib.Numerals.{add-one}
 use native.Mathlib.Omega.{arith}
 use borrow.Author.Tests.{eqb-true, eq-eqb}
 use lib.Dec.{eqb, lit<}
-use lib.ListN.{length, get_or, drop, set, drop_of_length-le}
-use lib.Seq.{drop-cons}
-use Rattle.little.specs.Little.{number_at, put}
-use Rattle.little.proofs.Put.{put-cons, put-nil}
+use lib.ListN.{length, get_or}
+use Rattle.little.specs.Little.{number_at}
 use Rattle.rules.proofs.ListLaws.{bool-ext}
 use Rattle.rules.specs.ControllerState.{state_size, state_ok}
 use Rattle.state_bytes.specs.Parts.{assembled}
@@ -118,15 +115,3 @@ module _ (area : List ℕ) (offset : ℕ) (bytes : List ℕ) (fits : offset ≤ 
       (λ t. let size : length x ≡ state_size x = (state_ok-true x t).size in
       let same : (offset + length bytes - 48) / 4 - nvme ≡ vendor = omega (arith, nvme_size-halves x, vendor_size-halves x, assembled-length area offset bytes fits) in
       eq-eqb _ _ same)
-
--- ---- store
-
-module _ (area whole bytes : List ℕ) (offset i : ℕ) where
-  pub store-again : i < length bytes → put area (offset + i) (drop i bytes) ≡ whole
-      → put (set area (offset + i) (get_or bytes i 0)) (offset + (i + 1)) (drop (i + 1) bytes) ≡ whole
-  store-again h e =
-      let next : offset + (i + 1) ≡ suc (offset + i) = omega arith in
-      rw (next, add-one) (sym (rw (drop-cons bytes i 0 h) (put-cons area (offset + i) (get_or bytes i 0) (drop (suc i) bytes))) ∙ e)
-
-  pub store-done : length bytes ≤ i → put area (offset + i) (drop i bytes) ≡ whole → area ≡ whole
-  store-done h e = sym (rw (drop_of_length-le bytes h) (put-nil area (offset + i))) ∙ e

@@ -28,11 +28,8 @@ fn number_of(area: &[u8], offset: usize, data: &[u8], at: usize, width: usize) -
     ensures { result ≡ number_at (assembled area.now offset «data».now) at width }
 {
     let mut v: u64 = 0;
-    let mut i = width;
-    while 0 < i {
-        i = i - 1;
-        let byte = byte_of(area, offset, data, at + i);
-        v = 256 * v + (byte as u64);
+    for i in (0..width).rev() {
+        v = 256 * v + (byte_of(area, offset, data, at + i) as u64);
     }
     v
 }
@@ -44,25 +41,17 @@ pub fn judge(area: &[u8], offset: usize, data: &[u8]) -> bool
     ensures { result ≡ state_ok (assembled area.now offset «data».now) }
 {
     let whole = offset + data.len();
-    if whole < 48 {
-        return false;
-    }
-    if number_of(area, offset, data, 0, 2) != 0 {
-        return false;
-    }
-    if number_of(area, offset, data, 24, 8) != 0 {
-        return false;
-    }
-    if number_of(area, offset, data, 40, 8) != 0 {
+    if whole < 48
+        || number_of(area, offset, data, 0, 2) != 0
+        || number_of(area, offset, data, 24, 8) != 0
+        || number_of(area, offset, data, 40, 8) != 0
+    {
         return false;
     }
     let behind = whole - 48;
-    if behind % 4 != 0 {
-        return false;
-    }
     let dwords = (behind / 4) as u64;
     let nvme = number_of(area, offset, data, 16, 8);
-    if dwords < nvme {
+    if behind % 4 != 0 || dwords < nvme {
         return false;
     }
     let vendor = number_of(area, offset, data, 32, 8);
@@ -74,9 +63,5 @@ pub fn store(area: &mut [u8], offset: usize, data: &[u8])
     requires { offset + length «data».now ≤ length area.old }
     ensures { area.new ≡ put area.old offset «data».now }
 {
-    let mut i: usize = 0;
-    while i < data.len() {
-        area[offset + i] = data[i];
-        i = i + 1;
-    }
+    area[offset..offset + data.len()].copy_from_slice(data);
 }

@@ -2,68 +2,74 @@
 // Any bytes are met with an answer.
 #![tactic(auto)]
 
-use log_numbers::{Log, Sum, Sums, Totals};
-use output::{Buffer, Waiting};
-use rules::Device;
+use engines::Engine;
+use fields::Fields;
+use log_numbers::{Log, Sums, Totals};
+use playing::Player;
+use rules::Settings;
+use std::io::Write;
+use std::{fmt, io};
 
 // ---- text
 
-// Puts a name between spaces, and its sum.
-fn put_sum(out: &mut Buffer, waiting: Waiting, name: &[u8], s: Sum) -> Waiting {
-    let Sum::Known(n) = s else {
-        let a = output::put_bytes(out, waiting, name);
-        return output::put_bytes(out, a, b"unknown");
-    };
-    playing::put_named(out, waiting, name, n)
+// A sum, to be printed.
+#[derive(Clone, Copy)]
+struct Shown(Option<u64>);
+
+impl fmt::Display for Shown {
+    fn fmt<W: fmt::Write>(&self, f: &mut fmt::Formatter<W>) -> fmt::Result {
+        match self.0 {
+            Some(n) => write!(f, "{n}"),
+            None => write!(f, "unknown"),
+        }
+    }
 }
 
 // Puts three sums, each behind its name, and ends the line.
-pub fn put_sums(out: &mut Buffer, waiting: Waiting, s: Sums) -> Waiting {
-    let marked = s.marked;
-    let reported = s.reported;
-    let dropped = s.dropped;
-    let a = put_sum(out, waiting, b" marked ", marked);
-    let b = put_sum(out, a, b" reported ", reported);
-    let c = put_sum(out, b, b" dropped ", dropped);
-    output::put_byte(out, c, b'\n')
+pub fn put_sums<W: Write>(out: &mut W, s: Sums) -> io::Result<()> {
+    let marked = Shown(s.marked);
+    let reported = Shown(s.reported);
+    let dropped = Shown(s.dropped);
+    writeln!(
+        out,
+        " marked {marked} reported {reported} dropped {dropped}"
+    )
 }
 
 // Puts a number, and behind it a controller's totals: they are the sums over it alone.
-pub fn put_totals(out: &mut Buffer, waiting: Waiting, number: u64, t: Totals) -> Waiting {
-    let a = output::put_number(out, waiting, number);
-    let s = log_numbers::summed(log_numbers::no_sums(), t);
-    put_sums(out, a, s)
+pub fn put_totals<W: Write>(out: &mut W, number: u16, t: Option<Totals>) -> io::Result<()> {
+    write!(out, "{number}")?;
+    put_sums(out, log_numbers::summed(log_numbers::no_sums(), t))
+}
+
+// Puts a line for each controller in the settings: what the log says of it. The settings before a done `dev` have none.
+pub fn put_log<W: Write>(out: &mut W, s: Settings, l: Log) -> io::Result<()> {
+    for (id, account) in s.identifiers.iter().zip(&l.accounts).take(s.count) {
+        put_totals(out, *id, account.totals)?;
+    }
+    Ok(())
 }
 
 // ---- `log`
 
-// Whether a line begins with this word.
-pub fn asks(line: &[u8]) -> bool {
-    fields::begins(line, b"log")
+// The identifier that is a line's only field.
+fn read(mut fields: Fields<'_>) -> Option<u16> {
+    let id = fields.number(65535)? as u16;
+    if fields.is_empty() { Some(id) } else { None }
 }
 
-// Plays a line that begins with this word, and puts its answer: a refused one's number alone. It changes nothing.
-pub fn answer(
-    l: Log,
-    d: Device,
-    marks: &[u64],
-    bytes: &[u8],
-    line: &[u8],
-    out: &mut Buffer,
-    waiting: Waiting,
-) -> Waiting {
-    let end = fields::field_end(line, 0);
-    let id = fields::take(line, end, 65535);
-    if !id.ok {
-        return playing::put_bad(out, waiting);
-    }
-    if id.end < line.len() {
-        return playing::put_bad(out, waiting);
-    }
-    let reading = engines::totals(l, d, marks, bytes, id.value as u16);
+// Plays a `log` with these fields, and puts its answer: a refused one's number alone. It changes nothing.
+pub fn log<E: Engine, W: Write>(
+    player: &Player<E>,
+    fields: Fields<'_>,
+    out: &mut W,
+) -> io::Result<()> {
+    let Some(id) = read(fields) else {
+        return playing::put_bad(out);
+    };
+    let reading = player.engine.totals(player.log, player.device, id);
     if reading.number != 0 {
-        return playing::put_answer(out, waiting, reading.number);
+        return playing::put_number(out, reading.number);
     }
-    let totals = reading.totals;
-    put_totals(out, waiting, 0, totals)
+    put_totals(out, 0, reading.totals)
 }

@@ -1,6 +1,6 @@
 -- What a receive answers, case by case of its table; what its loop lists and its header say together is the report. Assumes nothing.
 use mathlib.Core.Path.{◌≡◌, sym, ap, ap₂, ◌∙◌}
-use mathlib.Core.Bool.{Bool, true, false}
+use mathlib.Core.Bool.{Bool, true}
 use mathlib.Core.List.{List, map}
 use Prim.Native.Nat.{ℕ, ◌≤◌, ◌<◌}
 use native.Mathlib.Omega.{arith}
@@ -17,16 +17,19 @@ use Rattle.rules.specs.Units.{Unit, units, pending}
 use Rattle.rules.specs.Report.{runs, Report, descriptor, descriptor_bytes, room, report_on, report_header, reported_runs, later_runs, groups_on, marks_left}
 use Rattle.rules.specs.Order.{is_tracker, receive_order}
 use Rattle.rules.specs.Machine.{no_report}
+use Rattle.rules.specs.Refusals.{number_of}
 use Rattle.rules.specs.declared.Controller.{Controller}
 use Rattle.rules.specs.declared.Device.{Device}
 use Rattle.rules.specs.declared.Range.{Range}
+use Rattle.rules.specs.declared.Refusal.{Refusal}
 use Rattle.rules.specs.declared.Tracking.{Tracking}
 use Rattle.rules.specs.declared.Tracking.TheVariants.{Off, On}
 use Rattle.rules.proofs.RunLaws.{runs-length-le, pending-length-le}
 use Rattle.record.specs.Record.{no_controller, tracker_of, where_by, seen_in}
-use Rattle.record.specs.declared.Place.TheVariants.{At, Refused}
+use Rattle.std.specs.declared.result.Result.{Result}
+use Rattle.std.specs.declared.result.Result.TheVariants.{Err, Ok}
 use Rattle.record.proofs.RecordLaws.{Located, where_is-at, where_by-tests, where_by-at}
-use Rattle.calls.specs.Inner.{tracking_by}
+use Rattle.calls.specs.Inner.{tracking_by, received_by}
 use Rattle.calls.specs.Calls.{Engine, in_words, with_marks, Receipt, received, report_in, receive_done, receive_by}
 use Rattle.calls.specs.declared.Received.{Received}
 use Rattle.calls.proofs.PlaceLaws.{tracking_by-on, tracking_by-off}
@@ -37,9 +40,8 @@ use Rattle.scan.specs.Scan.{Lists}
 abbrev pub Receives : Receipt → Received → List ℕ → List ℕ → Type 0
 Receives c r ws x = (r ≡ c.answer) × (ws ≡ c.marks) × (x ≡ c.buffer)
 
-pub receives-nothing : (c : Receipt) (n : ℕ) (ws x : List ℕ) (r : Received) → c ≡ received n no_report ws x
-    → r ≡ record { number = n; suspended = false; more = false; granularity = 0; runs = 0; groups = 0 } → Receives c r ws x
-receives-nothing c n ws x r e f = (f ∙ sym (ap (λ (y : Receipt). y.answer) e), sym (ap (λ (y : Receipt). y.marks) e), sym (ap (λ (y : Receipt). y.buffer) e))
+pub receives-nothing : (c : Receipt) (r : Refusal) (ws x : List ℕ) (o : Result Received Refusal) → c ≡ received (number_of r) no_report ws x → o ≡ Err r → Receives c (received_by o) ws x
+receives-nothing c r ws x o e f = (ap received_by f ∙ sym (ap (λ (y : Receipt). y.answer) e), sym (ap (λ (y : Receipt). y.marks) e), sym (ap (λ (y : Receipt). y.buffer) e))
 
 -- no more runs are listed than there are units
 pub reported-few : (room : ℕ) (us : List Unit) (p : List Bool) (count : ℕ) → count ≡ length (reported_runs room us p) → count ≤ length us
@@ -52,12 +54,12 @@ lists-few g rs l base x room count more groups l' x' s = reported-few room (unit
 -- ---- the cases
 
 module _ (en : Engine) (d : Device) (ws : List ℕ) (m id : ℕ) (x : List ℕ) where
-  pub receive-refused : (n : ℕ) → where_by d (en.words ws) m id ≡ Refused n → receive_by en d ws m id x ≡ received n no_report ws x
+  pub receive-refused : (r : Refusal) → where_by d (en.words ws) m id ≡ Err r → receive_by en d ws m id x ≡ received (number_of r) no_report ws x
   unfolding receive_by
   receive-refused n e =
       where_by-tests d (en.words ws) m id n e (drop 3 (receive_order d.settings m (seen_in d (en.words ws) (place_of d.settings id)) x)) (receive_done en d ws id x (place_of d.settings id)) (λ n i. received n no_report ws x)
 
-  module _ (i : ℕ) (e : where_by d (en.words ws) m id ≡ At i) where
+  module _ (i : ℕ) (e : where_by d (en.words ws) m id ≡ Ok i) where
     l : Located d (en.words ws) id i
     l = where_is-at d (en.words ws) id i (where_by-at d (en.words ws) m id i e).1
 

@@ -1,24 +1,20 @@
--- Laws of the loops over eight places: a sum, an array that is filled place by place, and controllers that are given their new places; of the shares with a new
--- one among them; and of packed words.
--- Assumes nothing.
+-- Laws of an array that is made of another place by place, and of controllers that are given their new places; of the shares with a new one among them; and of
+-- packed words. Assumes nothing.
 use mathlib.Core.Path.{◌≡◌, refl, sym, ap, ◌∙◌}
 use mathlib.Core.Logic.{◌≢◌}
 use mathlib.Core.Bool.{Bool, true, false}
 use mathlib.Core.List.{List, [], ◌∷◌, map}
 use Prim.Native.Nat.{ℕ, zero, suc, ◌+◌, ◌≤◌, ◌<◌}
 use native.Mathlib.Omega.{arith}
-use native.Mathlib.Numerals.{add-one}
 use lib.Dec.{eqb}
-use lib.ListN.{length, get_or, set, take, drop, length-map, length-set}
+use lib.ListN.{length, get_or, set, take, length-map, length-set}
 use lib.Seq.{ext_get_or, get_or-set_same, get_or-set_other}
 use borrow.Author.Tests.{eqb-true, eqb-false, eq-eqb, ne_eqb}
 use Rattle.bits.specs.Flat.{flat, Words}
 use Rattle.bits.proofs.Pack.{pack-only}
-use Rattle.rules.specs.Lists.{sum}
 use Rattle.rules.specs.Settings.{most_units}
 use Rattle.rules.specs.Units.{units}
 use Rattle.rules.specs.Device.{no_share}
-use Rattle.rules.specs.declared.Range.{Range}
 use Rattle.rules.specs.declared.Share.{Share}
 use Rattle.rules.specs.declared.Controller.{Controller}
 use Rattle.rules.specs.declared.Device.{Device}
@@ -27,47 +23,18 @@ use Rattle.record.proofs.RecordLaws.{sound_device-facts}
 use Rattle.pool.specs.Pool.{new_base, packed, Packs}
 use Rattle.calls.specs.Calls.{with_base, bases_of, sizes_of, packed_from, packed_words}
 use Rattle.calls.proofs.PoolLaws.{packed_at, packed_from-at, packed_from-length, sizes-with, sizes-fit, start-packs-in}
+use Rattle.track_send.specs.declared.Admitted.{Admitted}
 use Rattle.track_send.specs.Inner.{tracked, tracking, Starts}
 
--- ---- a sum
+-- ---- an array that is made of another, place by place
 
-pub sizes-next : (xs : List Share) (i : ℕ) → i < length xs
-    → sum (map (λ (a : Share). a.size) (drop i xs)) ≡ (get_or xs i no_share).size + sum (map (λ (a : Share). a.size) (drop (i + 1) xs))
-sizes-next [] i h = absurd (omega arith)
-sizes-next (x ∷ xs) zero h = refl
-sizes-next (x ∷ xs) (suc i) h = rw (add-one) (sizes-next xs i (omega arith) ∙ rw (add-one))
-
-pub sizes-end : (xs : List Share) (i : ℕ) → length xs ≤ i → sum (map (λ (a : Share). a.size) (drop i xs)) ≡ 0
-sizes-end [] zero h = refl
-sizes-end [] (suc i) h = refl
-sizes-end (x ∷ xs) zero h = absurd (omega arith)
-sizes-end (x ∷ xs) (suc i) h = sizes-end xs i (omega arith)
-
--- ---- an array that is filled
-
-pub record Filled (f : Share → ℕ) (shares : List Share) (xs : List ℕ) (i : ℕ) : Type 0 where
-  pub sized : length xs ≡ length shares
-  pub so_far : (j : ℕ) → j < i → get_or xs j 0 ≡ f (get_or shares j no_share)
-
-module _ (f : Share → ℕ) (shares : List Share) where
-  pub filled_none : (xs : List ℕ) → length xs ≡ length shares → Filled f shares xs 0
-  filled_none xs e = record { sized = e; so_far = λ j h. absurd (omega arith) }
-
-  pub filled_next : (xs : List ℕ) (i v : ℕ) → Filled f shares xs i → i < length shares → v ≡ f (get_or shares i no_share) → Filled f shares (set xs i v) (i + 1)
-  filled_next xs i v s h e = record { sized = length-set xs i v ∙ s.sized; so_far = λ j k. go j k (eqb j i) refl }
-    where
-      go : (j : ℕ) → j < i + 1 → (b : Bool) → eqb j i ≡ b → get_or (set xs i v) j 0 ≡ f (get_or shares j no_share)
-      go j k true q = let z = eqb-true j i q in rw (z, get_or-set_same xs i v 0 (omega (arith, h, s.sized))) e
-      go j k false q = let z = eqb-false j i q in get_or-set_other xs i j v 0 z ∙ s.so_far j (omega (arith, k, z))
-
-  pub filled-all : (xs : List ℕ) (i : ℕ) → Filled f shares xs i → length shares ≤ i → xs ≡ map f shares
-  filled-all xs i s h =
-      ext_get_or 0 xs (map f shares) (s.sized ∙ sym (length-map shares f)) (λ j k. s.so_far j (omega (arith, k, s.sized, h)) ∙ sym (mapped shares j (omega (arith, k, s.sized))))
-    where
-      mapped : (ys : List Share) (j : ℕ) → j < length ys → get_or (map f ys) j 0 ≡ f (get_or ys j no_share)
-      mapped [] j k = absurd (omega arith)
-      mapped (y ∷ ys) zero k = refl
-      mapped (y ∷ ys) (suc j) k = mapped ys j (omega arith)
+pub mapped : (f : Share → ℕ) (shares : List Share) (xs : List ℕ) → length xs ≡ length shares → ((j : ℕ) → j < length shares → get_or xs j 0 ≡ f (get_or shares j no_share)) → xs ≡ map f shares
+mapped f shares xs e h = ext_get_or 0 xs (map f shares) (e ∙ sym (length-map shares f)) (λ j k. h j (omega (arith, k, e)) ∙ sym (at shares j (omega (arith, k, e))))
+  where
+    at : (ys : List Share) (j : ℕ) → j < length ys → get_or (map f ys) j 0 ≡ f (get_or ys j no_share)
+    at [] j k = absurd (omega arith)
+    at (y ∷ ys) zero k = refl
+    at (y ∷ ys) (suc j) k = at ys j (omega arith)
 
 -- ---- controllers that are given their new places
 
@@ -117,23 +84,23 @@ device-is e d cs p q r = rw (sym p, sym q, sym r)
 
 -- ---- the shares with that of a start among them
 
-module _ (d : Device) (eight : length d.controllers ≡ 8) (i g n : ℕ) (rs : List Range) (s : Starts d i g n rs) where
+module _ (d : Device) (eight : length d.controllers ≡ 8) (a : Admitted) (s : Starts d a) where
   -- its place is one of eight
-  pub starts-below : i < 8
+  pub starts-below : a.place < 8
   starts-below = omega (arith, s.used, (sound_device-facts d s.sound).count)
 
   module _ (m : ℕ) where
     -- the sizes with its own are those of the record in which the controller is tracked
-    pub starts-sizes : set (sizes_of d) i (length (units g (take n rs))) ≡ sizes_of (tracking d m i g n rs)
-    starts-sizes = sym (sizes-with d eight (sound_device-facts d s.sound).count i (tracked d m i g n rs) s.used)
+    pub starts-sizes : set (sizes_of d) a.place (length (units a.granularity (take a.count a.ranges))) ≡ sizes_of (tracking d m a)
+    starts-sizes = sym (sizes-with d eight (sound_device-facts d s.sound).count a.place (tracked d m a) s.used)
 
     -- they fit
-    pub starts_fit : new_base (sizes_of (tracking d m i g n rs)) 8 ≤ 16384
-    starts_fit = sizes-fit d eight s.sound i s.used s.off (tracked d m i g n rs) s.room
+    pub starts_fit : new_base (sizes_of (tracking d m a)) 8 ≤ 16384
+    starts_fit = sizes-fit d eight s.sound a.place s.used s.off (tracked d m a) s.room
 
     -- they may be packed, in whatever holds the pool's marks
-    pub starts-packs : {A : Type 0} (l : List A) → length l ≡ most_units → Packs l (bases_of d) (sizes_of (tracking d m i g n rs)) i
-    starts-packs = start-packs-in d eight s.sound i s.used s.off (tracked d m i g n rs) s.room
+    pub starts-packs : {A : Type 0} (l : List A) → length l ≡ most_units → Packs l (bases_of d) (sizes_of (tracking d m a)) a.place
+    starts-packs = start-packs-in d eight s.sound a.place s.used s.off (tracked d m a) s.room
 
 -- ---- words that have the shares packed
 

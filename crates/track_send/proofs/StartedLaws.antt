@@ -1,9 +1,9 @@
 -- What a start answers, case by case of its table. Assumes nothing.
-use mathlib.Core.Path.{◌≡◌, sym, ap, ◌∙◌}
+use mathlib.Core.Path.{◌≡◌, refl, sym, ap, ◌∙◌}
 use mathlib.Core.Logic.{◌≢◌}
 use mathlib.Core.Bool.{true, false}
 use mathlib.Core.List.{List, [], ◌∷◌, ◌++◌}
-use mathlib.Core.Option.{some}
+use Rattle.std.specs.declared.option.Option.TheVariants.{Some}
 use Prim.Native.Nat.{ℕ, ◌+◌, ◌*◌, ◌≤◌, ◌<◌}
 use native.Mathlib.Omega.{arith}
 use lib.Dec.{leb}
@@ -12,7 +12,7 @@ use borrow.Author.Tests.{le-leb, lt-leb, leb-true, eq-eqb}
 use Rattle.little.specs.Little.{records_at}
 use Rattle.little.proofs.Put.{put-take-front}
 use Rattle.little.proofs.Records.{records_at-length}
-use Rattle.rules.specs.Refusals.{Test, ◌else◌, verdict, refusal, place_in, refusal_at, passes}
+use Rattle.rules.specs.Refusals.{Test, Refused, ◌else◌, verdict, number_of, refusal, place_in, refusal_at, refused_at, passes}
 use Rattle.rules.specs.Settings.{most_units, is_manager, limit_of, place_of, granularity_ok}
 use Rattle.rules.specs.Units.{units}
 use Rattle.rules.specs.Ranges.{rows_ok, rows_tests, range_tests, list_tests}
@@ -21,21 +21,23 @@ use Rattle.rules.specs.Order.{start_listed, start_shared, start_order}
 use Rattle.rules.specs.Device.{sound_device}
 use Rattle.rules.specs.declared.Device.{Device}
 use Rattle.rules.specs.declared.Refusal.{Refusal}
+use Rattle.rules.specs.declared.RowRefusal.{RowRefusal}
 use Rattle.rules.specs.declared.Settings.{Settings}
 use Rattle.rules.specs.declared.Tracking.TheVariants.{Off, On}
 use Rattle.rules.specs.declared.Header.TheVariants as header
 use Rattle.rules.proofs.ListLaws.{All, All-append}
-use Rattle.rules.proofs.RefusalLaws.{Passed, Passed-left, Passed-right, passes-all, passes-Passed, refusal-none, refusal_at-is, verdict-first, verdict-rest, verdict-passed, verdict-refused}
+use Rattle.rules.proofs.RefusalLaws.{number_of-pos, Passed, Passed-left, Passed-right, passes-all, passes-Passed, refusal-none, refusal_at-is, verdict-first, verdict-rest, verdict-passed, verdict-refused}
 use Rattle.rules.proofs.RowLaws.{rows_tests-passes}
 use Rattle.record.specs.Record.{no_controller, where_by, seen_in, managed_of, counts_of, units_of}
-use Rattle.record.specs.declared.Place.TheVariants.{At, Refused}
+use Rattle.std.specs.declared.result.Result.{Result}
+use Rattle.std.specs.declared.result.Result.TheVariants.{Err, Ok}
 use Rattle.record.proofs.RecordLaws.{Located, where_is-at, where_by-at, where_by-tests, sound_device-facts}
 use Rattle.settings.proofs.SettingsLaws.{granularity_ok-greatest}
 use Rattle.ranges.proofs.RangeLaws.{list_tests-numbers}
-use Rattle.start_data.specs.Answer.{header_says}
 use Rattle.start_data.proofs.Answers.{header_of-is, HeaderIs, header_of-refused, HeaderRefused, no_header, other_version}
 use Rattle.calls.specs.Calls.{Engine, start_by, started_with, bases_of, sizes_of, packed_device, start_done}
-use Rattle.track_send.specs.Inner.{tracking, Starts}
+use Rattle.track_send.specs.declared.Admitted.{Admitted}
+use Rattle.track_send.specs.Inner.{tracking, Starts, Admission, Admits}
 
 -- the tests of a start by a manager after those of its header: 7, 8 (listed ranges), 18 to 21, 10, 11, 12 and 34
 abbrev pub listed_tests : Settings → ℕ → ℕ → ℕ → ℕ → List ℕ → List Test
@@ -95,12 +97,12 @@ module _ (s : Settings) (m held managed counts : ℕ) (x : List ℕ) (g n : ℕ)
         ranges-read =
             rw h.count (put-take-front (replicate 16 no_range) n (records_at range_at 12 x 8 n) (records_at-length range_at 12 x 8 n) few)
 
-        module _ (r : Refusal) (q : r ≡ refusal_at (list_tests s g n (take n (placed (records_at range_at 12 x 8 n))))) where
+        module _ (r : Refused) (q : r ≡ refusal_at (list_tests s g n (take n (placed (records_at range_at 12 x 8 n))))) where
           of-list : r ≡ refusal_at (list_tests s g n (ranges_of x))
           of-list = q ∙ ap (λ rs. refusal_at (list_tests s g n rs)) ranges-read
 
           number-of-list : r.number ≡ refusal (list_tests s g n (ranges_of x))
-          number-of-list = ap (λ (z : Refusal). z.number) (of-list ∙ refusal_at-is (list_tests s g n (ranges_of x)))
+          number-of-list = ap (λ (z : Refused). z.number) (of-list ∙ refusal_at-is (list_tests s g n (ranges_of x)))
 
           pub listed-rules : r.number ≢ 0 → r ≡ refusal_at (listed_tests s m held managed counts x)
           listed-rules k = of-list ∙ sym (rest ∙ verdict-first (list_tests s g n (ranges_of x)) (last (length (units g (ranges_of x)))) _ _ _ (λ z. k (number-of-list ∙ z)))
@@ -126,11 +128,11 @@ module _ (s : Settings) (m held managed counts : ℕ) (x : List ℕ) (g n : ℕ)
                 ∙ ap (λ k. refusal_at (last k)) (sym (are ∙ ap (λ rs. length (units g rs)) ranges-read))
 
   -- where all are passed
-  pub listed-all : (r : Refusal) → r ≡ refusal_at (listed_tests s m held managed counts x) → r.number ≡ 0 → Passed (listed_tests s m held managed counts x)
+  pub listed-all : (r : Refused) → r ≡ refusal_at (listed_tests s m held managed counts x) → r.number ≡ 0 → Passed (listed_tests s m held managed counts x)
   listed-all r q k =
       passes-Passed (listed_tests s m held managed counts x)
       (sym (refusal-none (listed_tests s m held managed counts x) numbers)
-      ∙ eq-eqb (refusal (listed_tests s m held managed counts x)) 0 (sym (ap (λ (z : Refusal). z.number) (q ∙ refusal_at-is (listed_tests s m held managed counts x))) ∙ k))
+      ∙ eq-eqb (refusal (listed_tests s m held managed counts x)) 0 (sym (ap (λ (z : Refused). z.number) (q ∙ refusal_at-is (listed_tests s m held managed counts x))) ∙ k))
     where
       numbers : All (λ (t : Test). 1 ≤ t.number) (listed_tests s m held managed counts x)
       numbers = (
@@ -150,7 +152,7 @@ module _ (s : Settings) (m held managed counts : ℕ) (x : List ℕ) (g n : ℕ)
     pub rows : rows_ok g (ranges_of x) ≡ true
     pub room : length (units g (ranges_of x)) + held ≤ most_units
 
-  pub listed-known : (r : Refusal) → r ≡ refusal_at (listed_tests s m held managed counts x) → r.number ≡ 0 → Listed
+  pub listed-known : (r : Refused) → r ≡ refusal_at (listed_tests s m held managed counts x) → r.number ≡ 0 → Listed
   unfolding range_tests
   listed-known r q k =
       let p = listed-all r q k in
@@ -167,71 +169,82 @@ module _ (s : Settings) (m held managed counts : ℕ) (x : List ℕ) (g n : ℕ)
       }
 
 -- and of the record: a sound one, in which the controller at a place in use is off
-pub start-known : (d : Device) (m : ℕ) (x : List ℕ) (i g n : ℕ) → sound_device d ≡ true → i < d.settings.count → (get_or d.controllers i no_controller).tracking ≡ Off
-    → (q : header_of x ≡ header.Is g n) → Listed d.settings m (units_of d) (managed_of d m) (counts_of d) x g n q → Starts d i g n (placed (records_at range_at 12 x 8 n))
-start-known d m x i g n sure used off q k =
-    let same = ranges-read d.settings m (units_of d) (managed_of d m) (counts_of d) x g n q k.allowed k.there k.few in
+pub start-known : (d : Device) (m : ℕ) (x : List ℕ) (s : Admitted) → sound_device d ≡ true → s.place < d.settings.count → (get_or d.controllers s.place no_controller).tracking ≡ Off
+    → (q : header_of x ≡ header.Is s.granularity s.count) → s.ranges ≡ placed (records_at range_at 12 x 8 s.count)
+    → Listed d.settings m (units_of d) (managed_of d m) (counts_of d) x s.granularity s.count q → Starts d s
+start-known d m x s sure used off q read k =
+    let same = ap (take s.count) read ∙ ranges-read d.settings m (units_of d) (managed_of d m) (counts_of d) x s.granularity s.count q k.allowed k.there k.few in
     record {
       sound = sure;
       used = used;
       off = off;
-      small = omega (arith, granularity_ok-greatest d.settings g k.allowed, (sound_device-facts d sure).greatest);
+      small = omega (arith, granularity_ok-greatest d.settings s.granularity k.allowed, (sound_device-facts d sure).greatest);
       few = k.few;
       rows = rw same k.rows;
       room = rw same k.room;
     }
 
--- ---- the start
+-- ---- the table
 
-module _ (en : Engine) (d : Device) (ws : List ℕ) (m id : ℕ) (x : List ℕ) where
-  pub start-refused : (n : ℕ) → where_by d (en.words ws) m id ≡ Refused n → start_by en d ws m id x ≡ started_with n 0 d ws
-  unfolding start_by
-  start-refused n e =
-      where_by-tests d (en.words ws) m id n e (drop 3 (start_order d.settings m (seen_in d (en.words ws) (place_of d.settings id)) x)) (start_done en d ws m x (place_of d.settings id)) (λ n i. started_with n i d ws)
+-- what a start's table answers
+abbrev pub table : Device → ℕ → ℕ → ℕ → List ℕ → List Test
+table d words m id x = start_order d.settings m (seen_in d words (place_of d.settings id)) x
 
-  module _ (i : ℕ) (e : where_by d (en.words ws) m id ≡ At i) where
+module _ (d : Device) (words m id : ℕ) (x : List ℕ) where
+  pub start-refused : (r : Refusal) → where_by d words m id ≡ Err r → refusal_at (table d words m id x) ≡ record { number = number_of r; row = 0 }
+  start-refused r e = where_by-tests d words m id r e (drop 3 (table d words m id x)) (record { number = 0; row = 0 }) (λ n i. record { number = n; row = i })
+
+  module _ (i : ℕ) (e : where_by d words m id ≡ Ok i) where
     by : is_manager d.settings m ≡ true
-    by = (where_by-at d (en.words ws) m id i e).0
+    by = (where_by-at d words m id i e).0
 
-    l : Located d (en.words ws) id i
-    l = where_is-at d (en.words ws) id i (where_by-at d (en.words ws) m id i e).1
+    l : Located d words id i
+    l = where_is-at d words id i (where_by-at d words m id i e).1
 
-    pub start-suspended : (get_or d.controllers i no_controller).suspended ≡ true → start_by en d ws m id x ≡ started_with 4 0 d ws
-    unfolding start_by
+    pub start-suspended : (get_or d.controllers i no_controller).suspended ≡ true → refusal_at (table d words m id x) ≡ record { number = 4; row = 0 }
     start-suspended f = rw (l.place, l.seen, by, f)
 
     module _ (f : (get_or d.controllers i no_controller).suspended ≡ false) where
-      pub start-tracked : (g n : ℕ) → (get_or d.controllers i no_controller).tracking ≡ On g n → start_by en d ws m id x ≡ started_with 3 0 d ws
-      unfolding start_by
+      pub start-tracked : (g n : ℕ) → (get_or d.controllers i no_controller).tracking ≡ On g n → refusal_at (table d words m id x) ≡ record { number = 3; row = 0 }
       start-tracked g n t = rw (l.place, l.seen, by, f, t)
 
       module _ (t : (get_or d.controllers i no_controller).tracking ≡ Off) where
-        pub start-header : (k n at : ℕ) → header_of x ≡ header.Refused k at → n ≡ (header_says (header_of x)).number → start_by en d ws m id x ≡ started_with n 0 d ws
-        unfolding start_by
-        start-header k n at q r = go k at (header_of-refused x k at q) ∙ ap (λ n. started_with n 0 d ws) (sym (r ∙ ap (λ h. (header_says h).number) q))
+        pub start-header : (k at : ℕ) → header_of x ≡ header.Refused k at → refusal_at (table d words m id x) ≡ record { number = k; row = 0 }
+        start-header k at q = go k at (header_of-refused x k at q)
           where
-            go : (k at : ℕ) → HeaderRefused x k at → start_by en d ws m id x ≡ started_with k 0 d ws
+            go : (k at : ℕ) → HeaderRefused x k at → refusal_at (table d words m id x) ≡ record { number = k; row = 0 }
             go k at (no_header a) = rw (l.place, l.seen, by, f, t, a)
             go k at (other_version a b) = rw (l.place, l.seen, by, f, t, a, b)
 
-        module _ (g n : ℕ) (q : header_of x ≡ header.Is g n) where
-          abbrev tests : List Test
-          tests = listed_tests d.settings m (units_of d) (managed_of d m) (counts_of d) x
+        pub start-listed : (g n : ℕ) → header_of x ≡ header.Is g n
+            → refusal_at (table d words m id x) ≡ refusal_at (listed_tests d.settings m (units_of d) (managed_of d m) (counts_of d) x)
+        start-listed g n q = let p = header_of-is x g n q in rw (l.place, l.seen, by, f, t, p.there, p.version)
 
-          to-list : start_by en d ws m id x ≡ verdict tests (start_done en d ws m x (some i)) (λ k j. started_with k j d ws)
-          unfolding start_by
-          to-list = let p = header_of-is x g n q in rw (l.place, l.seen, by, f, t, p.there, p.version)
+-- ---- the start, by what was admitted
 
-          pub start-listed : (r : Refusal) → r ≡ refusal_at tests → r.number ≢ 0 → start_by en d ws m id x ≡ started_with r.number r.row d ws
-          start-listed r a b =
-              let is : r ≡ record { number = refusal tests; row = place_in tests } = a ∙ refusal_at-is tests in
-              to-list ∙ verdict-refused tests (start_done en d ws m x (some i)) (λ k j. started_with k j d ws) (λ z. b (ap (λ (q : Refusal). q.number) is ∙ z))
-              ∙ ap (λ (q : Refusal). started_with q.number q.row d ws) (sym is)
+module _ (en : Engine) (d : Device) (ws : List ℕ) (m id : ℕ) (x : List ℕ) (o : Result Admitted RowRefusal) (e : refused_at o ≡ refusal_at (table d (en.words ws) m id x)) where
+  pub start-refuses : (r : RowRefusal) → o ≡ Err r → start_by en d ws m id x ≡ started_with (number_of r.refusal) r.row d ws
+  unfolding start_by
+  start-refuses r f =
+      let tests = table d (en.words ws) m id x in
+      let is : record { number = number_of r.refusal; row = r.row } ≡ record { number = refusal tests; row = place_in tests } = sym (ap refused_at f) ∙ e ∙ refusal_at-is tests in
+      let n : number_of r.refusal ≡ refusal tests = ap (λ (z : Refused). z.number) is in
+      verdict-refused tests (start_done en d ws m x (place_of d.settings id)) (λ k j. started_with k j d ws) (λ z. number_of-pos r.refusal (n ∙ z))
+      ∙ ap (λ (z : Refused). started_with z.number z.row d ws) (sym is)
 
-          pub start-done : (r : Refusal) → r ≡ refusal_at tests → r.number ≡ 0
-              → let y = tracking d m i g n (placed (records_at range_at 12 x 8 n)) in
-              start_by en d ws m id x ≡ started_with 0 0 (packed_device y) (en.packed ws (bases_of d) (sizes_of y) i)
-          unfolding ranges_of
-          start-done r a b =
-              let p = header_of-is x g n q in
-              to-list ∙ verdict-passed tests (start_done en d ws m x (some i)) (λ k j. started_with k j d ws) (listed-all d.settings m (units_of d) (managed_of d m) (counts_of d) x g n q r a b) ∙ rw (f, p.granularity, p.count)
+  pub start-done : (s : Admitted) → o ≡ Ok s → Admits d (en.words ws) m id x o
+      → start_by en d ws m id x ≡ started_with 0 0 (packed_device (tracking d m s)) (en.packed ws (bases_of d) (sizes_of (tracking d m s)) s.place)
+  unfolding start_by ranges_of
+  start-done s f = rw f (go s)
+    where
+      go : (s : Admitted) → Admission d (en.words ws) m id x s
+          → start_by en d ws m id x ≡ started_with 0 0 (packed_device (tracking d m s)) (en.packed ws (bases_of d) (sizes_of (tracking d m s)) s.place)
+      go s a =
+          let tests = listed_tests d.settings m (units_of d) (managed_of d m) (counts_of d) x in
+          let p = header_of-is x s.granularity s.count a.header in
+          let by = where_by-at d (en.words ws) m id s.place a.found in
+          let l = where_is-at d (en.words ws) id s.place by.1 in
+          let z = listed-all d.settings m (units_of d) (managed_of d m) (counts_of d) x s.granularity s.count a.header (refusal_at tests) refl (ap (λ (z : Refused). z.number) a.passed) in
+          let to-list : start_by en d ws m id x ≡ verdict tests (start_done en d ws m x (Some s.place)) (λ k j. started_with k j d ws) =
+          rw (l.place, l.seen, by.0, a.awake, a.starts.off, p.there, p.version) in
+          to-list ∙ verdict-passed tests (start_done en d ws m x (Some s.place)) (λ k j. started_with k j d ws) z ∙ rw (a.awake, p.granularity, p.count, a.read)

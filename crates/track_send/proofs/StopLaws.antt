@@ -7,6 +7,8 @@ use lib.ListN.{length, get_or, take, drop}
 use Rattle.bits.specs.Flat.{flat, Words}
 use Rattle.bits.specs.Span.{fill}
 use Rattle.bits.proofs.Pack.{pack-only}
+use Rattle.rules.specs.Refusals.{number_of}
+use Rattle.rules.specs.declared.Refusal.{Refusal}
 use Rattle.rules.specs.Settings.{is_manager, place_of}
 use Rattle.rules.specs.Units.{units}
 use Rattle.rules.specs.Order.{stop_order}
@@ -14,7 +16,7 @@ use Rattle.rules.specs.declared.Controller.{Controller}
 use Rattle.rules.specs.declared.Device.{Device}
 use Rattle.rules.specs.declared.Tracking.TheVariants.{Off, On}
 use Rattle.record.specs.Record.{no_controller, with_controller, where_by, seen_in}
-use Rattle.record.specs.declared.Place.TheVariants.{At, Refused}
+use Rattle.std.specs.declared.result.Result.TheVariants.{Err, Ok}
 use Rattle.record.proofs.RecordLaws.{Located, where_is-at, where_by-at, where_by-tests}
 use Rattle.calls.specs.Calls.{Engine, stop_by, changed, with_clear, stopped, stop_done}
 use Rattle.calls.specs.Inner.{tracking_by}
@@ -29,12 +31,12 @@ module _ (en : Engine) (d : Device) (m id : ℕ) where
   -- ---- stop
 
   module _ (ws : List ℕ) where
-    pub stop-refused : (n : ℕ) → where_by d (en.words ws) m id ≡ Refused n → stop_by en d ws m id ≡ changed n d ws
+    pub stop-refused : (r : Refusal) → where_by d (en.words ws) m id ≡ Err r → stop_by en d ws m id ≡ changed (number_of r) d ws
     unfolding stop_by
-    stop-refused n e =
-        where_by-tests d (en.words ws) m id n e (drop 3 (stop_order d.settings m (seen_in d (en.words ws) (place_of d.settings id)))) (stop_done en d ws (place_of d.settings id)) (λ n i. changed n d ws)
+    stop-refused r e =
+        where_by-tests d (en.words ws) m id r e (drop 3 (stop_order d.settings m (seen_in d (en.words ws) (place_of d.settings id)))) (stop_done en d ws (place_of d.settings id)) (λ n i. changed n d ws)
 
-    module _ (i : ℕ) (e : where_by d (en.words ws) m id ≡ At i) where
+    module _ (i : ℕ) (e : where_by d (en.words ws) m id ≡ Ok i) where
       abbrev it : Controller
       it = get_or d.controllers i no_controller
 

@@ -4,43 +4,30 @@
 
 ghost use Rattle.std.specs.Prelude.{◌≡◌, true, ◌++◌, map, ◌+◌, ◌<◌, ◌≤◌, length, get_or, set};
 ghost use Rattle.rules.specs.Lists.{sum};
-ghost use Rattle.rules.specs.Refusals.{refusal_at};
-ghost use Rattle.rules.specs.Settings.{mark_words, is_manager};
+ghost use Rattle.rules.specs.Refusals.{refused_at, refusal_at};
+ghost use Rattle.rules.specs.Settings.{mark_words, is_manager, place_of};
 ghost use Rattle.rules.specs.StartData.{header_of};
 ghost use Rattle.rules.specs.declared.Header.TheVariants.{Is};
 ghost use Rattle.rules.specs.Device.{sound_device};
-ghost use Rattle.record.specs.Record.{no_controller, with_controller, managed_of, counts_of, units_of};
-ghost use Rattle.start_data.specs.Answer.{header_says};
+ghost use Rattle.record.specs.Record.{no_controller, with_controller, seen_in, managed_of, counts_of, units_of};
 ghost use Rattle.calls.specs.Calls.{with_clear, bases_of, sizes_of, packed_from, packed_device, packed_words, stopped, start_change, stop_change};
+ghost use Rattle.calls.specs.Inner.{changed_by, started_by};
 ghost use Rattle.pool.specs.Pool.{new_base, new_bases};
-ghost use Rattle.track_send.specs.Inner.{tracking, Installs};
-ghost use Rattle.rules.specs.Order.{start_listed, start_shared};
+ghost use Rattle.track_send.specs.Inner.{tracking, Admits, Installs};
+ghost use Rattle.rules.specs.Order.{start_listed, start_shared, start_order};
 
 use calls::{Changed, Started};
-use record::Place;
-use rules::{Controller, Device, Header, MOST_UNITS, Range, Refusal, Share, Tracking};
+use rules::{Controller, Device, MOST_UNITS, Range, Refusal, RowRefusal, Share, Tracking};
 
 // ---- start
 
-// The answer of a refused start, with the row that it was refused for: the record is as it was.
-pub fn refused(d: Device, number: u8, row: u8) -> Started
-    ensures { result ≡ record { number = number; row = row; device = d } }
-{
-    Started {
-        number,
-        row,
-        device: d,
-    }
-}
-
-// The number of a refused header.
-pub fn header_number(h: Header) -> u8
-    ensures { result ≡ (header_says h).number }
-{
-    match h {
-        Header::Is(_, _) => 0,
-        Header::Refused(n, _) => n,
-    }
+// What a start that passes its table records: where the controller stands, its granularity, and its count of ranges with these.
+#[derive(Clone, Copy)]
+pub struct Admitted {
+    pub place: usize,
+    pub granularity: u8,
+    pub count: u8,
+    pub ranges: [Range; 16],
 }
 
 // How many bits some shares have, together.
@@ -49,60 +36,53 @@ fn together(shares: [Share; 8]) -> usize
     ensures { result ≡ sum (map (λ a. a.size) shares) }
 {
     let mut total: usize = 0;
-    for i in 0..8 {
-        total += shares[i].size;
+    for share in shares {
+        total += share.size;
     }
     total
 }
 
 // The first of 7, 8 (listed ranges), 18 to 21, 10, 11, 12 and 34 that a start by this manager, from a structure with this granularity and count, breaks, with its row.
-pub fn listed_refusal(d: Device, manager: u16, g: u8, n: u32, data: &[u8]) -> Refusal
+pub fn listed_refusal(d: Device, manager: u16, g: u8, n: u32, data: &[u8]) -> Result<(), RowRefusal>
     requires { (sound_device d ≡ true) × (is_manager d.settings manager ≡ true) × (header_of «data».now ≡ Is g n) }
-    ensures { result
+    ensures { refused_at result
         ≡ refusal_at
         (start_listed d.settings «data».now
         ++ start_shared d.settings manager (units_of d) (managed_of d manager) (counts_of d) «data».now) }
 {
     let s = d.settings;
     if !settings::granularity_ok(s, g) {
-        return Refusal { number: 7, row: 0 };
+        return Err(RowRefusal::from(Refusal::Granularity));
     }
     let count = n as usize;
     if data.len() < 8 + 12 * count {
-        return Refusal { number: 8, row: 0 };
+        return Err(RowRefusal::from(Refusal::Short));
     }
     if count > 16 {
-        return Refusal { number: 18, row: 0 };
+        return Err(RowRefusal::from(Refusal::Ranges));
     }
     let ranges = start_data::read_ranges(data, count);
-    let refusal = ranges::list_refusal(s, g, count as u8, ranges);
-    if refusal.number != 0 {
-        return refusal;
-    }
+    ranges::list_refusal(s, g, count as u8, ranges)?;
     let units = ranges::units_in(g, count, ranges);
     let held = together(record::shares(d));
     if units.0 > MOST_UNITS - held as u64 {
-        return Refusal { number: 11, row: 0 };
+        return Err(RowRefusal::from(Refusal::Units));
     }
     let limit = settings::limit_of(s, manager);
     if count + record::managed(d, manager) > limit as usize {
-        return Refusal { number: 12, row: 0 };
+        return Err(RowRefusal::from(Refusal::Limit));
     }
     if count + record::weights(d) > s.shelf as usize {
-        return Refusal { number: 34, row: 0 };
+        return Err(RowRefusal::from(Refusal::Shelf));
     }
-    Refusal { number: 0, row: 0 }
+    Ok(())
 }
 
 // Where some shares begin.
 pub fn bases_of(shares: [Share; 8]) -> [usize; 8]
     ensures { result ≡ map (λ a. a.base) shares }
 {
-    let mut bases = [0usize; 8];
-    for i in 0..8 {
-        bases[i] = shares[i].base;
-    }
-    bases
+    shares.map(|a| a.base)
 }
 
 // How many bits some shares have, where the one at place i has `size`.
@@ -110,10 +90,7 @@ pub fn sizes_with(shares: [Share; 8], i: usize, size: usize) -> [usize; 8]
     requires { i < 8 }
     ensures { result ≡ set (map (λ a. a.size) shares) i size }
 {
-    let mut sizes = [0usize; 8];
-    for j in 0..8 {
-        sizes[j] = shares[j].size;
-    }
+    let mut sizes = shares.map(|a| a.size);
     sizes[i] = size;
     sizes
 }
@@ -133,53 +110,81 @@ fn based(d: Device, sizes: [usize; 8], bases: [usize; 8]) -> Device
 }
 
 // Records that a controller is tracked by a manager, its queue as it was, and where the shares, which with its own have these sizes, begin once packed.
-pub fn recorded(
-    d: Device,
-    manager: u16,
-    i: usize,
-    g: u8,
-    n: u8,
-    ranges: [Range; 16],
-    sizes: [usize; 8],
-) -> Device
-    requires { (i < 8) × (sizes ≡ sizes_of (tracking d manager i g n ranges)) × (new_base sizes 8 ≤ 16384) }
-    ensures { result ≡ packed_device (tracking d manager i g n ranges) }
+pub fn recorded(d: Device, manager: u16, start: Admitted, sizes: [usize; 8]) -> Device
+    requires { (start.place < 8) × (sizes ≡ sizes_of (tracking d manager start)) × (new_base sizes 8 ≤ 16384) }
+    ensures { result ≡ packed_device (tracking d manager start) }
 {
-    let on = Tracking::On(g, n);
-    let was = d.controllers[i];
-    let queue = was.queue;
+    let ranges = start.ranges;
     let mut e = d;
-    e.controllers[i] = Controller {
-        tracking: on,
+    e.controllers[start.place] = Controller {
+        tracking: Tracking::On(start.granularity, start.count),
         manager,
         base: 0,
         suspended: false,
         ranges,
-        queue,
+        queue: d.controllers[start.place].queue,
     };
-    let bases = pool::new_bases(sizes);
-    based(e, sizes, bases)
+    based(e, sizes, pool::new_bases(sizes))
 }
 
 // Records that a controller is tracked by a manager, and packs the shares: they stand one after another from bit 0 on, in the order of the settings, with their marks; the new
 // one is clear.
-fn install(
+fn install(d: Device, marks: &mut [u64], manager: u16, start: Admitted) -> Device
+    requires { Installs d marks.old start }
+    ensures { (result ≡ packed_device (tracking d manager start)) × (marks.new ≡ packed_words marks.old (bases_of d) (sizes_of (tracking d manager start)) start.place) }
+{
+    let shares = record::shares(d);
+    let units = ranges::units_in(start.granularity, start.count as usize, start.ranges);
+    let sizes = sizes_with(shares, start.place, units.0 as usize);
+    pool::pack(marks, bases_of(shares), sizes, start.place);
+    recorded(d, manager, start, sizes)
+}
+
+// What a start records, where it passes its table, on marks of so many words, however they are held.
+pub fn admit(
+    d: Device,
+    words: usize,
+    manager: u16,
+    id: u16,
+    data: &[u8],
+) -> Result<Admitted, RowRefusal>
+    ensures refusal { refused_at result ≡ refusal_at (start_order d.settings manager (seen_in d words (place_of d.settings id)) «data».now) }
+    ensures admits { Admits d words manager id «data».now result }
+{
+    let place = record::locate_by(d, words, manager, id)?;
+    let c = d.controllers[place];
+    if c.suspended {
+        return Err(RowRefusal::from(Refusal::Suspended));
+    }
+    let Tracking::Off = c.tracking else {
+        return Err(RowRefusal::from(Refusal::Tracked));
+    };
+    let header = start_data::try_header(data);
+    // `let .. else`, as document 01 names this form.
+    let Ok((granularity, count)) = header else {
+        return Err(RowRefusal::from(header.unwrap_err()));
+    };
+    listed_refusal(d, manager, granularity, count, data)?;
+    Ok(Admitted {
+        place,
+        granularity,
+        count: count as u8,
+        ranges: start_data::read_ranges(data, count as usize),
+    })
+}
+
+// What a start makes of the record and of the marks.
+fn try_start(
     d: Device,
     marks: &mut [u64],
     manager: u16,
-    i: usize,
-    g: u8,
-    n: u8,
-    ranges: [Range; 16],
-) -> Device
-    requires { Installs d marks.old i g n ranges }
-    ensures { (result ≡ packed_device (tracking d manager i g n ranges)) × (marks.new ≡ packed_words marks.old (bases_of d) (sizes_of (tracking d manager i g n ranges)) i) }
+    id: u16,
+    data: &[u8],
+) -> Result<Device, RowRefusal>
+    ensures { (started_by d result ≡ (start_change d marks.old manager id «data».now).answer) × (marks.new ≡ (start_change d marks.old manager id «data».now).marks) }
 {
-    let shares = record::shares(d);
-    let units = ranges::units_in(g, n as usize, ranges);
-    let sizes = sizes_with(shares, i, units.0 as usize);
-    pool::pack(marks, bases_of(shares), sizes, i);
-    recorded(d, manager, i, g, n, ranges, sizes)
+    let start = admit(d, marks.len(), manager, id, data)?;
+    Ok(install(d, marks, manager, start))
 }
 
 // Starts tracking a controller for a manager from a start structure: its granularity and ranges are recorded, and the shares of the pool are packed, its own clear among them. Refused, in this
@@ -189,33 +194,7 @@ fn install(
 pub fn start(d: Device, marks: &mut [u64], manager: u16, id: u16, data: &[u8]) -> Started
     ensures { (result ≡ (start_change d marks.old manager id «data».now).answer) × (marks.new ≡ (start_change d marks.old manager id «data».now).marks) }
 {
-    let place = record::locate_by(d, marks.len(), manager, id);
-    let Place::At(i) = place else {
-        return refused(d, calls::number_of(place), 0);
-    };
-    let c = d.controllers[i];
-    if c.suspended {
-        return refused(d, 4, 0);
-    }
-    let t = c.tracking;
-    let Tracking::Off = t else {
-        return refused(d, 3, 0);
-    };
-    let header = start_data::read_header(data);
-    let Header::Is(g, n) = header else {
-        return refused(d, header_number(header), 0);
-    };
-    let refusal = listed_refusal(d, manager, g, n, data);
-    if refusal.number != 0 {
-        return refused(d, refusal.number, refusal.row);
-    }
-    let ranges = start_data::read_ranges(data, n as usize);
-    let device = install(d, marks, manager, i, g, n as u8, ranges);
-    Started {
-        number: 0,
-        row: 0,
-        device,
-    }
+    calls::started_by(d, try_start(d, marks, manager, id, data))
 }
 
 // ---- stop
@@ -233,20 +212,33 @@ pub fn forgotten(d: Device, i: usize) -> Device
     requires { i < 8 }
     ensures { result ≡ with_controller d i (stopped (get_or d.controllers i no_controller)) }
 {
-    let c = d.controllers[i];
-    let off = Tracking::Off;
-    let none = rules::no_ranges();
-    let queue = c.queue;
     let mut e = d;
     e.controllers[i] = Controller {
-        tracking: off,
+        tracking: Tracking::Off,
         manager: 0,
         base: 0,
-        suspended: c.suspended,
-        ranges: none,
-        queue,
+        suspended: d.controllers[i].suspended,
+        ranges: rules::no_ranges(),
+        queue: d.controllers[i].queue,
     };
     e
+}
+
+// What a stop makes of the record and of the marks.
+fn try_stop(d: Device, marks: &mut [u64], manager: u16, id: u16) -> Result<Device, Refusal>
+    ensures { (changed_by d result ≡ (stop_change d marks.old manager id).answer) × (marks.new ≡ (stop_change d marks.old manager id).marks) }
+{
+    let i = record::locate_by(d, marks.len(), manager, id)?;
+    let c = d.controllers[i];
+    if c.suspended {
+        return Err(Refusal::Suspended);
+    }
+    let Tracking::On(g, n) = calls::tracking_by(c, manager) else {
+        return Err(Refusal::Untracked);
+    };
+    let units = ranges::units_in(g, n as usize, calls::ranges_of(c));
+    clear_share(marks, c.base as usize, units.0 as usize);
+    Ok(forgotten(d, i))
 }
 
 // Stops tracking a controller: its ranges are forgotten and its share of the marks is clear. Refused, in this order: 1, 2 (also an unknown
@@ -254,28 +246,5 @@ pub fn forgotten(d: Device, i: usize) -> Device
 pub fn stop(d: Device, marks: &mut [u64], manager: u16, id: u16) -> Changed
     ensures { (result ≡ (stop_change d marks.old manager id).answer) × (marks.new ≡ (stop_change d marks.old manager id).marks) }
 {
-    let place = record::locate_by(d, marks.len(), manager, id);
-    let Place::At(i) = place else {
-        let number = calls::number_of(place);
-        return Changed { number, device: d };
-    };
-    let c = d.controllers[i];
-    if c.suspended {
-        return Changed {
-            number: 4,
-            device: d,
-        };
-    }
-    let t = calls::tracking_by(c, manager);
-    let Tracking::On(g, n) = t else {
-        return Changed {
-            number: 5,
-            device: d,
-        };
-    };
-    let ranges = calls::ranges_of(c);
-    let units = ranges::units_in(g, n as usize, ranges);
-    clear_share(marks, c.base as usize, units.0 as usize);
-    let device = forgotten(d, i);
-    Changed { number: 0, device }
+    calls::changed_by(d, try_stop(d, marks, manager, id))
 }

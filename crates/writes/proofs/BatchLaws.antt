@@ -1,16 +1,16 @@
 -- What a batch is before its first note, whether one is due, and after one more: each by cases. Assumes nothing.
 use mathlib.Core.Path.{◌≡◌, refl, sym, ap, ◌∙◌}
 use mathlib.Core.Logic.{◌≢◌}
-use mathlib.Core.Bool.{Bool, true, false, ◌&&◌, not, and-false}
-use mathlib.Core.List.{List, [], ◌∷◌}
-use Prim.Native.Nat.{ℕ, ◌+◌, ◌<◌, min}
+use mathlib.Core.Bool.{Bool, true, false, ◌&&◌, cond, and-false}
+use mathlib.Core.List.{List}
+use Prim.Native.Nat.{ℕ, ◌+◌, ◌<◌, ◌≤◌, min}
 use native.Mathlib.Omega.{arith}
 use lib.Dec.{ltb, leb, eqb}
 use lib.ListN.{length, take}
 use lib.Seq.{take_all}
-use borrow.Author.Tests.{le-leb, lt-leb, leb-true, leb-false, eqb-true, eq-eqb, ne_eqb, ltb-true, ltb-false}
-use Rattle.rules.specs.Refusals.{◌else◌, refusal}
-use Rattle.rules.specs.Settings.{most_notes}
+use borrow.Author.Tests.{leb-true, leb-false, eqb-true, eqb-false, eq-eqb, ne_eqb, lt-ltb, le-ltb, ltb-true}
+use Rattle.rules.specs.Refusals.{refusal}
+use Rattle.rules.specs.Order.{batch_order}
 use Rattle.rules.specs.declared.Device.{Device}
 use Rattle.rules.proofs.ListLaws.{and_left, and_right}
 use Rattle.record.specs.Record.{sound_with}
@@ -23,27 +23,9 @@ use Rattle.writes.specs.Inner.{begin_of, is_due, tally_of}
 abbrev pub begins : ℕ → Batched
 begins n = record { number = n; done = 0; count = 0; refusal = 0 }
 
-module _ (whole many : Bool) where
-  abbrev first : ℕ
-  first = refusal ((whole else 1) ∷ (not many else 22) ∷ [])
-
-  pub first-unsound : whole ≡ false → 1 ≡ first
-  first-unsound e = rw e
-
-  pub first-many : whole ≡ true → many ≡ true → 22 ≡ first
-  first-many e f = rw (e, f)
-
-  pub first-none : whole ≡ true → many ≡ false → 0 ≡ first
-  first-none e f = rw (e, f)
-
-pub begin-is : (d : Device) (words total n : ℕ) (whole many : Bool) → whole ≡ sound_with d words → many ≡ ltb most_notes total
-    → n ≡ refusal ((whole else 1) ∷ (not many else 22) ∷ []) → begins n ≡ begin_of d words total
+pub begin-is : (d : Device) (words total n : ℕ) → n ≡ refusal (batch_order (sound_with d words) total) → begins n ≡ begin_of d words total
 unfolding begin_of
-begin-is d words total n whole many e f g = ap begins (g ∙ rw (e, f) (ap (λ (b : Bool). refusal ((sound_with d words else 1) ∷ (b else 22) ∷ [])) (few (ltb most_notes total) refl)))
-  where
-    few : (b : Bool) → ltb most_notes total ≡ b → not b ≡ leb total most_notes
-    few true e = sym (lt-leb total most_notes (ltb-true most_notes total e))
-    few false e = sym (le-leb total most_notes (ltb-false most_notes total e))
+begin-is d words total n e = ap begins e
 
 -- ---- whether a note is due
 
@@ -59,6 +41,13 @@ module _ (b : Batched) (total : ℕ) where
   pub due-left : b.number ≡ 0 → b.refusal ≡ 0 → ltb b.done total ≡ is_due b total
   unfolding is_due
   due-left h k = rw (eq-eqb b.number 0 h, eq-eqb b.refusal 0 k)
+
+  pub due-on : b.number ≡ 0 → b.refusal ≡ 0 → b.done < total → is_due b total ≡ true
+  due-on h k l = sym (due-left h k) ∙ lt-ltb b.done total l
+
+  pub due-over : total ≤ b.done → is_due b total ≡ false
+  unfolding is_due
+  due-over l = rw (le-ltb b.done total l, and-false, and-false)
 
   -- where one is, nothing was refused, and records are left
   pub due-is : is_due b total ≡ true → (b.number ≡ 0) × (b.refusal ≡ 0) × (b.done < total)
@@ -80,6 +69,26 @@ module _ (b : Batched) (w : Written) where
   pub tally-done : w.number ≡ 0 → record { number = b.number; done = b.done + 1; count = b.count + w.count; refusal = b.refusal } ≡ tally_of b w
   unfolding tally_of
   tally-done h = rw (eq-eqb w.number 0 h)
+
+  -- it stays as it began, and a note that was not refused is done
+  abbrev tallied : Bool → Batched
+  tallied y = cond y (record { number = b.number; done = b.done + 1; count = b.count + w.count; refusal = b.refusal }) (record { number = b.number; done = b.done; count = b.count; refusal = w.number })
+
+  pub tally-number : (tally_of b w).number ≡ b.number
+  unfolding tally_of
+  tally-number = go (eqb w.number 0)
+    where
+      go : (y : Bool) → (tallied y).number ≡ b.number
+      go true = refl
+      go false = refl
+
+  pub tally-went : (tally_of b w).refusal ≡ 0 → (tally_of b w).done ≡ b.done + 1
+  unfolding tally_of
+  tally-went z = go (eqb w.number 0) refl z
+    where
+      go : (y : Bool) → eqb w.number 0 ≡ y → (tallied y).refusal ≡ 0 → (tallied y).done ≡ b.done + 1
+      go true e z = refl
+      go false e z = absurd (eqb-false w.number 0 e z)
 
 -- ---- the first n of some
 

@@ -1,13 +1,14 @@
 -- What a turn of a batch does, over plain values, for any engine: no word of memory here. Assumes nothing.
 --     left         what a batch that has come to (b, m) will answer and leave
---     Facts b m    the loop's invariant.        μ        its measure
---     starts       the invariant where the loop begins.        turned       it goes from turn to turn, and the measure falls.        stopped      the contract, where the loop is left
+--     Facts b m    what holds before and after each turn: `starts`, `turned`.        stopped      the contract, where no note is due
+--     Going i b m  the loop's invariant, where i notes are done
 use mathlib.Core.Path.{◌≡◌, refl, sym, ap, subst, ◌∙◌}
 use mathlib.Core.Logic.{◌≢◌}
 use mathlib.Core.Bool.{Bool, true, false, ◌&&◌, not, cond, true≢false}
 use mathlib.Core.List.{List, [], ◌∷◌}
-use mathlib.Core.Option.{Option, none, some}
-use Prim.Native.Nat.{ℕ, ◌+◌, ◌-◌, ◌*◌, ◌<◌, ◌≤◌, ◌^◌}
+use Rattle.std.specs.declared.option.Option.{Option}
+use Rattle.std.specs.declared.option.Option.TheVariants.{None, Some}
+use Prim.Native.Nat.{ℕ, ◌+◌, ◌*◌, ◌<◌, ◌≤◌, ◌^◌}
 use native.Mathlib.Numerals.{add-one}
 use native.Mathlib.Omega.{arith}
 use lib.Dec.{ltb, leb, eqb}
@@ -33,7 +34,7 @@ use Rattle.calls.specs.declared.WriteRecord.{WriteRecord}
 use Rattle.calls.specs.declared.Batched.{Batched}
 use Rattle.calls.specs.Calls.{Engine, in_words, Change, Note, noted, note_in, write_done, write_by, write_in, batched, notes_from, batch_by}
 use Rattle.writes.specs.Inner.{begin_of, is_due, tally_of}
-use Rattle.writes.proofs.BatchLaws.{due-left, due-cut, due-is, tally-cut, tally-done}
+use Rattle.writes.proofs.BatchLaws.{due-refused, due-left, due-cut, due-is, due-on, due-over, tally-cut, tally-done, tally-number, tally-went}
 
 -- ---- a note makes at most as many units pending as there are marks
 
@@ -71,8 +72,8 @@ note-most en sized d ws id w e =
         omega (arith, newly-most w (units g (take n rs)) (en.marks ws base (length (units g (take n rs)))), sized.most ws base (length (units g (take n rs))) e)
 
     done : (p : Option ℕ) → (write_done en d ws w p).answer.count ≤ most_units
-    done none = omega arith
-    done (some i) = in-share (controller_at d (some i)).base (controller_at d (some i)).tracking (controller_at d (some i)).ranges
+    done None = omega arith
+    done (Some i) = in-share (controller_at d (Some i)).base (controller_at d (Some i)).tracking (controller_at d (Some i)).ranges
 
 -- what stands past the end of a list
 abbrev pub no_record : WriteRecord
@@ -84,9 +85,6 @@ module _ (en : Engine) (sized : Sized en) (d : Device) (m₀ : List ℕ) (rs : L
 
   abbrev pub left : Batched → List ℕ → Change Batched
   left b m = cond (is_due b n) (notes_from en d m b.done b.count (drop b.done rs)) (record { answer = b; marks = m })
-
-  abbrev pub μ : Batched → ℕ
-  μ b = cond (is_due b n) (n - b.done) 0
 
   pub record Facts (b : Batched) (m : List ℕ) : Type 0 where
     pub ok : is_due b n ≡ true → (n ≤ most_notes) × (sound_with d (en.words m₀) ≡ true)
@@ -176,13 +174,6 @@ module _ (en : Engine) (sized : Sized en) (d : Device) (m₀ : List ℕ) (rs : L
       done-inv : left next note.marks ≡ batch_by en d m₀ rs
       done-inv = after ∙ sym (before ∙ so) ∙ f.inv
 
-      done-less : cond (is_due next n) (n - (b.done + 1)) 0 < n - b.done
-      done-less = go (is_due next n)
-        where
-          go : (y : Bool) → cond y (n - (b.done + 1)) 0 < n - b.done
-          go true = omega (arith, is.2)
-          go false = omega (arith, is.2)
-
     module _ (e : note.answer.number ≢ 0) where
       abbrev cut : Batched
       cut = record { number = b.number; done = b.done; count = b.count; refusal = note.answer.number }
@@ -202,18 +193,18 @@ module _ (en : Engine) (sized : Sized en) (d : Device) (m₀ : List ℕ) (rs : L
       cut-inv : left cut note.marks ≡ batch_by en d m₀ rs
       cut-inv = stays ∙ sym (before ∙ so-cut) ∙ f.inv
 
-    turned-at : (Facts (tally_of b note.answer) note.marks) × (μ (tally_of b note.answer) < n - b.done)
+    turned-at : Facts (tally_of b note.answer) note.marks
     turned-at = go (eqb note.answer.number 0) refl
       where
-        go : (y : Bool) → eqb note.answer.number 0 ≡ y → (Facts (tally_of b note.answer) note.marks) × (μ (tally_of b note.answer) < n - b.done)
+        go : (y : Bool) → eqb note.answer.number 0 ≡ y → Facts (tally_of b note.answer) note.marks
         go true y =
             let e = eqb-true note.answer.number 0 y in
-            subst (λ (t : Batched). (Facts t note.marks) × (μ t < n - b.done)) (tally-done b note.answer e)
-            (record { ok = λ h. f.ok on; small = omega (arith, f.small, few); inv = done-inv e }, done-less e)
+            subst (λ (t : Batched). Facts t note.marks) (tally-done b note.answer e)
+            (record { ok = λ h. f.ok on; small = omega (arith, f.small, few); inv = done-inv e })
         go false y =
             let e = eqb-false note.answer.number 0 y in
-            subst (λ (t : Batched). (Facts t note.marks) × (μ t < n - b.done)) (tally-cut b note.answer e)
-            (record { ok = λ h. f.ok on; small = f.small; inv = cut-inv e }, rw (cut-due e) (omega (arith, is.2)))
+            subst (λ (t : Batched). Facts t note.marks) (tally-cut b note.answer e)
+            (record { ok = λ h. f.ok on; small = f.small; inv = cut-inv e })
 
     -- a note's answer w, the marks m' after it, and the tally b', as the callees' contracts say them
     module _ (w : Written) (m' : List ℕ) (b' : Batched) (is-w : w ≡ note.answer) (is_m : m' ≡ note.marks) (is_b : b' ≡ tally_of b w) where
@@ -221,17 +212,11 @@ module _ (en : Engine) (sized : Sized en) (d : Device) (m₀ : List ℕ) (rs : L
       is-b' = is_b ∙ ap (λ (k : Written). tally_of b k) is-w
 
       pub turned : Facts b' m'
-      turned = subst (λ (u : Batched). Facts u m') (sym is-b') (subst (λ (z : List ℕ). Facts (tally_of b note.answer) z) (sym is_m) turned-at.0)
-
-      pub nearer : μ b' < μ b
-      nearer = rw (on, is-b') turned-at.1
+      turned = subst (λ (u : Batched). Facts u m') (sym is-b') (subst (λ (z : List ℕ). Facts (tally_of b note.answer) z) (sym is_m) turned-at)
 
     -- what `tally` requires
     pub fits_in : (w : Written) → w ≡ note.answer → (b.done + 1 < 2 ^ 64) × (b.count + w.count < 2 ^ 64)
     fits_in w e = rw e (omega (arith, is.2, (f.ok on).0), omega (arith, few, f.small, is.2, (f.ok on).0))
-
-    pub inside : b.done < n
-    inside = is.2
 
   -- ---- the loop is left
 
@@ -240,3 +225,71 @@ module _ (en : Engine) (sized : Sized en) (d : Device) (m₀ : List ℕ) (rs : L
     where
       e : record { answer = b; marks = m } ≡ batch_by en d m₀ rs
       e = sym (ap (λ (y : Bool). cond y (notes_from en d m b.done b.count (drop b.done rs)) (record { answer = b; marks = m })) off) ∙ f.inv
+
+  -- ---- the loop over the list: i notes are done, and none was refused
+
+  abbrev pub Answered : Batched → List ℕ → Type 0
+  Answered b m = (b ≡ (batch_by en d m₀ rs).answer) × (m ≡ (batch_by en d m₀ rs).marks)
+
+  pub record Going (i : ℕ) (b : Batched) (m : List ℕ) : Type 0 where
+    pub facts : Facts b m
+    pub same : length m ≡ length m₀
+    pub whole : b.number ≡ 0
+    pub uncut : b.refusal ≡ 0
+    pub done : b.done ≡ i
+
+  module _ (b : Batched) (e : b ≡ begin_of d (en.words m₀) n) where
+    at-first : Facts b m₀
+    at-first = rw e starts
+
+    uncut-first : b.refusal ≡ 0
+    unfolding begin_of
+    uncut-first = rw e
+
+    none-first : b.done ≡ 0
+    unfolding begin_of
+    none-first = rw e
+
+    pub going-refused : b.number ≢ 0 → Answered b m₀
+    going-refused h = stopped b m₀ (sym (due-refused b n h)) at-first
+
+    pub going-first : b.number ≡ 0 → Going 0 b m₀
+    going-first h = record { facts = at-first; same = refl; whole = h; uncut = uncut-first; done = none-first }
+
+  module _ (i : ℕ) (b : Batched) (m : List ℕ) (g : Going i b m) where
+    pub going-over : n ≤ i → Answered b m
+    going-over h = stopped b m (due-over b n (omega (arith, g.done))) g.facts
+
+    module _ (inside : i < n) where
+      pub going-on : is_due b n ≡ true
+      going-on = due-on b n g.whole g.uncut (omega (arith, g.done))
+
+      pub going-sound : sound_with d (en.words m) ≡ true
+      going-sound = sound-now b m g.same going-on g.facts
+
+      -- a note's answer w, the marks m' after it, and the tally b'
+      abbrev given : WriteRecord
+      given = get_or rs i no_record
+
+      module _ (w : Written) (m' : List ℕ) (is-w : w ≡ (write_by en d m given.id (write_in given)).answer) (is_m : m' ≡ (write_by en d m given.id (write_in given)).marks) where
+        w-is : w ≡ (note b m g.same going-on g.facts).answer
+        w-is = rw g.done is-w
+
+        m-is : m' ≡ (note b m g.same going-on g.facts).marks
+        m-is = rw g.done is_m
+
+        pub going-fits : (b.done + 1 < 2 ^ 64) × (b.count + w.count < 2 ^ 64)
+        going-fits = fits_in b m g.same going-on g.facts w w-is
+
+        module _ (b' : Batched) (is_b : b' ≡ tally_of b w) where
+          after-facts : Facts b' m'
+          after-facts = turned b m g.same going-on g.facts w m' b' w-is m-is is_b
+
+          pub going-cut : b'.refusal ≢ 0 → Answered b' m'
+          going-cut h = stopped b' m' (sym (due-cut b' n h)) after-facts
+
+          pub going-next : b'.refusal ≡ 0 → length m' ≡ length m₀ → Going (i + 1) b' m'
+          going-next z s =
+              let number : b'.number ≡ b.number = rw is_b (tally-number b w) in
+              let went : b'.done ≡ b.done + 1 = rw is_b (tally-went b w (sym (ap (λ (t : Batched). t.refusal) is_b) ∙ z)) in
+              record { facts = after-facts; same = s; whole = number ∙ g.whole; uncut = z; done = omega (arith, went, g.done) }

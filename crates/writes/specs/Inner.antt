@@ -1,26 +1,22 @@
 -- What a note to one controller does, and what the parts of a batch's loop compute. The plain engine (W9) has its notes' refusals and its batch's parts from here.
-use Rattle.std.specs.Prelude.{ℕ, ◌+◌, ◌^◌, ◌≤◌, ◌≡◌, Bool, true, not, ◌&&◌, cond, List, [], ◌∷◌, leb, ltb, eqb, length, take, get_or}
+use Rattle.std.specs.Prelude.{ℕ, ◌+◌, ◌^◌, ◌≤◌, ◌≡◌, Bool, true, not, ◌&&◌, cond, List, [], ◌∷◌, leb, ltb, eqb, length, take}
 use Rattle.bits.specs.Share.{Holds}
 use Rattle.rules.specs.Refusals.{Test, ◌else◌, verdict, refusal}
 use Rattle.rules.specs.Units.{Write, units}
 use Rattle.rules.specs.Ranges.{rows_ok}
 use Rattle.rules.specs.Order.{batch_order}
 use Rattle.rules.specs.declared.Range.{Range}
-use Rattle.rules.specs.StartData.{no_range}
-use Rattle.rules.specs.declared.Tracking.{Tracking}
-use Rattle.rules.specs.declared.Tracking.TheVariants.{Off, On}
-use Rattle.rules.specs.declared.Queue.TheVariants as queue
+use Rattle.rules.specs.declared.Tracking.TheVariants.{On}
 use Rattle.rules.specs.declared.Controller.{Controller}
 use Rattle.rules.specs.declared.Device.{Device}
 use Rattle.record.specs.Record.{sound_with}
 use Rattle.calls.specs.Calls.{Engine, in_words, Note, noted, note_in}
 use Rattle.calls.specs.declared.Written.{Written}
 use Rattle.calls.specs.declared.Batched.{Batched}
-use Rattle.writes.specs.declared.Single.{Single}
 
 -- ---- a note to one controller
 
--- a tracked one's ranges keep the rules, and its marks lie within the words from a bit on
+-- a tracked one's ranges, of which it has room for one at least, keep the rules, and its marks lie within the words from a bit on
 pub record Lies (g n : ℕ) (rs : List Range) (ws : List ℕ) (base : ℕ) : Type 0 where
   pub small : g ≤ 20
   pub few : n ≤ 16
@@ -28,7 +24,7 @@ pub record Lies (g n : ℕ) (rs : List Range) (ws : List ℕ) (base : ℕ) : Typ
   pub within : Holds ws base (length (units g (take n rs)))
 
 abbrev pub MayNote : Controller → List ℕ → ℕ → Type 0
-MayNote c ws base = (g n : ℕ) → c.tracking ≡ On g n → Lies g n c.ranges ws base
+MayNote c ws base = 1 ≤ length c.ranges → (g n : ℕ) → c.tracking ≡ On g n → Lies g n c.ranges ws base
 
 -- its refusals
 abbrev pub note_tests : Bool → Write → List Test
@@ -43,24 +39,6 @@ note_by e c ws base w =
 
 abbrev pub note_on : Controller → List ℕ → ℕ → Write → Note
 note_on c ws base w = note_by in_words c ws base w
-
--- ---- a controller that has one range or is not tracked
-
-abbrev pub is_one : Tracking → Bool
-is_one Off = true
-is_one (On g n) = eqb n 1
-
--- what a note asks of it
-abbrev pub single_of : Controller → Single
-single_of c = record { suspended = c.suspended; tracking = c.tracking; base = c.base; first = get_or c.ranges 0 no_range }
-
--- these are of a controller, which has its ranges
-abbrev pub Fronts : Single → Controller → Type 0
-Fronts s c = (s ≡ single_of c) × (1 ≤ length c.ranges)
-
--- it, as far as that says
-abbrev pub alone : Single → Controller
-alone f = record { tracking = f.tracking; manager = 0; base = f.base; suspended = f.suspended; ranges = f.first ∷ []; queue = queue.Nothing }
 
 -- ---- a batch
 

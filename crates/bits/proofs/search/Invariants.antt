@@ -1,13 +1,11 @@
--- `bits::search` is right: each turn looks at one word, from bit b up. The loop's invariant: the search from place 64 * i + b has the answer of
--- the search from `from`; b is a bit; and the place is at most `from` or its word's first. The measure is the number of words left. Assumes nothing.
+-- `bits::search` is right: each turn looks at one word, from its first place at or above `from` up. The loop's invariant: the search from there has the
+-- answer of the search from `from`; and no word past the last one that is asked for is come to. Assumes nothing.
 use mathlib.Core.Path.{◌≡◌}
-use Prim.Native.Nat.{◌+◌, ◌-◌, ◌*◌, ◌≤◌, ◌<◌, max}
+use Prim.Native.Nat.{◌*◌, ◌/◌, ◌≤◌, max}
 use Rattle.bits.specs.Flat.{flat}
 use Rattle.bits.specs.Next.{next}
 use Rattle.bits.proofs.search.Given as goal
 
 abbrev pub invariant-loop-i : goal.invariant-loop-i
-invariant-loop-i l = (next l.want (flat l.words) (64 * l.i + l.b) l.to ≡ next l.want (flat l.words) l.from l.to) × (l.b < 64) × (64 * l.i + l.b ≤ max l.from (64 * l.i))
-
-abbrev pub decreases-loop-i : goal.decreases-loop-i
-decreases-loop-i l = l.n - l.i
+invariant-loop-i l =
+    (next l.want (flat l.words) (max l.from (64 * l.i)) l.to ≡ next l.want (flat l.words) l.from l.to) × (l.i ≤ max (l.from / 64) l.i-end)

@@ -1,33 +1,31 @@
--- `booking::totals_of` is right: what its place tells. Assumes nothing.
+-- `booking::totals_of` is right: a place that is found is one of 8, and its account is read. Assumes nothing.
 use mathlib.Core.Path.{◌≡◌, sym, ap, ◌∙◌}
-use Prim.Native.Nat.{◌<◌}
 use native.Mathlib.Omega.{arith}
-use Rattle.record.specs.Record.{where_is}
-use Rattle.record.specs.declared.Place.TheVariants.{At}
+use Prim.Native.Nat.{◌<◌}
+use lib.ListN.{length}
+use Rattle.std.proofs.Common.{rules}
+use Rattle.std.proofs.lemmas.List.{get_or_default}
+use Rattle.rules.proofs.LoopLaws.{length-mapped}
+use Rattle.log_numbers.specs.Log.{empty_account}
+use Rattle.log_numbers.specs.declared.Account.{Account}
 use Rattle.record.proofs.RecordLaws.{where_is-at}
-use Rattle.calls.proofs.PlaceLaws.{refused-place}
 use Rattle.booking.specs.Booking.{reading_at}
 use Rattle.booking.proofs.totals_of.Goals as goal
-use Rattle.booking.proofs.totals_of.Goals.{In-At}
+use Rattle.booking.proofs.totals_of.Goals.{In-Ok}
 
--- the place that was found, which is below 8
-found : (c : In-At)
-    → let a = c.args in
-    where_is a.d a.words a.id ≡ At c.in-At.i
-found c = sym c.locate-place.ensures ∙ c.in-At.is
-
-below : (c : In-At) → c.in-At.i < 8
-below c = (where_is-at _ _ _ _ (found c)).below
-
-pub returns-in_default : goal.returns-in_default
-returns-in_default c =
-    sym (ap (reading_at _) (sym c.locate-place.ensures ∙ refused-place _ _ _ c.in_default.is c.number_of-number.ensures))
+below : (c : In-Ok) → c.in-Ok.i < 8
+below c = (where_is-at c.args.d c.args.words c.args.id c.in-Ok.i (sym c.locate.ensures ∙ c.in-Ok.is)).below
 
 pub offset_bounds-l-i : goal.offset_bounds-l-i
-offset_bounds-l-i c = omega (arith, below c)
+offset_bounds-l-i c = omega (arith, below (goal.at.offset_bounds-l-i c).In-Ok)
 
 pub bounds-l-i : goal.bounds-l-i
-bounds-l-i c = below c
+bounds-l-i c = below (goal.at.bounds-l-i c).In-Ok
 
-pub returns : goal.returns
-returns c = sym (ap (reading_at _) (found (goal.at.returns c).In-At))
+pub returns-in-Ok : goal.returns-in-Ok
+returns-in-Ok c =
+    let a = c.args in
+    let eight : length a.l.accounts ≡ 8 = search (length-mapped, rules) in
+    let found = sym c.locate.ensures ∙ c.in-Ok.is in
+    ap (λ (x : Account). record { number = 0; totals = x.totals }) (get_or_default a.l.accounts c.in-Ok.i _ empty_account (omega (arith, eight, below (goal.at.returns-in-Ok c).In-Ok)))
+    ∙ sym (ap (reading_at a.l) found)

@@ -1,50 +1,52 @@
-use Prim.Native.Nat.{◌<◌, ◌-◌}
-use mathlib.Core.Path.{◌≡◌, refl, sym, ◌∙◌}
-use mathlib.Core.Bool.{true}
-use native.Mathlib.Omega.{arith}
-use borrow.Author.Tests.{not-true, not-false}
-use borrow.Author.Rules.{rules}
-use lib.ListN.{length, get_or}
-use Rattle.fields.specs.Fields.{is_digit}
-use Rattle.fields.proofs.NumberLaws.{digit-least, number-empty, number-zero, number-other, number-over, digits-again, spelled-again, number-whole}
+use Prim.Native.Nat.{◌<◌, ◌+◌, ◌-◌, ◌*◌}
+use Rattle.std.proofs.Common.{◌≡◌, refl, arith, sym, length, get_or}
+use Rattle.fields.proofs.NumberLaws.{number-empty, number-zero, number-other, number-over, digits-again, spelled-again, number-whole, no_leading_zero, leading_zero-is}
+use Rattle.fields.proofs.read_number.Goals.{in_default, in_default-2}
 use Rattle.fields.proofs.read_number.Goals as goal
 
-pub returns-then-n-eq0 : goal.returns-then-n-eq0
-returns-then-n-eq0 c = number-empty _ _ c.if-n-eq0.true
+pub returns-in-empty-clause-number : goal.returns-in-empty-clause-number
+returns-in-empty-clause-number c = number-empty _ _ (omega arith)
 
-pub returns-then-leading_zero : goal.returns-then-leading_zero
-returns-then-leading_zero c = number-zero _ _ (sym c.leading_zero.ensures ∙ c.if-leading_zero.true)
+pub returns-in-empty-2-clause-number : goal.returns-in-empty-2-clause-number
+returns-in-empty-2-clause-number c = number-zero _ _ (leading_zero-is c.args.field.now (omega arith) (omega arith))
 
-pub loop-i-init : goal.loop-i-init
-loop-i-init c = (refl, search rules, sym c.leading_zero.ensures ∙ c.if-leading_zero.false, search rules, search rules, refl, refl)
+pub loop-b-init : goal.loop-b-init
+loop-b-init c =
+    elim c.if-field-lt2.branch [
+      | in_default w ↦ record { some = omega arith; front = no_leading_zero c.args.field.now (λ h. absurd (omega arith)); fits = omega arith; spells = refl; digits = refl }
+      | in_default-2 w ↦ record { some = omega arith; front = no_leading_zero c.args.field.now (λ h e. absurd (omega arith)); fits = omega arith; spells = refl; digits = refl }
+    ]
 
-pub returns-then-not-is_digit : goal.returns-then-not-is_digit
-returns-then-not-is_digit c = number-other c.args.most c.args.field.now c.loop-i.v c.loop-i.i (omega arith) (sym c.is_digit.ensures ∙ not-true _ c.if-not-is_digit.true-raw) c.loop-i.invariant.6
+pub returns-then-not-is_ascii_digit-clause-number : goal.returns-then-not-is_ascii_digit-clause-number
+returns-then-not-is_ascii_digit-clause-number c =
+    number-other _ c.args.field.now c.loop-b.value c.loop-b.b-index (omega arith) (sym c.if-not-is_ascii_digit.ensures.value) c.loop-b.invariant.digits
 
-pub overflow_sub-b : goal.overflow_sub-b
-overflow_sub-b c =
-    let b = get_or c.args.field.now c.loop-i.i 0 in
-    let h : is_digit b ≡ true = sym c.is_digit.ensures ∙ not-false _ c.if-not-is_digit.false-raw in
-    omega (arith, digit-least b h)
+pub returns-in_err-checked_mul-clause-number : goal.returns-in_err-checked_mul-clause-number
+returns-in_err-checked_mul-clause-number c =
+    rw c.from_residual.ensures (number-over c.args.most c.args.field.now c.loop-b.value c.loop-b.b-index (omega arith) (omega (arith, c.in_err-checked_mul.ensures)) c.loop-b.invariant.spells)
 
-pub returns-then-most-d : goal.returns-then-most-d
-returns-then-most-d c = number-over c.args.most c.args.field.now c.loop-i.v c.loop-i.i (omega arith) (omega arith) c.loop-i.invariant.5
+pub returns-in_err-value-clause-number : goal.returns-in_err-value-clause-number
+returns-in_err-value-clause-number c =
+    rw c.from_residual-in_err-value.ensures (number-over c.args.most c.args.field.now c.loop-b.value c.loop-b.b-index (omega arith) (omega (arith, c.in_err-value.ensures)) c.loop-b.invariant.spells)
 
-pub returns-then-most-d-2 : goal.returns-then-most-d-2
-returns-then-most-d-2 c = number-over c.args.most c.args.field.now c.loop-i.v c.loop-i.i (omega arith) (omega arith) c.loop-i.invariant.5
+pub returns-then-value-most-clause-number : goal.returns-then-value-most-clause-number
+returns-then-value-most-clause-number c =
+    number-over c.args.most c.args.field.now c.loop-b.value c.loop-b.b-index (omega arith) (omega (arith, c.in_ok-value.ensures)) c.loop-b.invariant.spells
 
-pub loop-i-preserved : goal.loop-i-preserved
-loop-i-preserved c =
-    let p = c.loop-i.invariant in
-    let inside : c.loop-i.i < length c.args.field.now = omega arith in (
-      p.0,
-      p.1,
-      p.2,
-      search rules,
-      search rules,
-      spelled-again c.args.most c.args.field.now c.loop-i.v c.loop-i.i _ inside c.wide-d.ensures p.5,
-      digits-again c.args.most c.args.field.now c.loop-i.v c.loop-i.i inside (sym c.is_digit.ensures ∙ not-false _ c.if-not-is_digit.false-raw) p.6,
-    )
+pub loop-b-preserved : goal.loop-b-preserved
+loop-b-preserved c =
+    let p = c.loop-b.invariant in
+    let inside : c.loop-b.b-index < length c.args.field.now = omega arith in
+    let v : c.in_ok-value.value ≡ 10 * c.loop-b.value + (get_or c.args.field.now c.loop-b.b-index 0 - 48) = omega (arith, c.in_ok-value.ensures, c.in_ok-checked_mul.ensures) in
+    record {
+      some = p.some;
+      front = p.front;
+      fits = omega arith;
+      spells = rw v (spelled-again c.args.most c.args.field.now c.loop-b.value c.loop-b.b-index _ inside refl p.spells);
+      digits = digits-again c.args.most c.args.field.now c.loop-b.value c.loop-b.b-index inside (sym c.if-not-is_ascii_digit.ensures.value) p.digits;
+    }
 
-pub returns : goal.returns
-returns c = let p = c.loop-i.invariant in number-whole c.args.most c.args.field.now c.loop-i.v c.loop-i.i (omega arith) p.1 p.2 p.3 p.5 p.6
+pub returns-clause-number : goal.returns-clause-number
+returns-clause-number c =
+    let p = c.loop-b.invariant in
+    number-whole c.args.most c.args.field.now c.loop-b.value c.loop-b.b-index (omega arith) p.some p.front p.fits p.spells p.digits

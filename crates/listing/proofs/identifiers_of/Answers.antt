@@ -1,21 +1,15 @@
-use Prim.Native.Nat.{◌+◌, ◌*◌, ◌-◌}
-use mathlib.Core.Path.{◌≡◌}
-use native.Mathlib.Omega.{arith}
-use borrow.Author.Rules.{rules}
-use lib.ListN.{length-set}
-use Rattle.little.proofs.Records.{records_at-start, records_at-again, records_at-done}
+use Rattle.std.proofs.Common.{◌≤◌, length, arith, add-one}
+use lib.ListN.{length-set, drop_of_length-le}
+use lib.Seq.{drop-cons}
+use Rattle.little.proofs.Put.{put-cons, put-nil}
 use Rattle.listing.proofs.identifiers_of.Goals as goal
-
-pub loop-i-init : goal.loop-i-init
-loop-i-init c = (search rules, search rules, records_at-start _ _ _ _ _ _)
-
-pub overflow_cast-a : goal.overflow_cast-a
-overflow_cast-a c = omega (arith, c.requires.1 c.loop-i.i (omega arith))
 
 pub loop-i-preserved : goal.loop-i-preserved
 loop-i-preserved c =
-    let e : 5 + 1 * c.loop-i.i ≡ 5 + c.loop-i.i = omega arith in
-    (simp length-set c.loop-i.invariant.0, search rules, records_at-again _ _ _ _ _ _ _ _ _ (omega arith) (rw e) c.loop-i.invariant.2)
+    let p = c.loop-i.invariant in
+    (simp length-set p.0, rw add-one (rw (drop-cons c.args.numbers.now c.loop-i.i 0 (omega arith), put-cons) at p.1))
 
 pub returns : goal.returns
-returns c = search records_at-done
+returns c =
+    let over : length c.args.numbers.now ≤ c.loop-i.i = omega arith in
+    rw (drop_of_length-le c.args.numbers.now over, put-nil) at c.loop-i.invariant.1

@@ -1,59 +1,31 @@
--- `listing::line_of` is right because it goes by the word as `call_line` does.
-use native.Mathlib.Omega.{arith}
-use Rattle.listing.specs.Listing.{call_line}
-use Rattle.listing.proofs.WordLaws.{taken_of, small-stop, small-write, small-recv, small-susp, small-kind, small-resume}
+-- `listing::line_of` is right because it goes by the word as `call_line` does, and by how many numbers there are as `takes_count` does.
+use Rattle.std.proofs.Common.{arith, ◌∙◌}
+use Rattle.listing.proofs.CallLaws.{dev_line, start_line, stop_line, write_line, recv_line, susp_line, resume_line, identifiers-fit, lengths-fit}
 use Rattle.listing.proofs.line_of.Goals as goal
 
-pub dev_line-requires : goal.dev_line-requires
-dev_line-requires c = taken_of _ _ _ c.requires _ c.in-Dev.is
+pub identifiers_of-requires-clause-fit : goal.identifiers_of-requires-clause-fit
+identifiers_of-requires-clause-fit c = identifiers-fit _ _ c.in-Dev-len5-up.is-0 c.requires
 
-pub start_line-requires : goal.start_line-requires
-start_line-requires c = taken_of _ _ _ c.requires _ c.in-Start.is
+pub ranges_of-requires-clause-fit : goal.ranges_of-requires-clause-fit
+ranges_of-requires-clause-fit c = lengths-fit _ _ c.in-Start-len2-up.is-0 c.requires
 
-pub overflow_cast-id : goal.overflow_cast-id
-overflow_cast-id c = omega (arith, small-stop _ _ _ c.requires c.in-Stop.is)
+pub returns-in-Dev-len5-up : goal.returns-in-Dev-len5-up
+returns-in-Dev-len5-up c = rw (c.identifiers_of.ensures, c.no_ranges.ensures) (dev_line _ _ c.in-Dev-len5-up.is-0 c.in-Dev-len5-up.len_at_least c.if-identifiers-le8.true)
 
-pub overflow_cast-id-in-Write : goal.overflow_cast-id-in-Write
-overflow_cast-id-in-Write c = omega (arith, small-write _ _ _ c.requires c.in-Write.is)
+pub returns-in-Start-len2-up : goal.returns-in-Start-len2-up
+returns-in-Start-len2-up c = rw c.ranges_of.ensures (start_line _ _ c.in-Start-len2-up.is-0 c.in-Start-len2-up.len_at_least c.if-pairs-le32.true c.if-pairs-eq0.true)
 
-pub overflow_cast-id-in-Recv : goal.overflow_cast-id-in-Recv
-overflow_cast-id-in-Recv c = omega (arith, small-recv _ _ _ c.requires c.in-Recv.is)
+pub returns-in-Stop-len1 : goal.returns-in-Stop-len1
+returns-in-Stop-len1 c = c.plain.ensures ∙ stop_line c.args.word c.args.numbers.now c.in-Stop-len1.is-0 (omega arith)
 
-pub overflow_cast-id-in-Susp : goal.overflow_cast-id-in-Susp
-overflow_cast-id-in-Susp c = omega (arith, small-susp _ _ _ c.requires c.in-Susp.is)
+pub returns-in-Write-len3 : goal.returns-in-Write-len3
+returns-in-Write-len3 c = c.plain-in-Write-len3.ensures ∙ write_line c.args.word c.args.numbers.now c.in-Write-len3.is-0 (omega arith)
 
-pub overflow_cast-kind : goal.overflow_cast-kind
-overflow_cast-kind c = omega (arith, small-kind _ _ _ c.requires c.in-Susp.is)
+pub returns-in-Recv-len2 : goal.returns-in-Recv-len2
+returns-in-Recv-len2 c = c.plain-in-Recv-len2.ensures ∙ recv_line c.args.word c.args.numbers.now c.in-Recv-len2.is-0 (omega arith)
 
-pub overflow_cast-id-in-Resume : goal.overflow_cast-id-in-Resume
-overflow_cast-id-in-Resume c = omega (arith, small-resume _ _ _ c.requires c.in-Resume.is)
+pub returns-in-Susp-len2 : goal.returns-in-Susp-len2
+returns-in-Susp-len2 c = c.plain-in-Susp-len2.ensures ∙ susp_line c.args.word c.args.numbers.now c.in-Susp-len2.is-0 (omega arith)
 
-pub returns-in-Dev : goal.returns-in-Dev
-returns-in-Dev c = rw c.in-Dev.is c.dev_line.ensures
-
-pub returns-in-Start : goal.returns-in-Start
-returns-in-Start c = rw c.in-Start.is c.start_line.ensures
-
-pub returns-in-Stop : goal.returns-in-Stop
-unfolding call_line
-returns-in-Stop c = rw c.in-Stop.is c.plain.ensures
-
-pub returns-in-Write : goal.returns-in-Write
-unfolding call_line
-returns-in-Write c = rw c.in-Write.is c.plain-in-Write.ensures
-
-pub returns-in-Recv : goal.returns-in-Recv
-unfolding call_line
-returns-in-Recv c = rw c.in-Recv.is c.plain-in-Recv.ensures
-
-pub returns-in-Susp : goal.returns-in-Susp
-unfolding call_line
-returns-in-Susp c = rw c.in-Susp.is c.plain-in-Susp.ensures
-
-pub returns-in-Resume : goal.returns-in-Resume
-unfolding call_line
-returns-in-Resume c = rw c.in-Resume.is c.plain-in-Resume.ensures
-
-pub returns-in-Other : goal.returns-in-Other
-unfolding call_line
-returns-in-Other c = rw c.in-Other.is c.plain-in-Other.ensures
+pub returns-in-Resume-len1 : goal.returns-in-Resume-len1
+returns-in-Resume-len1 c = c.plain-in-Resume-len1.ensures ∙ resume_line c.args.word c.args.numbers.now c.in-Resume-len1.is-0 (omega arith)

@@ -1,14 +1,9 @@
 -- `little::put_number` is right because each turn stores the lowest byte of what is left of the number.
--- The loop's invariant: storing what is left from `i` on gives the promised buffer. The measure is the number of bytes left.
-use Prim.Native.Nat.{◌≤◌, ◌+◌}
+-- The loop's invariant: storing what is left gives the promised buffer.
+use Prim.Native.Nat.{◌+◌, ◌-◌}
 use mathlib.Core.Path.{◌≡◌}
-use lib.ListN.{length}
 use Rattle.little.specs.Little.{number_bytes, put}
 use Rattle.little.proofs.put_number.Given as goal
 
-abbrev pub invariant-loop-left : goal.invariant-loop-left
-invariant-loop-left l =
-    (length l.buf ≡ length l.initial.buf) × (l.i + l.left ≤ length l.buf) × (put l.buf l.i (number_bytes l.left l.rest) ≡ put l.initial.buf l.at (number_bytes l.width l.v))
-
-abbrev pub decreases-loop-left : goal.decreases-loop-left
-decreases-loop-left l = l.left
+abbrev pub invariant-loop-i : goal.invariant-loop-i
+invariant-loop-i l = put l.buf (l.at + l.i) (number_bytes (l.width - l.i) l.rest) ≡ put l.initial.buf l.at (number_bytes l.width l.v)

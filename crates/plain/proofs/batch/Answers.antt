@@ -1,48 +1,26 @@
 -- What `Turns` says of a turn, at what the calls in it answer.
-use mathlib.Core.Path.{◌≡◌, refl, sym, subst, ◌∙◌}
-use mathlib.Core.Bool.{true}
-use native.Mathlib.Omega.{arith}
-use lib.ListN.{length}
-use Rattle.calls.specs.declared.Batched.{Batched}
-use Rattle.writes.specs.Inner.{is_due}
-use Rattle.writes.proofs.Turns.{Facts, starts, inside, fits_in, turned, nearer, stopped}
+use mathlib.Core.Path.{◌∙◌}
+use Rattle.writes.proofs.Turns.{going-refused, going-first, going-fits, going-cut, going-next, going-over}
 use Rattle.plain.specs.Bytes.{in_bytes}
 use Rattle.plain.proofs.BatchLaws.{bytes-sized}
 use Rattle.plain.proofs.batch.Goals as goal
-use Rattle.plain.proofs.batch.Goals.{In-loop-d}
 
--- a note is due
-on : (c : In-loop-d) → is_due c.loop-d.b (length c.args.list.now) ≡ true
-on c = sym c.due.ensures ∙ c.loop-d-test.true
+pub returns-then-b-ne0 : goal.returns-then-b-ne0
+returns-then-b-ne0 c = going-refused in_bytes bytes-sized _ _ _ _ (rw c.words_for.ensures at c.begin-b.ensures) c.if-b-ne0.true
 
-pub loop-d-init : goal.loop-d-init
-loop-d-init c = (subst (λ (b : Batched). Facts in_bytes bytes-sized c.args.d c.args.area.now c.args.list.now b c.args.area.now) (sym c.begin-b.ensures) (starts in_bytes bytes-sized c.args.d c.args.area.now c.args.list.now), refl)
-
--- few notes are done
-pub offset_bounds-list-b : goal.offset_bounds-list-b
-offset_bounds-list-b c =
-    let i = c.loop-d.invariant in
-    omega (arith, inside in_bytes bytes-sized c.args.d c.args.area.now c.args.list.now _ _ i.1 (on c) i.0, (i.0.ok (on c)).0)
-
-pub bounds-list-b : goal.bounds-list-b
-bounds-list-b c =
-    let i = c.loop-d.invariant in
-    inside in_bytes bytes-sized c.args.d c.args.area.now c.args.list.now _ _ i.1 (on c) i.0
+pub loop-w-init : goal.loop-w-init
+loop-w-init c = going-first in_bytes bytes-sized _ _ _ _ (rw c.words_for.ensures at c.begin-b.ensures) c.if-b-ne0.false
 
 pub tally-b-requires : goal.tally-b-requires
-tally-b-requires c =
-    let i = c.loop-d.invariant in
-    fits_in in_bytes bytes-sized c.args.d c.args.area.now c.args.list.now _ _ i.1 (on (goal.at.tally-b-requires c).In-loop-d) i.0 _ c.write-r.ensures.0
+tally-b-requires c = going-fits in_bytes bytes-sized _ _ _ _ _ _ c.loop-w.invariant c.loop-w-test.true _ _ c.write.ensures.0 c.write.ensures.1
 
-pub loop-d-smaller : goal.loop-d-smaller
-loop-d-smaller c =
-    let i = c.loop-d.invariant in
-    nearer in_bytes bytes-sized c.args.d c.args.area.now c.args.list.now _ _ i.1 (on (goal.at.loop-d-smaller c).In-loop-d) i.0 _ _ _ c.write-r.ensures.0 c.write-r.ensures.1 c.tally-b.ensures
+pub returns-then-b-ne0-2 : goal.returns-then-b-ne0-2
+returns-then-b-ne0-2 c = going-cut in_bytes bytes-sized _ _ _ _ _ _ c.loop-w.invariant c.loop-w-test.true _ _ c.write.ensures.0 c.write.ensures.1 _ c.tally-b.ensures c.if-b-ne0-2.true
 
-pub loop-d-preserved : goal.loop-d-preserved
-loop-d-preserved c =
-    let i = c.loop-d.invariant in
-    (turned in_bytes bytes-sized c.args.d c.args.area.now c.args.list.now _ _ i.1 (on (goal.at.loop-d-preserved c).In-loop-d) i.0 _ _ _ c.write-r.ensures.0 c.write-r.ensures.1 c.tally-b.ensures, c.write-r.auto.area ∙ i.1)
+pub loop-w-preserved : goal.loop-w-preserved
+loop-w-preserved c =
+    let g = c.loop-w.invariant in
+    going-next in_bytes bytes-sized _ _ _ _ _ _ g c.loop-w-test.true _ _ c.write.ensures.0 c.write.ensures.1 _ c.tally-b.ensures c.if-b-ne0-2.false (c.write.auto.area ∙ g.same)
 
 pub returns : goal.returns
-returns c = stopped in_bytes bytes-sized c.args.d c.args.area.now c.args.list.now _ _ (sym c.due.ensures ∙ c.loop-d-test.false) c.loop-d.invariant.0
+returns c = going-over in_bytes bytes-sized _ _ _ _ _ _ c.loop-w.invariant c.loop-w-test.false

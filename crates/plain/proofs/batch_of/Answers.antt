@@ -13,4 +13,4 @@ pub returns : goal.returns
 returns c =
     let a = c.args in
     let all : length a.list ≡ 1025 = search (length-mapped, rules) in
-    leaves-as _ _ _ _ (ap (batch_by in_bytes _ _) (sym (take-least _ _ _ all c.listed.ensures))) c.batch_front.ensures
+    leaves-as _ _ _ _ (ap (batch_by in_bytes _ _) (sym (take-least _ _ _ all c.min.ensures))) c.batch.ensures

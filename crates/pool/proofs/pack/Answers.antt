@@ -52,4 +52,4 @@ loop-i-preserved c =
 pub returns : goal.returns
 returns c =
     let l = c.loop-i in
-    ap flat c.copy_words.ensures ∙ packing-all (flat c.args.marks.now) c.args.bases c.args.sizes c.args.clear l.invariant.0 (omega arith)
+    ap flat c.copy_from_slice.ensures.after ∙ packing-all (flat c.args.marks.now) c.args.bases c.args.sizes c.args.clear l.invariant.0 (omega arith)

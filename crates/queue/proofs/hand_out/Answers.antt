@@ -10,9 +10,7 @@ use Rattle.queue.proofs.hand_out.Goals as goal
 pub returns : goal.returns
 returns c =
     let a = c.args in
-    let fill = c.fill_of-fill in
-    let fits = c.least-fits in
-    let few = taken-few a.area.now a.r a.asked (length a.buffer.now) _ _ _ fill.ensures fits.ensures c.least-m.ensures in
-    let count = taken-count a.area.now a.r a.asked (length a.buffer.now) _ _ _ fill.ensures fits.ensures c.least-m.ensures in
-    let entries = taken-entries a.area.now a.r a.asked (length a.buffer.now) _ _ _ fill.ensures fits.ensures c.least-m.ensures in
+    let few = taken-few a.area.now a.r a.asked (length a.buffer.now) _ _ _ c.fill_of.ensures c.min-fits.ensures c.min-m.ensures in
+    let count = taken-count a.area.now a.r a.asked (length a.buffer.now) _ _ _ c.fill_of.ensures c.min-fits.ensures c.min-m.ensures in
+    let entries = taken-entries a.area.now a.r a.asked (length a.buffer.now) _ _ _ c.fill_of.ensures c.min-fits.ensures c.min-m.ensures in
     (count, omega (arith, few, c.requires), c.take_entries.ensures ∙ ap (λ es. put a.buffer.now 0 (joined es)) (sym entries))

@@ -1,6 +1,5 @@
 use mathlib.Core.Path.{◌≡◌, refl, sym, ap, ◌∙◌}
-use mathlib.Core.Bool.{true, false}
-use Prim.Native.Nat.{◌≤◌, ◌*◌}
+use mathlib.Core.Bool.{true}
 use native.Mathlib.Omega.{arith}
 use borrow.Author.Rules.{rules}
 use borrow.Author.Tests.{not-true, not-false}
@@ -9,14 +8,9 @@ use Rattle.rules.specs.Lists.{all}
 use Rattle.rules.specs.StartData.{no_range}
 use Rattle.rules.proofs.LoopLaws.{all-miss, all-next, all_end, sum-next, sum-end}
 use Rattle.ranges.specs.Kept.{lengths_of, kept_by}
-use Rattle.ranges.specs.declared.Kept.{Kept}
 use Rattle.ranges.proofs.RangeLaws.{each_ok, kept-empty, kept-many, kept-not, kept-few, kept-counted, each_rows, units-lengths}
 use Rattle.ranges.proofs.list_kept.Goals as goal
-use Rattle.ranges.proofs.list_kept.Goals.{After-loop-i}
-
--- where a rule is broken there are no units
-nothing : (r k : Kept) → r ≡ kept_by false 0 → k ≡ kept_by false 0 → (r ≡ k) × (r.most.0 ≤ 16 * 4294967295)
-nothing r k e f = (e ∙ sym f, omega (arith, ap (λ (x : Kept). x.most.0) e))
+use Rattle.ranges.proofs.list_kept.Goals.{After-loop-i, then-m-lt1-via-then-m-lt1, then-m-lt1-via-else-m-lt1+then-m-gt16}
 
 -- past the loop the lengths are added and each range passes by itself
 added : (c : After-loop-i)
@@ -34,20 +28,18 @@ passed c =
     c.loop-i.invariant.5 ∙ all_end (each_ok a.s a.g) a.ranges a.n c.loop-i.i (omega arith)
 
 pub returns-then-m-lt1 : goal.returns-then-m-lt1
-returns-then-m-lt1 c = nothing _ _ c.broken.ensures (kept-empty _ _ _ _ c.if-m-lt1.true)
-
-pub returns-then-m-gt16 : goal.returns-then-m-gt16
-returns-then-m-gt16 c = nothing _ _ c.broken-then-m-gt16.ensures (kept-many _ _ _ _ c.if-m-gt16.true)
+returns-then-m-lt1 c = (elim c.then-m-lt1.branch [ then-m-lt1-via-then-m-lt1 w ↦ sym (kept-empty _ _ _ _ w.if-m-lt1.true) | then-m-lt1-via-else-m-lt1+then-m-gt16 w ↦ sym (kept-many _ _ _ _ w.if-m-gt16.true) ], omega arith)
 
 pub loop-i-init : goal.loop-i-init
 loop-i-init c = (search rules, omega arith, omega arith, omega arith, omega arith, refl)
 
 pub returns-then-not-row_ok : goal.returns-then-not-row_ok
 returns-then-not-row_ok c =
-    let a = c.args in
-    nothing _ _ c.broken-then-not-row_ok.ensures
-    (kept-not _ _ _ _ (omega arith) (omega arith)
-    (c.loop-i.invariant.5 ∙ all-miss (each_ok a.s a.g) a.ranges a.n c.loop-i.i no_range (omega arith) (omega arith) (sym c.row_ok.ensures ∙ not-true _ c.if-not-row_ok.true-raw)))
+    let a = c.args in (
+      sym (kept-not _ _ _ _ (omega arith) (omega arith)
+          (c.loop-i.invariant.5 ∙ all-miss (each_ok a.s a.g) a.ranges a.n c.loop-i.i no_range (omega arith) (omega arith) (sym c.row_ok.ensures ∙ not-true _ c.if-not-row_ok.true-raw))),
+      omega arith,
+    )
 
 pub loop-i-preserved : goal.loop-i-preserved
 loop-i-preserved c =
@@ -68,15 +60,15 @@ returns-then-total-le-MOST_UNITS c =
       omega arith,
     )
 
-pub units_in-most-requires : goal.units_in-most-requires
-units_in-most-requires c =
+pub units_in-requires : goal.units_in-requires
+units_in-requires c =
     let a = c.args in
-    (c.requires, omega arith, each_rows a.s a.g (take a.n a.ranges) (passed (goal.at.units_in-most-requires c).After-loop-i))
+    (c.requires, omega arith, each_rows a.s a.g (take a.n a.ranges) (passed (goal.at.units_in-requires c).After-loop-i))
 
 pub returns : goal.returns
 returns c =
     let a = c.args in
-    let is = c.units_in-most.ensures.0 in (
+    let is = c.units_in.ensures.0 in (
       sym (kept-counted a.s a.g a.n (take a.n a.ranges) (omega arith) (omega arith) (passed (goal.at.returns c).After-loop-i) (omega (arith, added (goal.at.returns c).After-loop-i)) ∙ ap (kept_by true) (sym is)),
       omega (arith, is, units-lengths a.g (take a.n a.ranges), added (goal.at.returns c).After-loop-i),
     )

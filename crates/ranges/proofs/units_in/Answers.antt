@@ -9,7 +9,7 @@ use Rattle.pieces.specs.Pieces.{PieceFound, NextIs}
 use Rattle.pieces.proofs.PieceLaws.{left-all, piece-length}
 use Rattle.ranges.proofs.RangeLaws.{units-lengths, lengths-small}
 use Rattle.ranges.proofs.units_in.Goals as goal
-use Rattle.ranges.proofs.units_in.Goals.{In-Is, Start}
+use Rattle.ranges.proofs.units_in.Goals.{In-Some, Start}
 
 -- there are few: 16 ranges of at most 2^52 units
 few : (c : Start) → length (units c.args.g (take c.args.n c.args.ranges)) ≤ 2 ^ 56
@@ -18,14 +18,14 @@ few c =
     omega (arith, units-lengths c.args.g rs, lengths-small c.args.g rs c.requires.2, length-take c.args.n c.args.ranges, c.requires.1)
 
 -- the piece that was found
-found : (c : In-Is)
+found : (c : In-Some)
     → let a = c.args in
     let l = c.loop-piece in
-    PieceFound (unit_size a.g) (take a.n a.ranges) l.row l.unit.0 c.in-Is.piece
+    PieceFound (unit_size a.g) (take a.n a.ranges) l.row l.unit.0 c.in-Some.piece
 found c =
     let a = c.args in
     let l = c.loop-piece in
-    subst (NextIs (unit_size a.g) (take a.n a.ranges) l.row l.unit.0) c.in-Is.is c.next_piece.ensures
+    subst (NextIs (unit_size a.g) (take a.n a.ranges) l.row l.unit.0) c.in-Some.is c.next_piece.ensures
 
 pub loop-piece-init : goal.loop-piece-init
 loop-piece-init c = (omega arith, zero-add _ ∙ ap length (sym (left-all (unit_size c.args.g) (take c.args.n c.args.ranges))))
@@ -34,22 +34,23 @@ pub next_piece-requires : goal.next_piece-requires
 next_piece-requires c =
     (c.requires.0, c.requires.1, c.requires.2, c.loop-piece.invariant.0)
 
-pub returns-in_default : goal.returns-in_default
-returns-in_default c =
+pub returns : goal.returns
+returns c =
     let l = c.loop-piece in
-    let q = subst (NextIs _ _ _ _) c.in_default.is c.next_piece.ensures in
+    let a = c.args in
+    let q = subst (NextIs (unit_size a.g) (take a.n a.ranges) l.row l.unit.0) c.in_default.is c.next_piece.ensures in
     let e = sym (add-zero _) ∙ (rw q at l.invariant.1) in
-    (e, omega (arith, e, few (goal.at.returns-in_default c).Start))
+    (e, omega (arith, e, few (goal.at.returns c).Start))
 
 pub overflow_add-total : goal.overflow_add-total
 overflow_add-total c =
     let l = c.loop-piece in
-    omega (arith, l.invariant.1, piece-length _ _ _ _ _ (found (goal.at.overflow_add-total c).In-Is), c.length_of-u.ensures.0, few (goal.at.overflow_add-total c).Start)
+    omega (arith, l.invariant.1, piece-length _ _ _ _ _ (found (goal.at.overflow_add-total c).In-Some), c.length_of-u.ensures.0, few (goal.at.overflow_add-total c).Start)
 
 pub loop-piece-smaller : goal.loop-piece-smaller
-loop-piece-smaller c = omega (arith, (found (goal.at.loop-piece-smaller c).In-Is).some, piece-length _ _ _ _ _ (found (goal.at.loop-piece-smaller c).In-Is))
+loop-piece-smaller c = omega (arith, (found (goal.at.loop-piece-smaller c).In-Some).some, piece-length _ _ _ _ _ (found (goal.at.loop-piece-smaller c).In-Some))
 
 pub loop-piece-preserved : goal.loop-piece-preserved
 loop-piece-preserved c =
     let l = c.loop-piece in
-    ((found (goal.at.loop-piece-preserved c).In-Is).inside, omega (arith, l.invariant.1, piece-length _ _ _ _ _ (found (goal.at.loop-piece-preserved c).In-Is), c.length_of-u.ensures.0))
+    ((found (goal.at.loop-piece-preserved c).In-Some).inside, omega (arith, l.invariant.1, piece-length _ _ _ _ _ (found (goal.at.loop-piece-preserved c).In-Some), c.length_of-u.ensures.0))

@@ -16,4 +16,4 @@ returns-in_default c =
 
 pub returns : goal.returns
 returns c =
-    sym (where_is-found _ _ _ _ c.if-words-ne-MARK_WORDS.false (sym c.sound.ensures ∙ not-false _ c.if-not-sound.false-raw) (sym c.find.ensures ∙ c.in-At.is))
+    sym (where_is-found _ _ _ _ c.if-words-ne-MARK_WORDS.false (sym c.sound.ensures ∙ not-false _ c.if-not-sound.false-raw) (sym c.find.ensures ∙ c.in-Some.is))

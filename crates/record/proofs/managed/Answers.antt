@@ -23,6 +23,6 @@ pub returns-then-m-s : goal.returns-then-m-s
 returns-then-m-s c =
     first (goal.at.returns-then-m-s c).After-walk-w ∙ sound_device-first c.args.d _ c.requires.0 c.if-m-s.true
 
-pub returns : goal.returns
-returns c =
-    omega (arith, first (goal.at.returns c).After-walk-w, weighed (goal.at.returns c).After-walk-w, sound_device-second c.args.d _ c.requires.0 c.requires.1 c.if-m-s.false)
+pub returns-else-m-s : goal.returns-else-m-s
+returns-else-m-s c =
+    omega (arith, first (goal.at.returns-else-m-s c).After-walk-w, weighed (goal.at.returns-else-m-s c).After-walk-w, sound_device-second c.args.d _ c.requires.0 c.requires.1 c.if-m-s.false)

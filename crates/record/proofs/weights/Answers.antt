@@ -5,4 +5,4 @@ use Rattle.record.proofs.WalkLaws.{walk_of-weight}
 use Rattle.record.proofs.weights.Goals as goal
 
 pub returns : goal.returns
-returns c = ap (λ (w : Walked). w.weight) c.walk-w.ensures.0 ∙ walk_of-weight c.args.d
+returns c = ap (λ (w : Walked). w.weight) c.walk.ensures.0 ∙ walk_of-weight c.args.d

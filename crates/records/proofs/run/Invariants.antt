@@ -1,9 +1,9 @@
--- `records::run` is safe and ends. The loop's invariant: the buffers keep their lengths. The measure is the number of turns left.
-use Rattle.std.proofs.Common.{◌≡◌, length}
+-- `records::run` is safe because fewer bytes of a case are there than it has.
+use Rattle.std.proofs.Common.{◌<◌}
 use Rattle.records.proofs.run.Given as goal
 
-abbrev pub invariant-loop-turns : goal.invariant-loop-turns
-invariant-loop-turns g l = (length l.case ≡ length l.initial.case) × (length l.input ≡ length l.initial.input)
+abbrev pub invariant-loop-byte : goal.invariant-loop-byte
+invariant-loop-byte g l = l.there < 3056
 
-abbrev pub decreases-loop-turns : goal.decreases-loop-turns
-decreases-loop-turns g l = l.turns
+abbrev pub invariant-loop : goal.invariant-loop
+invariant-loop g l = l.there < 3056

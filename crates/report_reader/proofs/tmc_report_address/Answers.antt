@@ -1,20 +1,11 @@
 -- `report_reader::tmc_report_address` is right because the bytes of a descriptor that is not refused are there.
-use mathlib.Core.Path.{◌∙◌}
-use native.Mathlib.Omega.{arith}
-use Rattle.report_reader.proofs.AnswerLaws.{index-zero, index-size, index-answer}
+use mathlib.Core.Path.{sym, ◌∙◌}
+use Rattle.rules.proofs.RefusalLaws.{number_of-pos}
+use Rattle.report_reader.proofs.AnswerLaws.{index-zero, index-answer}
 use Rattle.report_reader.proofs.tmc_report_address.Goals as goal
 
-pub returns-then-tmc_report_refusal_at-ne0 : goal.returns-then-tmc_report_refusal_at-ne0
-returns-then-tmc_report_refusal_at-ne0 c = index-zero _ _ _ (rw c.tmc_report_refusal_at.ensures at c.if-tmc_report_refusal_at-ne0.true)
+pub returns-in-Err : goal.returns-in-Err
+returns-in-Err c = index-zero _ _ _ (λ z. number_of-pos _ (c.in-Err.ensures.number ∙ z))
 
-pub overflow_mul-index : goal.overflow_mul-index
-overflow_mul-index c = omega (arith, index-size _ _ (rw c.tmc_report_refusal_at.ensures at c.if-tmc_report_refusal_at-ne0.false))
-
-pub overflow_add-index : goal.overflow_add-index
-overflow_add-index c = omega (arith, index-size _ _ (rw c.tmc_report_refusal_at.ensures at c.if-tmc_report_refusal_at-ne0.false))
-
-pub read_u64-requires : goal.read_u64-requires
-read_u64-requires c = omega (arith, index-size _ _ (rw c.tmc_report_refusal_at.ensures at c.if-tmc_report_refusal_at-ne0.false))
-
-pub returns : goal.returns
-returns c = c.read_u64.ensures ∙ index-answer _ _ (rw c.tmc_report_refusal_at.ensures at c.if-tmc_report_refusal_at-ne0.false) _
+pub returns-in-Ok : goal.returns-in-Ok
+returns-in-Ok c = (rw c.in-Ok.ensures.place.0 at c.read.ensures) ∙ index-answer _ _ (sym c.in-Ok.ensures.number) _

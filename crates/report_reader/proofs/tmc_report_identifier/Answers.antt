@@ -7,8 +7,8 @@ use Rattle.report_reader.proofs.tmc_report_identifier.Goals as goal
 pub returns-then-tmc_report_refusal-ne0 : goal.returns-then-tmc_report_refusal-ne0
 returns-then-tmc_report_refusal-ne0 c = refused-answer _ _ (rw c.tmc_report_refusal.ensures at c.if-tmc_report_refusal-ne0.true)
 
-pub read_u16-requires : goal.read_u16-requires
-read_u16-requires c = omega (arith, accepted-size _ (rw c.tmc_report_refusal.ensures at c.if-tmc_report_refusal-ne0.false))
+pub read-requires : goal.read-requires
+read-requires c = omega (arith, accepted-size _ (rw c.tmc_report_refusal.ensures at c.if-tmc_report_refusal-ne0.false))
 
 pub returns : goal.returns
-returns c = c.read_u16.ensures ∙ accepted-answer _ (rw c.tmc_report_refusal.ensures at c.if-tmc_report_refusal-ne0.false) _
+returns c = c.read.ensures ∙ accepted-answer _ (rw c.tmc_report_refusal.ensures at c.if-tmc_report_refusal-ne0.false) _

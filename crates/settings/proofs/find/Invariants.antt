@@ -8,7 +8,7 @@ use Rattle.rules.specs.Settings.{identifiers_of}
 use Rattle.settings.proofs.find.Given as goal
 
 abbrev pub invariant-loop-i : goal.invariant-loop-i
-invariant-loop-i l = (length l.s.identifiers ≡ 8) × (l.n ≡ min l.s.count 8) × (place_from 0 (identifiers_of l.s) l.id ≡ place_from l.i (drop l.i (identifiers_of l.s)) l.id)
+invariant-loop-i l = (length l.s.identifiers ≡ 8) × (l.i-end ≡ min l.s.count 8) × (place_from 0 (identifiers_of l.s) l.id ≡ place_from l.i (drop l.i (identifiers_of l.s)) l.id)
 
 abbrev pub decreases-loop-i : goal.decreases-loop-i
-decreases-loop-i l = l.n - l.i
+decreases-loop-i l = l.i-end - l.i

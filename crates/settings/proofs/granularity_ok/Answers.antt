@@ -1,12 +1,11 @@
--- `settings::granularity_ok` is right because it asks the two tests of the rule, the one with the least first.
-use borrow.Author.Tests.{le-leb, lt-leb}
+use Rattle.std.proofs.Common.{rules}
 use Rattle.rules.specs.Settings.{granularity_ok}
 use Rattle.settings.proofs.granularity_ok.Goals as goal
 
-pub returns-then-g-s : goal.returns-then-g-s
+pub returns-then-s-g : goal.returns-then-s-g
 unfolding granularity_ok
-returns-then-g-s c = rw (lt-leb _ _ c.if-g-s.true)
+returns-then-s-g c = search rules
 
-pub returns : goal.returns
+pub returns-else-s-g : goal.returns-else-s-g
 unfolding granularity_ok
-returns c = rw (le-leb _ _ c.if-g-s.false)
+returns-else-s-g c = search rules

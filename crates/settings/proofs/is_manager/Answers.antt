@@ -1,12 +1,11 @@
--- `settings::is_manager` is right because it asks for the first manager, then for the second, if there is one.
-use Rattle.settings.proofs.SettingsLaws.{manager-first, manager-alone, manager-second}
+use Rattle.std.proofs.Common.{rules}
+use Rattle.rules.specs.Settings.{is_manager}
 use Rattle.settings.proofs.is_manager.Goals as goal
 
 pub returns-then-m-s : goal.returns-then-m-s
-returns-then-m-s c = search manager-first
+unfolding is_manager
+returns-then-m-s c = search rules
 
-pub returns-in_default : goal.returns-in_default
-returns-in_default c = search manager-alone
-
-pub returns : goal.returns
-returns c = search manager-second
+pub returns-else-m-s : goal.returns-else-m-s
+unfolding is_manager
+returns-else-m-s c = search rules

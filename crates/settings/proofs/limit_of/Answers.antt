@@ -1,10 +1,11 @@
--- `settings::limit_of` is right because every manager but the first is the second.
-use mathlib.Core.Path.{◌∙◌}
-use Rattle.settings.proofs.SettingsLaws.{limit-first, limit-second}
+use Rattle.std.proofs.Common.{rules}
+use Rattle.rules.specs.Settings.{limit_of}
 use Rattle.settings.proofs.limit_of.Goals as goal
 
 pub returns-then-m-s : goal.returns-then-m-s
-returns-then-m-s c = search limit-first
+unfolding limit_of
+returns-then-m-s c = search rules
 
-pub returns : goal.returns
-returns c = c.second_limit.ensures ∙ limit-second _ _ c.if-m-s.false
+pub returns-else-m-s : goal.returns-else-m-s
+unfolding limit_of
+returns-else-m-s c = search rules

@@ -1,12 +1,7 @@
--- `settings_file::marked` is right because it asks the three bytes in turn. Assumes nothing.
-use Rattle.settings_file.proofs.FieldLaws.{mark-first, mark-second, mark-third}
+-- `settings_file::marked` is right because the file's first three bytes are those of the mark. Assumes nothing.
+use mathlib.Core.Path.{◌∙◌}
+use Rattle.settings_file.proofs.FieldLaws.{mark-starts}
 use Rattle.settings_file.proofs.marked.Goals as goal
 
-pub returns-then-file-ne84 : goal.returns-then-file-ne84
-returns-then-file-ne84 c = search mark-first
-
-pub returns-then-file-ne82 : goal.returns-then-file-ne82
-returns-then-file-ne82 c = search mark-second
-
 pub returns : goal.returns
-returns c = search mark-third
+returns c = c.starts_with.ensures.value ∙ mark-starts c.args.file.now c.requires

@@ -1,16 +1,8 @@
--- `settings_file::put_mark` is right because three bytes that are stored one after another are one store. Assumes nothing.
-use lib.ListN.{length-set}
-use Rattle.little.specs.Little.{put}
+-- `settings_file::put_mark` is right because the mark is copied as a whole. Assumes nothing.
 use native.Mathlib.Omega.{arith}
-use borrow.Author.Rules.{rules}
+use Rattle.little.proofs.Put.{put_mid-put}
+use Rattle.settings_file.specs.File.{mark}
 use Rattle.settings_file.proofs.put_mark.Goals as goal
 
-pub bounds-buffer-1 : goal.bounds-buffer-1
-bounds-buffer-1 c = simp length-set (omega arith)
-
-pub bounds-buffer-2 : goal.bounds-buffer-2
-bounds-buffer-2 c = simp length-set (omega arith)
-
 pub returns : goal.returns
-unfolding put
-returns c = search rules
+returns c = rw c.copy_from_slice.ensures.after (put_mid-put c.args.buffer.now 0 3 mark (omega arith) (omega arith))

@@ -1,21 +1,16 @@
-use mathlib.Core.Path.{refl, sym, ◌∙◌}
-use Rattle.settings_file.specs.File.{spare_ok}
-use Rattle.settings_file.proofs.FieldLaws.{spare-miss, spare-next, spare-end}
+-- `settings_file::spare_ok` is right because it asks each place from the first that is not in use on. Assumes nothing.
 use borrow.Author.Rules.{rules}
-use native.Mathlib.Omega.{arith}
+use borrow.Author.Tests.{tests}
+use lib.Dec.{eqb}
+use Rattle.std.proofs.lemmas.Iterator.{YieldsList-from_slice}
+use Rattle.std.proofs.lemmas.Iterator.Adapters.{YieldsList-from_skip}
+use Rattle.std.proofs.lemmas.Iterator.Search.{all_from_yields_List}
+use Rattle.settings_file.specs.File.{spare_ok}
 use Rattle.settings_file.proofs.spare_ok.Goals as goal
 
-pub loop-i-init : goal.loop-i-init
-unfolding spare_ok
-loop-i-init c = (search rules, refl)
-
-pub returns-then-s-i-ne0 : goal.returns-then-s-i-ne0
-returns-then-s-i-ne0 c =
-    sym (c.loop-i.invariant.1 ∙ spare-miss c.args.s.identifiers c.loop-i.i (omega arith) c.if-s-i-ne0.true)
-
-pub loop-i-preserved : goal.loop-i-preserved
-loop-i-preserved c = (c.loop-i.invariant.0, c.loop-i.invariant.1 ∙ spare-next c.args.s.identifiers c.loop-i.i (omega arith) c.if-s-i-ne0.false)
-
 pub returns : goal.returns
+unfolding spare_ok
 returns c =
-    sym (c.loop-i.invariant.1 ∙ spare-end c.args.s.identifiers c.loop-i.i (omega arith))
+    let s = c.args.s in
+    all_from_yields_List (λ y. eqb y 0) _ _ c.all.result c.all.ensures.ran
+    (YieldsList-from_skip s.count (YieldsList-from_slice s.identifiers cc) cc) (λ x b q k. search (rules, tests))

@@ -2,4 +2,4 @@
 use Rattle.start_data.proofs.read_range.Goals as goal
 
 pub returns : goal.returns
-returns c = rw (c.read_u64-start.ensures, c.read_u32-length.ensures)
+returns c = rw (c.read-start.ensures, c.read-length.ensures)

@@ -1,11 +1,10 @@
 use Prim.Native.Nat.{◌^◌, ◌<◌}
 use native.Mathlib.Omega.{arith}
-use borrow.Author.Rules.{rules}
 use Rattle.state_bytes.proofs.Cases.{number-of-start, number-of-again, number-of-done, room-start, room, room-again}
 use Rattle.state_bytes.proofs.number_of.Goals as goal
 
 pub loop-i-init : goal.loop-i-init
-loop-i-init c = (search rules, room-start _, number-of-start _ _ _)
+loop-i-init c = (room-start _, number-of-start _ _ _)
 
 pub overflow_mul-v : goal.overflow_mul-v
 overflow_mul-v c =
@@ -20,7 +19,7 @@ overflow_add-v c =
     omega arith
 
 pub loop-i-preserved : goal.loop-i-preserved
-loop-i-preserved c = (search rules, search room-again, search number-of-again)
+loop-i-preserved c = (search room-again, search number-of-again)
 
 pub returns : goal.returns
 returns c = search number-of-done

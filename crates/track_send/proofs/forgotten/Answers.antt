@@ -3,4 +3,4 @@ use Rattle.little.proofs.Put.{put-nil}
 use Rattle.track_send.proofs.forgotten.Goals as goal
 
 pub returns : goal.returns
-returns c = rw (c.no_ranges-none.ensures, put-nil)
+returns c = rw (c.no_ranges.ensures, put-nil)

@@ -1,15 +1,15 @@
 -- `track_send::listed_refusal` is right: it refuses in the order of the table's tests from 7 on, with the row of the ranges' own. Assumes nothing.
-use mathlib.Core.Path.{◌≡◌, sym, ◌∙◌}
+use mathlib.Core.Path.{◌≡◌, sym, ap, ◌∙◌}
 use mathlib.Core.Bool.{true}
 use mathlib.Core.List.{map}
 use Prim.Native.Nat.{◌+◌, ◌<◌, ◌≤◌}
 use native.Mathlib.Omega.{arith}
-use borrow.Author.Tests.{not-true, not-false}
 use Rattle.little.specs.Little.{records_at}
-use Rattle.rules.specs.Refusals.{refusal_at}
+use Rattle.rules.specs.Refusals.{refusal_at, refused_at}
 use Rattle.rules.specs.Settings.{most_units, limit_of, granularity_ok}
 use Rattle.rules.specs.StartData.{range_at, placed}
 use Rattle.rules.specs.Device.{held_of, controllers_of}
+use Rattle.rules.proofs.RefusalLaws.{number_of-pos, handed_on}
 use Rattle.rules.proofs.SoundLaws.{sound-managed}
 use Rattle.settings.proofs.SettingsLaws.{granularity_ok-greatest}
 use Rattle.record.specs.Record.{managed_of, counts_of, units_of}
@@ -21,7 +21,7 @@ use Rattle.track_send.proofs.listed_refusal.Goals.{After-managed, After-read_ran
 
 -- past the first test the granularity passes
 allowed : (c : Else-not-granularity_ok) → granularity_ok c.args.d.settings c.args.g ≡ true
-allowed c = sym c.granularity_ok.ensures ∙ not-false _ c.if-not-granularity_ok.false-raw
+allowed c = sym c.granularity_ok.ensures ∙ c.if-not-granularity_ok.false
 
 small : (c : Else-not-granularity_ok) → c.args.g ≤ 20
 small c =
@@ -41,7 +41,7 @@ shared : (c : After-units_in-units)
     let u = c.units_in-units.result.0 in
     refusal_at (listed_tests d.settings m (units_of d) (managed_of d m) (counts_of d) a.«data».now) ≡ refusal_at (shared_tests d.settings m (u + units_of d) (a.n + managed_of d m) (a.n + counts_of d))
 shared c =
-    listed-shared _ _ _ _ _ _ _ _ c.requires.2 (sym c.granularity_ok.ensures ∙ not-false _ c.if-not-granularity_ok.false-raw) c.if-data-count.false c.if-count-gt16.false _ (c.list_refusal-refusal.ensures ∙ rw (c.read_ranges-ranges.ensures ∙ ranges_read-there _ _ (omega arith) c.if-data-count.false)) c.if-refusal-ne0.false _ (c.units_in-units.ensures.0 ∙ rw (c.read_ranges-ranges.ensures ∙ ranges_read-there _ _ (omega arith) c.if-data-count.false))
+    listed-shared _ _ _ _ _ _ _ _ c.requires.2 (sym c.granularity_ok.ensures ∙ c.if-not-granularity_ok.false) c.if-data-count.false c.if-count-gt16.false _ (c.list_refusal.ensures ∙ rw (c.read_ranges-ranges.ensures ∙ ranges_read-there _ _ (omega arith) c.if-data-count.false)) (ap (λ o. (refused_at o).number) c.in_ok-list_refusal.was) _ (c.units_in-units.ensures.0 ∙ rw (c.read_ranges-ranges.ensures ∙ ranges_read-there _ _ (omega arith) c.if-data-count.false))
 
 -- the shares of a sound record have its units, which fit the pool
 held : (c : After-together-held) → c.together-held.result ≡ units_of c.args.d
@@ -73,26 +73,28 @@ own : (c : Else-count-managed) → let a = c.args in a.n + managed_of a.d a.mana
 own c = omega (arith, c.if-count-managed.false, c.managed.ensures, c.limit_of-limit.ensures)
 
 pub returns-then-not-granularity_ok : goal.returns-then-not-granularity_ok
-returns-then-not-granularity_ok c = sym (listed-granularity _ _ _ _ _ _ _ _ c.requires.2 (sym c.granularity_ok.ensures ∙ not-true _ c.if-not-granularity_ok.true-raw))
+returns-then-not-granularity_ok c = rw c.from.ensures (sym (listed-granularity _ _ _ _ _ _ _ _ c.requires.2 (sym c.granularity_ok.ensures ∙ c.if-not-granularity_ok.true)))
 
 pub returns-then-data-count : goal.returns-then-data-count
-returns-then-data-count c = sym (listed-short _ _ _ _ _ _ _ _ c.requires.2 (allowed (goal.at.returns-then-data-count c).Else-not-granularity_ok) c.if-data-count.true)
+returns-then-data-count c = rw c.from-then-data-count.ensures (sym (listed-short _ _ _ _ _ _ _ _ c.requires.2 (allowed (goal.at.returns-then-data-count c).Else-not-granularity_ok) c.if-data-count.true))
 
 pub returns-then-count-gt16 : goal.returns-then-count-gt16
-returns-then-count-gt16 c = sym (listed-many _ _ _ _ _ _ _ _ c.requires.2 (allowed (goal.at.returns-then-count-gt16 c).Else-not-granularity_ok) c.if-data-count.false c.if-count-gt16.true)
+returns-then-count-gt16 c = rw c.from-then-count-gt16.ensures (sym (listed-many _ _ _ _ _ _ _ _ c.requires.2 (allowed (goal.at.returns-then-count-gt16 c).Else-not-granularity_ok) c.if-data-count.false c.if-count-gt16.true))
 
-pub list_refusal-refusal-requires : goal.list_refusal-refusal-requires
-list_refusal-refusal-requires c = small (goal.at.list_refusal-refusal-requires c).Else-not-granularity_ok
+pub list_refusal-requires : goal.list_refusal-requires
+list_refusal-requires c = small (goal.at.list_refusal-requires c).Else-not-granularity_ok
 
-pub returns-then-refusal-ne0 : goal.returns-then-refusal-ne0
-returns-then-refusal-ne0 c = listed-rules _ _ _ _ _ _ _ _ c.requires.2 (allowed (goal.at.returns-then-refusal-ne0 c).Else-not-granularity_ok) c.if-data-count.false c.if-count-gt16.false _ (c.list_refusal-refusal.ensures ∙ rw (read (goal.at.returns-then-refusal-ne0 c).After-read_ranges-ranges)) c.if-refusal-ne0.true
+pub returns-in_err-list_refusal : goal.returns-in_err-list_refusal
+returns-in_err-list_refusal c =
+    ap refused_at (handed_on _ _ c.from_residual.ensures.1 ∙ sym c.in_err-list_refusal.was)
+    ∙ listed-rules _ _ _ _ _ _ _ _ c.requires.2 (allowed (goal.at.returns-in_err-list_refusal c).Else-not-granularity_ok) c.if-data-count.false c.if-count-gt16.false _ (c.list_refusal.ensures ∙ rw (read (goal.at.returns-in_err-list_refusal c).After-read_ranges-ranges)) (λ z. number_of-pos _ (sym (ap (λ o. (refused_at o).number) c.in_err-list_refusal.was) ∙ z))
 
 pub units_in-units-requires : goal.units_in-units-requires
 units_in-units-requires c =
     let r = read (goal.at.units_in-units-requires c).After-read_ranges-ranges in (
       small (goal.at.units_in-units-requires c).Else-not-granularity_ok,
       c.if-count-gt16.false,
-      rw r (listed-rows c.args.d.settings 0 0 0 0 _ _ _ c.requires.2 (allowed (goal.at.units_in-units-requires c).Else-not-granularity_ok) c.if-data-count.false c.if-count-gt16.false _ (c.list_refusal-refusal.ensures ∙ rw r) c.if-refusal-ne0.false),
+      rw r (listed-rows c.args.d.settings 0 0 0 0 _ _ _ c.requires.2 (allowed (goal.at.units_in-units-requires c).Else-not-granularity_ok) c.if-data-count.false c.if-count-gt16.false _ (c.list_refusal.ensures ∙ rw r) (ap (λ o. (refused_at o).number) c.in_ok-list_refusal.was)),
     )
 
 pub shares-requires : goal.shares-requires
@@ -105,7 +107,7 @@ pub overflow_sub-held : goal.overflow_sub-held
 overflow_sub-held c = omega (arith, held c, most c)
 
 pub returns-then-units-held : goal.returns-then-units-held
-returns-then-units-held c = sym (shared (goal.at.returns-then-units-held c).After-units_in-units ∙ shared-pool _ _ _ _ _ (full c))
+returns-then-units-held c = rw c.from-then-units-held.ensures (sym (shared (goal.at.returns-then-units-held c).After-units_in-units ∙ shared-pool _ _ _ _ _ (full (goal.at.returns-then-units-held c).Then-units-held)))
 
 pub managed-requires : goal.managed-requires
 managed-requires c = (c.requires.0, c.requires.1)
@@ -115,7 +117,7 @@ overflow_add-count-2 c = omega (arith, c.managed.ensures, few c, c.limit_of-limi
 
 pub returns-then-count-managed : goal.returns-then-count-managed
 returns-then-count-managed c =
-    sym (shared (goal.at.returns-then-count-managed c).After-units_in-units ∙ shared_limit _ _ _ _ _ (room (goal.at.returns-then-count-managed c).Else-units-held) (omega (arith, c.if-count-managed.true, c.managed.ensures, c.limit_of-limit.ensures)))
+    rw c.from-then-count-managed.ensures (sym (shared (goal.at.returns-then-count-managed c).After-units_in-units ∙ shared_limit _ _ _ _ _ (room (goal.at.returns-then-count-managed c).Else-units-held) (omega (arith, c.if-count-managed.true, c.managed.ensures, c.limit_of-limit.ensures))))
 
 pub weights-requires : goal.weights-requires
 weights-requires c = (sound_device-facts c.args.d c.requires.0).settings
@@ -125,7 +127,7 @@ overflow_add-count-3 c = let f = sound_device-facts c.args.d c.requires.0 in ome
 
 pub returns-then-count-weights : goal.returns-then-count-weights
 returns-then-count-weights c =
-    sym (shared (goal.at.returns-then-count-weights c).After-units_in-units ∙ shared-shelf _ _ _ _ _ (room (goal.at.returns-then-count-weights c).Else-units-held) (own (goal.at.returns-then-count-weights c).Else-count-managed) (omega (arith, c.if-count-weights.true, counted (goal.at.returns-then-count-weights c).After-weights)))
+    rw c.from-then-count-weights.ensures (sym (shared (goal.at.returns-then-count-weights c).After-units_in-units ∙ shared-shelf _ _ _ _ _ (room (goal.at.returns-then-count-weights c).Else-units-held) (own (goal.at.returns-then-count-weights c).Else-count-managed) (omega (arith, c.if-count-weights.true, counted (goal.at.returns-then-count-weights c).After-weights))))
 
 pub returns : goal.returns
 returns c =

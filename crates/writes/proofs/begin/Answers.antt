@@ -1,7 +1,10 @@
--- `writes::begin` is right: it refuses in the order of a batch's table. Assumes nothing.
-use mathlib.Core.Path.{refl}
+-- `writes::begin` is right: it has the number of its refusal. Assumes nothing.
+use mathlib.Core.Path.{◌∙◌}
 use Rattle.writes.proofs.BatchLaws.{begin-is}
 use Rattle.writes.proofs.begin.Goals as goal
 
-pub returns : goal.returns
-returns c = begin-is _ _ _ _ _ _ c.ready-whole.ensures refl c.begin_number-number.ensures
+pub returns-in-Ok : goal.returns-in-Ok
+returns-in-Ok c = begin-is _ _ _ _ c.in-Ok.ensures
+
+pub returns-in-Err : goal.returns-in-Err
+returns-in-Err c = begin-is _ _ _ _ (c.number-number.ensures ∙ c.in-Err.ensures)

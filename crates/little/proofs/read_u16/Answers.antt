@@ -1,7 +1,0 @@
--- `little::read_u16` is right because a number is its low half and, 256 times as much, its high half (`number_at-add`).
-use native.Mathlib.Omega.{arith}
-use Rattle.little.proofs.Numbers.{number_at-add}
-use Rattle.little.proofs.read_u16.Goals as goal
-
-pub returns : goal.returns
-returns c = rw (number_at-add _ _ 1 1) (omega arith)

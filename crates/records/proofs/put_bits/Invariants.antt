@@ -1,9 +1,0 @@
--- `records::put_bits` is safe and ends. The measure is the number of bytes left.
-use Rattle.std.proofs.Common.{◌-◌, ◌≤◌}
-use Rattle.records.proofs.put_bits.Given as goal
-
-abbrev pub invariant-loop-i : goal.invariant-loop-i
-invariant-loop-i l = l.i ≤ 4096
-
-abbrev pub decreases-loop-i : goal.decreases-loop-i
-decreases-loop-i l = 4096 - l.i

@@ -1,9 +1,0 @@
--- `records::put_ranges` is safe and ends. The measure is the number of ranges left.
-use Rattle.std.proofs.Common.{◌-◌, ◌≤◌}
-use Rattle.records.proofs.put_ranges.Given as goal
-
-abbrev pub invariant-loop-i : goal.invariant-loop-i
-invariant-loop-i l = l.i ≤ 16
-
-abbrev pub decreases-loop-i : goal.decreases-loop-i
-decreases-loop-i l = 16 - l.i

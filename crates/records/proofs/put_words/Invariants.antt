@@ -1,9 +1,0 @@
--- `records::put_words` is safe and ends. The measure is the number of words left.
-use Rattle.std.proofs.Common.{◌-◌, ◌≤◌, length}
-use Rattle.records.proofs.put_words.Given as goal
-
-abbrev pub invariant-loop-i : goal.invariant-loop-i
-invariant-loop-i l = l.i ≤ length l.words
-
-abbrev pub decreases-loop-i : goal.decreases-loop-i
-decreases-loop-i l = length l.words - l.i

@@ -1,7 +1,0 @@
--- `settings_updater::trk_settings_count` is right: it is a field of them. Assumes nothing.
-use mathlib.Core.Path.{ap}
-use Rattle.rules.specs.declared.Settings.{Settings}
-use Rattle.settings_updater.proofs.trk_settings_count.Goals as goal
-
-pub returns : goal.returns
-returns c = ap (λ (s : Settings). s.count) c.settings_of-s.ensures

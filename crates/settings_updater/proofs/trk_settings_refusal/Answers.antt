@@ -1,7 +1,0 @@
--- `settings_updater::trk_settings_refusal` is right: it is the reader's number. Assumes nothing.
-use mathlib.Core.Path.{ap}
-use Rattle.settings_file.specs.declared.Read.{Read}
-use Rattle.settings_updater.proofs.trk_settings_refusal.Goals as goal
-
-pub returns : goal.returns
-returns c = ap (λ (r : Read). r.number) c.read_file-read.ensures

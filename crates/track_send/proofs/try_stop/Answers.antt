@@ -1,0 +1,99 @@
+-- `track_send::try_stop` is right: it refuses in the order of its table; done, the share is clear and the controller is as fresh but for its queue. Assumes nothing.
+use mathlib.Core.Path.{◌≡◌, refl, sym, ap, ◌∙◌}
+use Prim.Native.Nat.{◌<◌}
+use native.Mathlib.Omega.{arith}
+use lib.ListN.{length, get_or, take}
+use borrow.Author.Rules.{rules}
+use Rattle.rules.specs.declared.Tracking.TheVariants.{On}
+use Rattle.rules.proofs.LoopLaws.{length-mapped}
+use Rattle.ranges.proofs.RangeLaws.{HeldFacts}
+use Rattle.record.specs.Record.{no_controller, where_is, where_by}
+use Rattle.std.specs.declared.result.Result.TheVariants.{Ok}
+use Rattle.record.proofs.RecordLaws.{where_is-at, where_by-at}
+use Rattle.calls.specs.Inner.{tracking_by}
+use Rattle.calls.proofs.OutcomeLaws.{changed-refused}
+use Rattle.calls.proofs.Answers.{leaves, leaves-unchanged}
+use Rattle.calls.proofs.PlaceLaws.{tracking_by-on, held_at, share-within}
+use Rattle.track_send.proofs.StopLaws.{stop-refused, stop-suspended, stop-off, stop-done}
+use Rattle.track_send.proofs.try_stop.Goals as goal
+use Rattle.track_send.proofs.try_stop.Goals.{In_ok-i, In-On}
+
+-- the place that was found
+found : (c : In_ok-i)
+    → let a = c.args in
+    where_by a.d (length a.marks.now) a.manager a.id ≡ Ok c.in_ok-i.i
+found c = sym c.locate_by.ensures ∙ c.in_ok-i.was
+
+-- whichever manager asks
+placed : (c : In_ok-i)
+    → let a = c.args in
+    where_is a.d (length a.marks.now) a.id ≡ Ok c.in_ok-i.i
+placed c = (where_by-at _ _ _ _ _ (found c)).1
+
+-- it is below 8
+below : (c : In_ok-i) → c.in_ok-i.i < 8
+below c = (where_is-at _ _ _ _ (placed c)).below
+
+-- the record has its eight controllers
+there : (c : In_ok-i) → c.in_ok-i.i < length c.args.d.controllers
+there c =
+    let e : length c.args.d.controllers ≡ 8 = search (length-mapped, rules) in
+    omega (arith, below c)
+
+-- where a controller was found tracked, its place was found
+placed' : (c : In-On) → where_is c.args.d (length c.args.marks.now) c.args.id ≡ Ok c.in_ok-i.i
+placed' c = (where_by-at _ _ _ _ _ (sym c.locate_by.ensures ∙ c.in_ok-i.was)).1
+
+there' : (c : In-On) → c.in_ok-i.i < length c.args.d.controllers
+there' c =
+    let e : length c.args.d.controllers ≡ 8 = search (length-mapped, rules) in
+    omega (arith, (where_is-at _ _ _ _ (placed' c)).below)
+
+-- by the manager that asks
+by : (c : In-On)
+    → tracking_by c.args.manager (get_or c.args.d.controllers c.in_ok-i.i no_controller).tracking (get_or c.args.d.controllers c.in_ok-i.i no_controller).manager ≡ On c.in-On.g c.in-On.n
+by c = sym c.tracking_by.ensures ∙ c.in-On.is
+
+tracked : (c : In-On) → (get_or c.args.d.controllers c.in_ok-i.i no_controller).tracking ≡ On c.in-On.g c.in-On.n
+tracked c = (tracking_by-on _ (get_or c.args.d.controllers c.in_ok-i.i no_controller).tracking (get_or c.args.d.controllers c.in_ok-i.i no_controller).manager _ _ (by c)).0
+
+-- what a tracked controller of a sound record holds
+held : (c : In-On)
+    → let n = c.in-On.n in
+    HeldFacts c.args.d.settings c.in-On.g n (take n (get_or c.args.d.controllers c.in_ok-i.i no_controller).ranges)
+held c = held_at _ _ _ _ (placed' c) (there' c) _ _ (tracked c)
+
+pub returns-in_err-i : goal.returns-in_err-i
+returns-in_err-i c = leaves _ _ _ _ _ (stop-refused _ _ _ _ _ _ (sym c.locate_by.ensures ∙ c.in_err-i.was)) (changed-refused _ _ _ c.from_residual.ensures.1) refl
+
+pub offset_bounds-d-i : goal.offset_bounds-d-i
+offset_bounds-d-i c = omega (arith, below c)
+
+pub bounds-d-i : goal.bounds-d-i
+bounds-d-i c = below c
+
+pub returns-then-c : goal.returns-then-c
+returns-then-c c = leaves-unchanged _ _ _ (stop-suspended _ _ _ _ _ _ (found (goal.at.returns-then-c c).In_ok-i) c.if-c.true)
+
+pub returns-in_default : goal.returns-in_default
+returns-in_default c = leaves-unchanged _ _ _ (stop-off _ _ _ _ _ _ (found (goal.at.returns-in_default c).In_ok-i) c.if-c.false (sym c.tracking_by.ensures ∙ c.in_default.is))
+
+pub units_in-units-requires : goal.units_in-units-requires
+units_in-units-requires c = let h = held (goal.at.units_in-units-requires c).In-On in (h.small, h.few, rw c.ranges_of.ensures.0 h.rows)
+
+pub clear_share-requires : goal.clear_share-requires
+clear_share-requires c =
+    let r = c.ranges_of.ensures in
+    let u = c.units_in-units.ensures.0 in
+    let on = (goal.at.clear_share-requires c).In-On in
+    let p = placed' on in
+    (omega (arith, rw r.0 at u, share-within _ _ _ _ p (there' on) _ _ (tracked on) (omega (arith, ap length r.0, r.1))), (where_is-at _ _ _ _ p).whole)
+
+pub forgotten-requires : goal.forgotten-requires
+forgotten-requires c = below (goal.at.forgotten-requires c).In_ok-i
+
+pub returns : goal.returns
+returns c =
+    let a = c.args in
+    leaves _ _ _ _ _ (stop-done _ a.d a.manager a.id a.marks.now _ (found (goal.at.returns c).In_ok-i) _ _ c.if-c.false (by (goal.at.returns c).In-On))
+    (rw c.forgotten.ensures) (c.clear_share.ensures ∙ rw (c.units_in-units.ensures.0, c.ranges_of.ensures.0))

@@ -1,0 +1,44 @@
+-- `writes::try_note` is right: it refuses an identifier that is not in the settings, and else is the note of the controller at its place. Assumes nothing.
+use mathlib.Core.Path.{◌≡◌, refl, sym, ◌∙◌}
+use Prim.Native.Nat.{◌<◌}
+use native.Mathlib.Omega.{arith}
+use lib.ListN.{length}
+use borrow.Author.Rules.{rules}
+use Rattle.record.specs.Record.{where_is}
+use Rattle.std.specs.declared.result.Result.TheVariants.{Ok}
+use Rattle.record.proofs.RecordLaws.{where_is-at}
+use Rattle.rules.proofs.LoopLaws.{length-mapped}
+use Rattle.calls.proofs.Answers.{leaves, leaves-as}
+use Rattle.writes.proofs.WriteLaws.{sound-found, sound-nothing, write-refused, write-on, may-note}
+use Rattle.writes.proofs.try_note.Goals as goal
+use Rattle.writes.proofs.try_note.Goals.{In-Some}
+
+-- the place that was found
+found : (c : In-Some)
+    → let a = c.args in
+    where_is a.d (length a.marks.now) a.id ≡ Ok c.in-Some.i
+found c = sound-found _ _ _ c.requires _ (sym c.find.ensures ∙ c.in-Some.is)
+
+-- the record has its eight controllers
+eight : (c : In-Some) → length c.args.d.controllers ≡ 8
+eight c = search (length-mapped, rules)
+
+below : (c : In-Some) → c.in-Some.i < 8
+below c = (where_is-at _ _ _ _ (found c)).below
+
+pub returns-in_default : goal.returns-in_default
+returns-in_default c = leaves _ _ _ _ _ (write-refused _ _ _ _ _ _ (sound-nothing _ _ _ c.requires (sym c.find.ensures ∙ c.in_default.is))) refl refl
+
+pub offset_bounds-d-i : goal.offset_bounds-d-i
+offset_bounds-d-i c = omega (arith, below c)
+
+pub bounds-d-i : goal.bounds-d-i
+bounds-d-i c = below c
+
+pub note_on-requires : goal.note_on-requires
+note_on-requires c =
+    let a = (goal.at.note_on-requires c).In-Some in
+    may-note _ _ _ _ (found a) (eight a)
+
+pub returns : goal.returns
+returns c = leaves-as _ _ _ _ (write-on _ _ _ _ _ (found (goal.at.returns c).In-Some) _) c.note_on.ensures
