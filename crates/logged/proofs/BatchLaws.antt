@@ -13,7 +13,7 @@ use lib.Seq.{drop-cons, drop-length}
 use borrow.Author.Tests.{ltb-false, eqb-true, eqb-false}
 use Rattle.rules.specs.declared.Device.{Device}
 use Rattle.rules.specs.Refusals.{refusal}
-use Rattle.rules.specs.Settings.{place_of}
+use Rattle.rules.specs.Settings.{most_units, place_of}
 use Rattle.rules.specs.Order.{batch_order}
 use Rattle.log_numbers.specs.declared.Log.{Log}
 use Rattle.record.specs.Record.{sound_with}
@@ -24,7 +24,7 @@ use Rattle.calls.specs.Calls.{Engine, Note, write_by, write_in, batch_by}
 use Rattle.booking.specs.Booking.{booked_by, write_log, notes_log, batch_log}
 use Rattle.writes.specs.Inner.{begin_of, is_due, tally_of}
 use Rattle.writes.proofs.BatchLaws.{due-refused, due-left, due-cut, due-is, due-over, tally-cut, tally-done, take-least}
-use Rattle.writes.proofs.Turns.{Sized, no_record, Answered, Going, going-refused, going-first, going-over, going-on, going-cut, going-next}
+use Rattle.writes.proofs.Turns.{no_record, Answered, Going, going-refused, going-first, going-over, going-on, going-cut, going-next}
 
 module _ (en : Engine) (d : Device) (m₀ : List ℕ) (l₀ : Log) (rs : List WriteRecord) where
   abbrev n : ℕ
@@ -98,13 +98,13 @@ module _ (en : Engine) (d : Device) (m₀ : List ℕ) (l₀ : Log) (rs : List Wr
 
 -- ---- the loop over the list
 
-module _ (en : Engine) (sized : Sized en) (d : Device) (m₀ : List ℕ) (l₀ : Log) (rs : List WriteRecord) where
+module _ (en : Engine) (d : Device) (m₀ : List ℕ) (l₀ : Log) (rs : List WriteRecord) where
   abbrev pub Logged : Batched → List ℕ → Log → Type 0
-  Logged b m l = Answered en sized d m₀ rs b m × (l ≡ batch_log en l₀ d m₀ rs)
+  Logged b m l = Answered en d m₀ rs b m × (l ≡ batch_log en l₀ d m₀ rs)
 
   -- its invariant: i notes are done and booked
   pub record Logs (i : ℕ) (b : Batched) (m : List ℕ) (l : Log) : Type 0 where
-    pub going : Going en sized d m₀ rs i b m
+    pub going : Going en d m₀ rs i b m
     pub books : Books en d m₀ l₀ rs b m l
 
   module _ (b : Batched) (e : b ≡ begin_of d (en.words m₀) (length rs)) where
@@ -112,15 +112,15 @@ module _ (en : Engine) (sized : Sized en) (d : Device) (m₀ : List ℕ) (l₀ :
     at-first = rw e (books-start en d m₀ l₀ rs)
 
     pub logs-refused : b.number ≢ 0 → Logged b m₀ l₀
-    logs-refused h = (going-refused en sized d m₀ rs b e h, books-end en d m₀ l₀ rs b m₀ l₀ (sym (due-refused b (length rs) h)) at-first)
+    logs-refused h = (going-refused en d m₀ rs b e h, books-end en d m₀ l₀ rs b m₀ l₀ (sym (due-refused b (length rs) h)) at-first)
 
     pub logs-first : b.number ≡ 0 → Logs 0 b m₀ l₀
-    logs-first h = record { going = going-first en sized d m₀ rs b e h; books = at-first }
+    logs-first h = record { going = going-first en d m₀ rs b e h; books = at-first }
 
   module _ (i : ℕ) (b : Batched) (m : List ℕ) (l : Log) (g : Logs i b m l) where
     pub logs-over : length rs ≤ i → Logged b m l
     logs-over h =
-        (going-over en sized d m₀ rs i b m g.going h, books-end en d m₀ l₀ rs b m l (due-over b (length rs) (omega (arith, g.going.done))) g.books)
+        (going-over en d m₀ rs i b m g.going h, books-end en d m₀ l₀ rs b m l (due-over b (length rs) (omega (arith, g.going.done))) g.books)
 
     -- a note's answer w, the marks m' and the log l' after it, and the tally b'
     module _ (inside : i < length rs) where
@@ -128,22 +128,23 @@ module _ (en : Engine) (sized : Sized en) (d : Device) (m₀ : List ℕ) (l₀ :
       given = get_or rs i no_record
 
       module _ (w : Written) (m' : List ℕ) (is-w : w ≡ (write_by en d m given.id (write_in given)).answer) (is_m : m' ≡ (write_by en d m given.id (write_in given)).marks)
+          (few : w.count ≤ most_units)
           (l' : Log) (is-l : l' ≡ booked_by l (place_of d.settings given.id) w.number w.count 0 0) (b' : Batched) (is_b : b' ≡ tally_of b w) where
         after : Books en d m₀ l₀ rs b' m' l'
         after =
-            books-turned en d m₀ l₀ rs b m l (going-on en sized d m₀ rs i b m g.going inside) g.books w m' b' l' (rw g.going.done is-w) (rw g.going.done is_m) is_b (rw g.going.done is-l)
+            books-turned en d m₀ l₀ rs b m l (going-on en d m₀ rs i b m g.going inside) g.books w m' b' l' (rw g.going.done is-w) (rw g.going.done is_m) is_b (rw g.going.done is-l)
 
         pub logs-cut : b'.refusal ≢ 0 → Logged b' m' l'
         logs-cut h =
-            (going-cut en sized d m₀ rs i b m g.going inside w m' is-w is_m b' is_b h, books-end en d m₀ l₀ rs b' m' l' (sym (due-cut b' (length rs) h)) after)
+            (going-cut en d m₀ rs i b m g.going inside w m' is-w is_m few b' is_b h, books-end en d m₀ l₀ rs b' m' l' (sym (due-cut b' (length rs) h)) after)
 
-        pub logs-next : b'.refusal ≡ 0 → length m' ≡ length m₀ → Logs (i + 1) b' m' l'
-        logs-next h s = record { going = going-next en sized d m₀ rs i b m g.going inside w m' is-w is_m b' is_b h s; books = after }
+        pub logs-next : b'.refusal ≡ 0 → en.words m' ≡ en.words m₀ → Logs (i + 1) b' m' l'
+        logs-next h s = record { going = going-next en d m₀ rs i b m g.going inside w m' is-w is_m few b' is_b h s; books = after }
 
 -- the first n of 1,025 records are the first min n 1,025
-pub logged_of : (en : Engine) (sized : Sized en) (d : Device) (m₀ : List ℕ) (l₀ : Log) (list : List WriteRecord) (n k : ℕ) (b : Batched) (m : List ℕ) (l : Log)
-    → length list ≡ 1025 → k ≡ min n 1025 → Logged en sized d m₀ l₀ (take k list) b m l
+pub logged_of : (en : Engine) (d : Device) (m₀ : List ℕ) (l₀ : Log) (list : List WriteRecord) (n k : ℕ) (b : Batched) (m : List ℕ) (l : Log)
+    → length list ≡ 1025 → k ≡ min n 1025 → Logged en d m₀ l₀ (take k list) b m l
     → (b ≡ (batch_by en d m₀ (take n list)).answer) × (m ≡ (batch_by en d m₀ (take n list)).marks) × (l ≡ batch_log en l₀ d m₀ (take n list))
-logged_of en sized d m₀ l₀ list n k b m l long e h =
+logged_of en d m₀ l₀ list n k b m l long e h =
     subst (λ (xs : List WriteRecord). (b ≡ (batch_by en d m₀ xs).answer) × (m ≡ (batch_by en d m₀ xs).marks) × (l ≡ batch_log en l₀ d m₀ xs)) (take-least n k list long e)
     (h.0.0, h.0.1, h.1)

@@ -1,19 +1,16 @@
 -- How many units of a controller are pending, by what its place tells, and what a stop books of it, on any engine. Assumes nothing.
 use mathlib.Core.Path.{◌≡◌, refl, sym, ap, ◌∙◌}
 use mathlib.Core.Bool.{Bool, true, false}
-use mathlib.Core.List.{List, [], ◌∷◌}
+use mathlib.Core.List.{List}
 use Rattle.std.specs.declared.option.Option.{Option}
 use Rattle.std.specs.declared.option.Option.TheVariants.{None, Some}
-use Prim.Native.Nat.{ℕ, ◌-◌, ◌≤◌}
+use Prim.Native.Nat.{ℕ}
 use native.Mathlib.Omega.{arith}
 use lib.Dec.{eqb}
-use lib.ListN.{length, get_or, take, drop, length-take}
+use lib.ListN.{length, get_or, take}
 use borrow.Author.Tests.{eqb-true, eqb-false}
-use Rattle.bits.specs.Flat.{flat}
-use Rattle.bits.specs.Share.{get_share}
-use Rattle.bits.specs.Count.{marks_set}
 use Rattle.rules.specs.Settings.{place_of}
-use Rattle.rules.specs.Units.{Unit, units, pending}
+use Rattle.rules.specs.Units.{units, pending}
 use Rattle.rules.specs.Order.{stop_order}
 use Rattle.rules.specs.declared.Controller.{Controller}
 use Rattle.rules.specs.declared.Device.{Device}
@@ -28,24 +25,6 @@ use Rattle.calls.specs.declared.Changed.{Changed}
 use Rattle.calls.specs.Calls.{Engine, Change, changed, stop_done, stop_by}
 use Rattle.booking.specs.Booking.{booked_by, units_held, stop_log}
 use Rattle.booking.proofs.BookLaws.{book-refused}
-
--- the marks of some units that are set are as many as are pending
-pub set-pending : (us : List Unit) (p : List Bool) → length p ≤ length us → marks_set p ≡ length (pending us p)
-unfolding marks_set
-set-pending us [] h = go us
-  where
-    go : (us : List Unit) → 0 ≡ length (pending us [])
-    go [] = refl
-    go (u ∷ us) = refl
-set-pending [] (b ∷ p) h = absurd (omega arith)
-set-pending (u ∷ us) (true ∷ p) h = omega (arith, set-pending us p (omega arith))
-set-pending (u ∷ us) (false ∷ p) h = omega (arith, set-pending us p (omega arith))
-
--- so are those of a share, counted from its first bit to its end
-pub share-counted : (ws : List ℕ) (base end n : ℕ) (us : List Unit) → end - base ≡ n → n ≡ length us
-    → marks_set (get_share (flat ws) base (end - base)) ≡ length (pending us (get_share (flat ws) base (length us)))
-unfolding get_share
-share-counted ws base end n us e f = rw (e, f) (set-pending us (get_share (flat ws) base (length us)) (omega (arith, length-take (length us) (drop base (flat ws)))))
 
 module _ (en : Engine) (d : Device) (ws : List ℕ) (id : ℕ) where
   abbrev words : ℕ

@@ -4,13 +4,15 @@
 
 ghost use Rattle.std.specs.Prelude.{◌≡◌, true, length, take};
 ghost use Rattle.record.specs.Record.{sound_with, where_is};
-ghost use Rattle.calls.specs.Calls.{in_words, fresh_change, stop_change, write_note, batch_change, receive_receipt};
+ghost use Rattle.calls.specs.Calls.{in_words, fresh_change, stop_change, write_note, batch_change, batch_by, receive_receipt};
 ghost use Rattle.booking.specs.Booking.{fresh_log, stop_log, write_log, batch_log, receive_log, units_held, reading_at};
 
 use booking::{Logged, Reading};
 use calls::{Batched, Changed, Received, WriteRecord, Written};
 use log_numbers::Log;
+use pieces::Rows;
 use rules::{Bytes, Device, Settings, Tracking};
+use writes::{InWords, Notes};
 
 // Makes a fresh device, and with it a log in which nothing is booked.
 pub fn fresh(l: Log, s: Settings, marks: &mut [u64]) -> Logged<Changed>
@@ -24,19 +26,24 @@ pub fn fresh(l: Log, s: Settings, marks: &mut [u64]) -> Logged<Changed>
 }
 
 // How many units of a controller are pending, on a record that is sound.
-fn pending_units(d: Device, marks: &[u64], id: u16) -> usize
-    ensures { sound_with d (length marks.now) ≡ true → result ≡ units_held in_words d marks.now id }
+pub fn pending_units<E: Notes>(d: Device, marks: &[E::Cell], id: u16) -> usize
+    ensures { sound_with d (E.engine.words (E.area marks.now)) ≡ true → result ≡ units_held E.engine d (E.area marks.now) id }
 {
-    let Ok(i) = record::locate(d, marks.len(), id) else {
+    let Ok(i) = record::locate(d, E::words(marks), id) else {
         return 0;
     };
     let c = d.controllers[i];
     let Tracking::On(g, n) = c.tracking else {
         return 0;
     };
-    let units = ranges::units_in(g, n as usize, c.ranges);
-    let from = c.base as usize;
-    bits::count_span(marks, from, from + units.0 as usize)
+    let ranges = calls::ranges_of(c);
+    let rows = Rows {
+        granularity: g,
+        count: n as usize,
+        ranges,
+    };
+    let units = ranges::units_in(rows);
+    E::count(marks, c.base as usize, units.0 as usize)
 }
 
 // Stops a manager's tracking of a controller. What was still pending is booked as dropped.
@@ -45,7 +52,7 @@ pub fn stop(l: Log, d: Device, marks: &mut [u64], manager: u16, id: u16) -> Logg
         × (marks.new ≡ (stop_change d marks.old manager id).marks)
         × (result.log ≡ stop_log in_words l d marks.old manager id) }
 {
-    let dropped = pending_units(d, marks, id);
+    let dropped = pending_units::<InWords>(d, marks, id);
     let answer = track_send::stop(d, marks, manager, id);
     let log = booking::book(l, d.settings, id, answer.number, 0, 0, dropped);
     Logged { answer, log }
@@ -70,6 +77,35 @@ pub fn write(
 }
 
 // Notes the first n of some writes one after another, and books each by itself.
+pub fn batch_of_on<E: Notes>(
+    l: Log,
+    d: Device,
+    marks: &mut [E::Cell],
+    list: [WriteRecord; 1025],
+    n: usize,
+) -> Logged<Batched>
+    ensures { (result.answer ≡ (batch_by E.engine d (E.area marks.old) (take n list)).answer)
+        × (E.area marks.new ≡ (batch_by E.engine d (E.area marks.old) (take n list)).marks)
+        × (result.log ≡ batch_log E.engine l d (E.area marks.old) (take n list)) }
+{
+    let notes = &list[..n.min(1025)];
+    let mut answer = writes::begin(d, E::words(marks), notes.len());
+    let mut log = l;
+    if answer.number != 0 {
+        return Logged { answer, log };
+    }
+    for w in notes {
+        let r = E::note(d, marks, w.id, w.address, w.bytes);
+        log = booking::book(log, d.settings, w.id, r.number, r.count, 0, 0);
+        answer = writes::tally(answer, r);
+        if answer.refusal != 0 {
+            return Logged { answer, log };
+        }
+    }
+    Logged { answer, log }
+}
+
+// Notes the first n of some writes one after another, and books each by itself.
 pub fn batch_of(
     l: Log,
     d: Device,
@@ -81,21 +117,7 @@ pub fn batch_of(
         × (marks.new ≡ (batch_change d marks.old (take n list)).marks)
         × (result.log ≡ batch_log in_words l d marks.old (take n list)) }
 {
-    let notes = &list[..n.min(1025)];
-    let mut answer = writes::begin(d, marks.len(), notes.len());
-    let mut log = l;
-    if answer.number != 0 {
-        return Logged { answer, log };
-    }
-    for w in notes {
-        let r = writes::note(d, marks, w.id, w.address, w.bytes);
-        log = booking::book(log, d.settings, w.id, r.number, r.count, 0, 0);
-        answer = writes::tally(answer, r);
-        if answer.refusal != 0 {
-            return Logged { answer, log };
-        }
-    }
-    Logged { answer, log }
+    batch_of_on::<InWords>(l, d, marks, list, n)
 }
 
 // Reports a controller's pending runs to its manager. The units of the runs that the report lists are booked as reported.

@@ -7,6 +7,14 @@ ghost use Rattle.rules.specs.Settings.{unit_size, bytes_of, whole_units};
 
 use rules::{Bytes, Range, Units};
 
+// The bytes of a write that has some, from the one at `at` to the one at `last`.
+#[derive(Clone, Copy)]
+pub struct WrittenRange {
+    pub at: u64,
+    pub last: u64,
+    pub ghost ordered: { at ≤ last },
+}
+
 // A length in units, in bytes: the one function of the granularity that converts.
 pub fn bytes_of(g: u8, u: Units) -> Bytes
     requires { (g ≤ 20) × (bytes_of g u.0 < 2 ^ 64) }

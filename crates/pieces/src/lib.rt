@@ -6,10 +6,13 @@
 ghost use Rattle.std.specs.Prelude.{◌≡◌, true, ◌&&◌, ◌+◌, ◌-◌, ◌^◌, ◌≤◌, ◌<◌, min, leb, ltb, take};
 ghost use Rattle.rules.specs.Settings.{unit_size, bytes_of};
 ghost use Rattle.rules.specs.Units.{end_of};
-ghost use Rattle.rules.specs.Ranges.{row_ok, rows_ok};
+ghost use Rattle.rules.specs.Ranges.{row_ok};
 ghost use Rattle.pieces.specs.Pieces.{row_of, Overlaps, cut_before, StretchIs, NextIs};
 
+pub use listed::Rows;
 use rules::{Bytes, Range, Units};
+
+mod listed;
 
 // Units of a range: those from `from` below `to`.
 #[derive(Clone, Copy)]
@@ -79,14 +82,14 @@ fn cut_before(s: Span, at: Units, to: Units) -> Units
 }
 
 // The stretch of a row's range from its unit `at` on.
-fn stretch_from(g: u8, ranges: [Range; 16], row: usize, at: Units) -> Stretch
-    requires { (g ≤ 20) × (row < 16) × (rows_ok g (take (row + 1) ranges) ≡ true) × (at.0 < (row_of ranges row).length) }
-    ensures { StretchIs (unit_size g) (take row ranges) (row_of ranges row) at.0 result.to.0 result.own }
+fn stretch_from(rows: Rows, row: usize, at: Units) -> Stretch
+    requires { (row < rows.count) × (at.0 < (row_of rows.ranges row).length) }
+    ensures { StretchIs (unit_size rows.granularity) (take row rows.ranges) (row_of rows.ranges row) at.0 result.to.0 result.own }
 {
-    let r = ranges[row];
+    let r = rows.ranges[row];
     let mut to = measures::length_of(r);
     for i in 0..row {
-        let s = overlap(g, r, ranges[i]);
+        let s = overlap(rows.granularity, r, rows.ranges[i]);
         if among(s, at) {
             let end = least(s.to, to);
             return Stretch {
@@ -110,21 +113,21 @@ pub fn part(g: u8, r: Range, s: Span) -> Range
     Range { start, length }
 }
 
-// The next piece of the first n ranges, from unit `at` of a row on. A loop by hand, as it goes on within a row as often as an earlier range cuts it: no range has such steps.
-pub fn next_piece(g: u8, n: usize, ranges: [Range; 16], row: usize, at: Units) -> Option<Piece>
-    requires { (g ≤ 20) × (n ≤ 16) × (rows_ok g (take n ranges) ≡ true) × (at.0 ≤ (row_of (take n ranges) row).length) }
-    ensures { NextIs (unit_size g) (take n ranges) row at.0 result }
+// The next piece of listed ranges, from unit `at` of a row on. A loop by hand, as it goes on within a row as often as an earlier range cuts it: no range has such steps.
+pub fn next_piece(rows: Rows, row: usize, at: Units) -> Option<Piece>
+    requires { at.0 ≤ (row_of (take rows.count rows.ranges) row).length }
+    ensures { NextIs (unit_size rows.granularity) (take rows.count rows.ranges) row at.0 result }
 {
     let mut i = row;
     let mut j = at;
-    while i < n {
-        let r = ranges[i];
+    while i < rows.count {
+        let r = rows.ranges[i];
         let length = measures::length_of(r);
         if j.0 < length.0 {
-            let s = stretch_from(g, ranges, i, j);
+            let s = stretch_from(rows, i, j);
             let to = s.to;
             if s.own {
-                let range = part(g, r, Span { from: j, to });
+                let range = part(rows.granularity, r, Span { from: j, to });
                 return Some(Piece {
                     row: i,
                     next: to,

@@ -10,7 +10,10 @@ ghost use Rattle.calls.specs.Inner.{changed_by, started_by, written_by, received
 ghost use Rattle.plain.specs.Bytes.{words_for, cleared_bytes, packed_bytes, in_bytes};
 
 use calls::{Batched, Changed, Posted, Received, Started, StateSet, Taken, WriteRecord, Written};
+use measures::WrittenRange;
+use pieces::Rows;
 use rules::{Bytes, Device, MARK_WORDS, Refusal, RowRefusal, Settings, Tracking, Units};
+use writes::Notes;
 
 // The bytes of the lent area: one for each unit that the pool may have.
 pub const AREA_BYTES: usize = 16384;
@@ -80,7 +83,13 @@ fn try_start(
 {
     let start = track_send::admit(d, words_for(area.len()), manager, id, data)?;
     let shares = record::shares(d);
-    let units = ranges::units_in(start.granularity, start.count as usize, start.ranges);
+    let ranges = start.ranges;
+    let rows = Rows {
+        granularity: start.granularity,
+        count: start.count as usize,
+        ranges,
+    };
+    let units = ranges::units_in(rows);
     let sizes = track_send::sizes_with(shares, start.place, units.0 as usize);
     pack(area, track_send::bases_of(shares), sizes, start.place);
     Ok(track_send::recorded(d, manager, start, sizes))
@@ -106,7 +115,13 @@ fn try_stop(d: Device, area: &mut [u8], manager: u16, id: u16) -> Result<Device,
     let Tracking::On(g, n) = calls::tracking_by(c, manager) else {
         return Err(Refusal::Untracked);
     };
-    let units = ranges::units_in(g, n as usize, calls::ranges_of(c));
+    let ranges = calls::ranges_of(c);
+    let rows = Rows {
+        granularity: g,
+        count: n as usize,
+        ranges,
+    };
+    let units = ranges::units_in(rows);
     clear(area, c.base as usize, units.0 as usize);
     Ok(track_send::forgotten(d, i))
 }
@@ -138,7 +153,8 @@ fn try_write(d: Device, area: &mut [u8], id: u16, at: u64, bytes: Bytes) -> Resu
     let ranges = calls::ranges_of(c);
     let size = measures::bytes_of(g, Units(1));
     let last = at + (bytes.0 - 1);
-    Ok(plain_marks::mark_units(area, c.base as usize, size.0, n as usize, ranges, at, last))
+    let written = WrittenRange { at, last };
+    Ok(plain_marks::mark_units(area, c.base as usize, size.0, n as usize, ranges, written))
 }
 
 // Notes that controller `id` wrote `bytes` bytes at address `at`. Answers how many units were not pending before. Refused, in this order: 1, 2, 4 suspended, 14 a written range
@@ -150,29 +166,42 @@ pub fn write(d: Device, area: &mut [u8], id: u16, at: u64, bytes: Bytes) -> Writ
     calls::written_by(try_write(d, area, id, at, bytes))
 }
 
+// This engine.
+pub struct InBytes;
+
+impl Notes for InBytes {
+    type Cell = u8;
+
+    ghost engine = { in_bytes };
+
+    ghost area = { λ bs. bs };
+
+    fn words(area: &[u8]) -> usize {
+        words_for(area.len())
+    }
+
+    fn note(d: Device, area: &mut [u8], id: u16, at: u64, bytes: Bytes) -> Written {
+        write(d, area, id, at, bytes)
+    }
+
+    fn count(area: &[u8], base: usize, n: usize) -> usize {
+        plain_marks::count_units(area, base, n)
+    }
+}
+
 // Notes the writes of a list one after another, as `write` does, up to the first that is refused; that cuts the batch, and the batch is done. Refused, in this order: 1, 22 more
 // than 1,024 records.
 pub fn batch(d: Device, area: &mut [u8], list: &[WriteRecord]) -> Batched
     ensures { (result ≡ (batch_by in_bytes d area.old list.now).answer) × (area.new ≡ (batch_by in_bytes d area.old list.now).marks) }
 {
-    let mut b = writes::begin(d, words_for(area.len()), list.len());
-    if b.number != 0 {
-        return b;
-    }
-    for w in list {
-        b = writes::tally(b, write(d, area, w.id, w.address, w.bytes));
-        if b.refusal != 0 {
-            return b;
-        }
-    }
-    b
+    writes::batch_on::<InBytes>(d, area, list)
 }
 
 // A batch of the first n of some records, for a caller that holds them by value. There is room for one more than a batch may have, so that a list that is too long is seen.
 pub fn batch_of(d: Device, area: &mut [u8], list: [WriteRecord; 1025], n: usize) -> Batched
     ensures { (result ≡ (batch_by in_bytes d area.old (take n list)).answer) × (area.new ≡ (batch_by in_bytes d area.old (take n list)).marks) }
 {
-    batch(d, area, &list[..n.min(1025)])
+    writes::batch_of_on::<InBytes>(d, area, list, n)
 }
 
 // ---- receive

@@ -1,16 +1,17 @@
 // The plain engine's calls that are logged (document 02, W13), as `logged` has those of the other engine: one byte a unit.
 #![tactic(auto)]
 
-ghost use Rattle.std.specs.Prelude.{◌≡◌, true, length, take};
-ghost use Rattle.record.specs.Record.{sound_with, where_is};
+ghost use Rattle.std.specs.Prelude.{◌≡◌, length, take};
+ghost use Rattle.record.specs.Record.{where_is};
 ghost use Rattle.calls.specs.Calls.{fresh_by, stop_by, write_by, batch_by, receive_by};
 ghost use Rattle.plain.specs.Bytes.{words_for, in_bytes};
-ghost use Rattle.booking.specs.Booking.{fresh_log, stop_log, write_log, batch_log, receive_log, units_held, reading_at};
+ghost use Rattle.booking.specs.Booking.{fresh_log, stop_log, write_log, batch_log, receive_log, reading_at};
 
 use booking::{Logged, Reading};
 use calls::{Batched, Changed, Received, WriteRecord, Written};
 use log_numbers::Log;
-use rules::{Bytes, Device, Settings, Tracking};
+use plain::InBytes;
+use rules::{Bytes, Device, Settings};
 
 // Makes a fresh device, and with it a log in which nothing is booked.
 pub fn fresh(l: Log, s: Settings, area: &mut [u8]) -> Logged<Changed>
@@ -23,29 +24,13 @@ pub fn fresh(l: Log, s: Settings, area: &mut [u8]) -> Logged<Changed>
     Logged { answer, log }
 }
 
-// How many units of a controller are pending, on a record that is sound.
-fn pending_units(d: Device, area: &[u8], id: u16) -> usize
-    ensures { sound_with d (words_for (length area.now)) ≡ true → result ≡ units_held in_bytes d area.now id }
-{
-    let Ok(i) = record::locate(d, plain::words_for(area.len()), id) else {
-        return 0;
-    };
-    let c = d.controllers[i];
-    let Tracking::On(g, n) = c.tracking else {
-        return 0;
-    };
-    let ranges = calls::ranges_of(c);
-    let units = ranges::units_in(g, n as usize, ranges);
-    plain_marks::count_units(area, c.base as usize, units.0 as usize)
-}
-
 // Stops a manager's tracking of a controller. What was still pending is booked as dropped.
 pub fn stop(l: Log, d: Device, area: &mut [u8], manager: u16, id: u16) -> Logged<Changed>
     ensures { (result.answer ≡ (stop_by in_bytes d area.old manager id).answer)
         × (area.new ≡ (stop_by in_bytes d area.old manager id).marks)
         × (result.log ≡ stop_log in_bytes l d area.old manager id) }
 {
-    let dropped = pending_units(d, area, id);
+    let dropped = logged::pending_units::<InBytes>(d, area, id);
     let answer = plain::stop(d, area, manager, id);
     let log = booking::book(l, d.settings, id, answer.number, 0, 0, dropped);
     Logged { answer, log }
@@ -74,21 +59,7 @@ pub fn batch_of(
         × (area.new ≡ (batch_by in_bytes d area.old (take n list)).marks)
         × (result.log ≡ batch_log in_bytes l d area.old (take n list)) }
 {
-    let notes = &list[..n.min(1025)];
-    let mut answer = writes::begin(d, plain::words_for(area.len()), notes.len());
-    let mut log = l;
-    if answer.number != 0 {
-        return Logged { answer, log };
-    }
-    for w in notes {
-        let r = plain::write(d, area, w.id, w.address, w.bytes);
-        log = booking::book(log, d.settings, w.id, r.number, r.count, 0, 0);
-        answer = writes::tally(answer, r);
-        if answer.refusal != 0 {
-            return Logged { answer, log };
-        }
-    }
-    Logged { answer, log }
+    logged::batch_of_on::<InBytes>(l, d, area, list, n)
 }
 
 // Reports a controller's pending runs to its manager. The units of the runs that the report lists are booked as reported.

@@ -9,6 +9,8 @@ ghost use Rattle.rules.specs.Report.{descriptor_bytes};
 ghost use Rattle.rules.specs.Units.{covers, touches, units_from};
 ghost use Rattle.plain_marks.specs.Plain.{marks_of, marks_set, covered_by, Ends, write_to, Marked, Lists};
 
+use measures::WrittenRange;
+use report_data::Listed;
 use rules::Range;
 
 // Whether a range covers the byte at an address.
@@ -32,15 +34,15 @@ pub fn covered(ranges: [Range; 16], row: usize, address: u64, size: u64) -> bool
     false
 }
 
-// Whether the bytes from `at` to `last` touch the unit at an address.
-fn touches(address: u64, size: u64, at: u64, last: u64) -> bool
-    requires { (0 < size) × (at ≤ last) × (address + size ≤ 2 ^ 64) }
-    ensures { result ≡ touches (write_to at last) (record { row = 0; address = address; size = size }) }
+// Whether a written range touches the unit at an address.
+fn touches(address: u64, size: u64, written: WrittenRange) -> bool
+    requires { (0 < size) × (address + size ≤ 2 ^ 64) }
+    ensures { result ≡ touches (write_to written.at written.last) (record { row = 0; address = address; size = size }) }
 {
-    address <= last && at <= address + (size - 1)
+    address <= written.last && written.at <= address + (size - 1)
 }
 
-// Marks every unit of the first n ranges that the bytes from `at` to `last` touch, and counts those that were clear. A clear byte becomes 1, one that is
+// Marks every unit of the first n ranges that a written range touches, and counts those that were clear. A clear byte becomes 1, one that is
 // not 0 stays as it is.
 // Nothing is refused: that the ranges pass the rules of a row, and that the area has a byte for each unit, is the caller's to keep.
 pub fn mark_units(
@@ -49,11 +51,10 @@ pub fn mark_units(
     size: u64,
     n: usize,
     ranges: [Range; 16],
-    at: u64,
-    last: u64,
+    written: WrittenRange,
 ) -> usize
-    requires { (0 < size) × (at ≤ last) × (n ≤ 16) × (base + length (units_from size 0 [] (take n ranges)) ≤ length area.old) × Ends size ranges n }
-    ensures { Marked (write_to at last) (units_from size 0 [] (take n ranges)) area.old base result area.new }
+    requires { (0 < size) × (n ≤ 16) × (base + length (units_from size 0 [] (take n ranges)) ≤ length area.old) × Ends size ranges n }
+    ensures { Marked (write_to written.at written.last) (units_from size 0 [] (take n ranges)) area.old base result area.new }
 {
     let mut count: usize = 0;
     let mut place = base;
@@ -62,7 +63,7 @@ pub fn mark_units(
         for unit in 0..r.length as u64 {
             let address = r.start + unit * size;
             if !covered(ranges, row, address, size) {
-                if touches(address, size, at, last) && area[place] == 0 {
+                if touches(address, size, written) && area[place] == 0 {
                     area[place] = 1;
                     count += 1;
                 }
@@ -86,14 +87,6 @@ pub fn count_units(area: &[u8], base: usize, n: usize) -> usize
         }
     }
     count
-}
-
-// How many runs were listed, whether one stays, and how many groups of 64 units were examined (W10).
-#[derive(Clone, Copy)]
-pub struct Listed {
-    pub runs: usize,
-    pub more: bool,
-    pub groups: usize,
 }
 
 // Puts the descriptor of a run that has ended after those of `runs` others, and answers how many there are then. Where no run was growing, of 0 units,

@@ -4,9 +4,10 @@
 ghost use Rattle.std.specs.Prelude.{◌≡◌, true, false, ◌&&◌, ◌*◌, ◌^◌, ◌≤◌, length, take, [], ◌∷◌};
 ghost use Rattle.rules.specs.Refusals.{refusal, refusal_at, refused_by, refused_at};
 ghost use Rattle.rules.specs.Units.{units};
-ghost use Rattle.rules.specs.Ranges.{row_tests, row_ok, rows_ok, rows_tests, is_power, powers_ok, list_tests};
+ghost use Rattle.rules.specs.Ranges.{row_tests, row_ok, rows_tests, is_power, powers_ok, list_tests};
 ghost use Rattle.ranges.specs.Kept.{kept_of, most_in};
 
+use pieces::Rows;
 use rules::{MOST_UNITS, Range, Refusal, RowRefusal, Settings, Units};
 
 // The first rule of a row that a range breaks: 19 it has no units, 20 its start is no multiple of the unit, 21 it ends past 2^64. Its last byte is
@@ -79,15 +80,14 @@ fn powers_ok(s: Settings, n: usize, ranges: [Range; 16]) -> bool
     true
 }
 
-// How many different units the first n ranges have, piece by piece.
-pub fn units_in(g: u8, n: usize, ranges: [Range; 16]) -> Units
-    requires { (g ≤ 20) × (n ≤ 16) × (rows_ok g (take n ranges) ≡ true) }
-    ensures { (result.0 ≡ length (units g (take n ranges))) × (result.0 ≤ 2 ^ 56) }
+// How many different units listed ranges have, piece by piece.
+pub fn units_in(rows: Rows) -> Units
+    ensures { (result.0 ≡ length (units rows.granularity (take rows.count rows.ranges))) × (result.0 ≤ 2 ^ 56) }
 {
     let mut total: u64 = 0;
     let mut row: usize = 0;
     let mut unit = Units(0);
-    while let Some(piece) = pieces::next_piece(g, n, ranges, row, unit) {
+    while let Some(piece) = pieces::next_piece(rows, row, unit) {
         let u = measures::length_of(piece.range);
         total += u.0;
         row = piece.row;
@@ -142,5 +142,10 @@ pub fn list_kept(s: Settings, g: u8, n: u8, ranges: [Range; 16]) -> Option<Units
     if total <= MOST_UNITS {
         return Some(Units(total));
     }
-    Some(units_in(g, m, ranges))
+    let rows = Rows {
+        granularity: g,
+        count: m,
+        ranges,
+    };
+    Some(units_in(rows))
 }

@@ -11,6 +11,7 @@ ghost use Rattle.ranges.specs.Kept.{most_in};
 ghost use Rattle.record.specs.Record.{no_controller, managed_of, units_of, weights_of, where_is, where_by};
 ghost use Rattle.record.specs.Inner.{kept_in, end_after, walked_by, walk_of, within_limits, Countable};
 
+use pieces::Rows;
 use rules::{
     Controller, Device, MARK_WORDS, MOST_UNITS, Refusal, Ring, Settings, Share, Tracking, Units,
 };
@@ -187,7 +188,13 @@ fn share_of(c: Controller) -> Share
     let Tracking::On(g, n) = c.tracking else {
         return Share { base: 0, size: 0 };
     };
-    let u = ranges::units_in(g, n as usize, c.ranges);
+    let ranges = c.ranges;
+    let rows = Rows {
+        granularity: g,
+        count: n as usize,
+        ranges,
+    };
+    let u = ranges::units_in(rows);
     let base = c.base as usize;
     let size = u.0 as usize;
     Share { base, size }

@@ -6,6 +6,14 @@ ghost use Rattle.std.specs.Prelude.{◌≡◌, ◌+◌, ◌≤◌, length};
 ghost use Rattle.little.specs.Little.{put};
 ghost use Rattle.rules.specs.Report.{flag, report_header, descriptor_bytes};
 
+// How many runs were listed, whether one stays, and how many groups of 64 units were examined (W10).
+#[derive(Clone, Copy)]
+pub struct Listed {
+    pub runs: usize,
+    pub more: bool,
+    pub groups: usize,
+}
+
 // An attribute's bit where it is set, else 0.
 fn attribute(set: bool, bit: u8) -> u8
     ensures { (result ≡ flag set bit) × (result ≤ bit) }

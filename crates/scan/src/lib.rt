@@ -7,10 +7,10 @@ ghost use Rattle.bits.specs.Flat.{flat};
 ghost use Rattle.bits.specs.Next.{next};
 ghost use Rattle.bits.specs.Share.{Holds, get_share};
 ghost use Rattle.rules.specs.Units.{units};
-ghost use Rattle.rules.specs.Ranges.{rows_ok};
 ghost use Rattle.scan.specs.Scan.{Stands, NextIs, Begins, piece_end, run_of, Lists};
 
-use pieces::{Piece, Span};
+use pieces::{Piece, Rows, Span};
+use report_data::Listed;
 use rules::{Range, Units};
 
 // A pending unit: the piece of a range that has it, the piece's own first unit, and the unit itself.
@@ -26,20 +26,18 @@ pub struct Found {
 fn next_pending(
     marks: &[u64],
     base: usize,
-    g: u8,
-    n: usize,
-    ranges: [Range; 16],
+    rows: Rows,
     row: usize,
     unit: Units,
     pos: usize,
 ) -> Result<Found, usize>
-    requires { (g ≤ 20) × (n ≤ 16) × (rows_ok g (take n ranges) ≡ true) × Holds marks.now base (length (units g (take n ranges))) × Stands g (take n ranges) row unit.0 pos }
-    ensures { NextIs g (take n ranges) (get_share (flat marks.now) base (length (units g (take n ranges)))) pos result }
+    requires { Holds marks.now base (length (units rows.granularity (take rows.count rows.ranges))) × Stands rows.granularity (take rows.count rows.ranges) row unit.0 pos }
+    ensures { NextIs rows.granularity (take rows.count rows.ranges) (get_share (flat marks.now) base (length (units rows.granularity (take rows.count rows.ranges)))) pos result }
 {
     let mut i = row;
     let mut u = unit;
     let mut at = pos;
-    while let Some(piece) = pieces::next_piece(g, n, ranges, i, u) {
+    while let Some(piece) = pieces::next_piece(rows, i, u) {
         let end = at + piece.range.length as usize;
         let from = bits::next_set(marks, base + at, base + end) - base;
         if from < end {
@@ -82,35 +80,24 @@ fn run_from(marks: &[u64], base: usize, g: u8, f: Found) -> Run
     }
 }
 
-// How many runs were listed, whether one stays, and how many groups of 64 units were examined (W10).
-#[derive(Clone, Copy)]
-pub struct Listed {
-    pub runs: usize,
-    pub more: bool,
-    pub groups: usize,
-}
-
 // Lists the first runs, as many as there is room for, one descriptor after another from byte 16 of the buffer on, and makes them clear.
 // The groups examined are those up to and including the one where the run that stays begins, or, if there is none, all.
 pub fn list_runs(
     marks: &mut [u64],
     base: usize,
-    g: u8,
-    n: usize,
-    ranges: [Range; 16],
+    rows: Rows,
     buffer: &mut [u8],
     room: usize,
 ) -> Listed
-    requires rows { (g ≤ 20) × (n ≤ 16) × (rows_ok g (take n ranges) ≡ true) }
-    requires space { Holds marks.old base (length (units g (take n ranges))) × (16 + 16 * room ≤ length buffer.old) }
-    ensures { Lists g (take n ranges) (flat marks.old) base buffer.old room result.runs result.more result.groups (flat marks.new) buffer.new }
+    requires { Holds marks.old base (length (units rows.granularity (take rows.count rows.ranges))) × (16 + 16 * room ≤ length buffer.old) }
+    ensures { Lists rows.granularity (take rows.count rows.ranges) (flat marks.old) base buffer.old room result.runs result.more result.groups (flat marks.new) buffer.new }
 {
     let mut runs: usize = 0;
     let mut row: usize = 0;
     let mut unit = Units(0);
     let mut pos: usize = 0;
     loop {
-        let found = match next_pending(marks, base, g, n, ranges, row, unit, pos) {
+        let found = match next_pending(marks, base, rows, row, unit, pos) {
             Ok(found) => found,
             Err(total) => {
                 return Listed {
@@ -127,7 +114,7 @@ pub fn list_runs(
                 groups: found.from / 64 + 1,
             };
         }
-        let run = run_from(marks, base, g, found);
+        let run = run_from(marks, base, rows.granularity, found);
         row = run.row;
         unit = run.next;
         pos = run.to;

@@ -7,6 +7,7 @@ ghost use Rattle.calls.specs.Calls.{receive_receipt};
 ghost use Rattle.calls.specs.Inner.{received_by};
 
 use calls::Received;
+use pieces::Rows;
 use rules::{Device, Refusal, Tracking};
 
 // What a receive comes to.
@@ -31,15 +32,12 @@ fn try_receive(
         return Err(Refusal::Short);
     }
     let ranges = calls::ranges_of(c);
-    let listed = scan::list_runs(
-        marks,
-        c.base as usize,
-        g,
-        n as usize,
+    let rows = Rows {
+        granularity: g,
+        count: n as usize,
         ranges,
-        buffer,
-        (size - 16) / 16,
-    );
+    };
+    let listed = scan::list_runs(marks, c.base as usize, rows, buffer, (size - 16) / 16);
     report_data::put_header(buffer, id, c.suspended, listed.more, listed.runs as u32, g);
     Ok(Received {
         number: 0,

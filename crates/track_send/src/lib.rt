@@ -17,6 +17,7 @@ ghost use Rattle.track_send.specs.Inner.{tracking, Admits, Installs};
 ghost use Rattle.rules.specs.Order.{start_listed, start_shared, start_order};
 
 use calls::{Changed, Started};
+use pieces::Rows;
 use rules::{Controller, Device, MOST_UNITS, Range, Refusal, RowRefusal, Share, Tracking};
 
 // ---- start
@@ -63,7 +64,12 @@ pub fn listed_refusal(d: Device, manager: u16, g: u8, n: u32, data: &[u8]) -> Re
     }
     let ranges = start_data::read_ranges(data, count);
     ranges::list_refusal(s, g, count as u8, ranges)?;
-    let units = ranges::units_in(g, count, ranges);
+    let rows = Rows {
+        granularity: g,
+        count: count,
+        ranges,
+    };
+    let units = ranges::units_in(rows);
     let held = together(record::shares(d));
     if units.0 > MOST_UNITS - held as u64 {
         return Err(RowRefusal::from(Refusal::Units));
@@ -134,7 +140,13 @@ fn install(d: Device, marks: &mut [u64], manager: u16, start: Admitted) -> Devic
     ensures { (result ≡ packed_device (tracking d manager start)) × (marks.new ≡ packed_words marks.old (bases_of d) (sizes_of (tracking d manager start)) start.place) }
 {
     let shares = record::shares(d);
-    let units = ranges::units_in(start.granularity, start.count as usize, start.ranges);
+    let ranges = start.ranges;
+    let rows = Rows {
+        granularity: start.granularity,
+        count: start.count as usize,
+        ranges,
+    };
+    let units = ranges::units_in(rows);
     let sizes = sizes_with(shares, start.place, units.0 as usize);
     pool::pack(marks, bases_of(shares), sizes, start.place);
     recorded(d, manager, start, sizes)
@@ -236,7 +248,13 @@ fn try_stop(d: Device, marks: &mut [u64], manager: u16, id: u16) -> Result<Devic
     let Tracking::On(g, n) = calls::tracking_by(c, manager) else {
         return Err(Refusal::Untracked);
     };
-    let units = ranges::units_in(g, n as usize, calls::ranges_of(c));
+    let ranges = calls::ranges_of(c);
+    let rows = Rows {
+        granularity: g,
+        count: n as usize,
+        ranges,
+    };
+    let units = ranges::units_in(rows);
     clear_share(marks, c.base as usize, units.0 as usize);
     Ok(forgotten(d, i))
 }

@@ -1,3 +1,4 @@
+pub mod CountLaws
 pub mod WriteLaws
 pub mod BatchLaws
 pub mod Turns

@@ -47,29 +47,18 @@ newly-most w (u ∷ us) (b ∷ p) = go (touches w u && not b) (newly-most w us p
     go true h = omega arith
     go false h = omega arith
 
--- what a batch asks of an engine: areas of one length stand for as many words, and one that stands for the marks' words has at most a mark for each unit of the pool
-pub record Sized (en : Engine) : Type 0 where
-  pub alike : (ws ws' : List ℕ) → length ws ≡ length ws' → en.words ws ≡ en.words ws'
-  pub most : (ws : List ℕ) (base n : ℕ) → en.words ws ≡ mark_words → length (en.marks ws base n) ≤ most_units
-
-pub words-sized : Sized in_words
-unfolding get_share
-words-sized =
-    record {
-      alike = λ ws ws' e. e;
-      most = λ ws base n e. omega (arith, length-take n (drop base (flat ws)), length-drop base (flat ws), flat-length ws, e);
-    }
-
-note-most : (en : Engine) (sized : Sized en) (d : Device) (ws : List ℕ) (id : ℕ) (w : Write) → en.words ws ≡ mark_words → (write_by en d ws id w).answer.count ≤ most_units
+-- where an engine has at most a mark for each unit of the pool
+pub note-most : (en : Engine) (d : Device) (ws : List ℕ) (most : (base n : ℕ) → length (en.marks ws base n) ≤ most_units) (id : ℕ) (w : Write)
+    → (write_by en d ws id w).answer.count ≤ most_units
 unfolding write_by
-note-most en sized d ws id w e =
+note-most en d ws most id w =
     verdict-has (λ (n : Note). n.answer.count ≤ most_units) (λ n i. noted n 0 ws) (λ n i. omega arith)
     (write_order (seen_in d (en.words ws) (place_of d.settings id)) w) (write_done en d ws w (place_of d.settings id)) (λ p. done (place_of d.settings id))
   where
     in-share : (base : ℕ) (t : Tracking) (rs : List Range) → (note_in en ws base t rs w).answer.count ≤ most_units
     in-share base Off rs = omega arith
     in-share base (On g n) rs =
-        omega (arith, newly-most w (units g (take n rs)) (en.marks ws base (length (units g (take n rs)))), sized.most ws base (length (units g (take n rs))) e)
+        omega (arith, newly-most w (units g (take n rs)) (en.marks ws base (length (units g (take n rs)))), most base (length (units g (take n rs))))
 
     done : (p : Option ℕ) → (write_done en d ws w p).answer.count ≤ most_units
     done None = omega arith
@@ -79,7 +68,13 @@ note-most en sized d ws id w e =
 abbrev pub no_record : WriteRecord
 no_record = record { id = 0; address = 0; bytes = record { 0 = 0 } }
 
-module _ (en : Engine) (sized : Sized en) (d : Device) (m₀ : List ℕ) (rs : List WriteRecord) where
+-- so has the engine that holds marks in words, in those of a sound record
+pub words-most : (d : Device) (ws : List ℕ) → sound_with d (length ws) ≡ true → (base n : ℕ) → length (in_words.marks ws base n) ≤ most_units
+unfolding get_share sound_with
+words-most d ws s base n =
+    omega (arith, length-take n (drop base (flat ws)), length-drop base (flat ws), flat-length ws, eqb-true (length ws) mark_words (and_right (sound_device d) (eqb (length ws) mark_words) s))
+
+module _ (en : Engine) (d : Device) (m₀ : List ℕ) (rs : List WriteRecord) where
   abbrev n : ℕ
   n = length rs
 
@@ -127,7 +122,7 @@ module _ (en : Engine) (sized : Sized en) (d : Device) (m₀ : List ℕ) (rs : L
 
   -- ---- a turn
 
-  module _ (b : Batched) (m : List ℕ) (len : length m ≡ length m₀) (on : is_due b n ≡ true) (f : Facts b m) where
+  module _ (b : Batched) (m : List ℕ) (len : en.words m ≡ en.words m₀) (on : is_due b n ≡ true) (f : Facts b m) where
     abbrev pub elem : WriteRecord
     elem = get_or rs b.done no_record
 
@@ -137,15 +132,8 @@ module _ (en : Engine) (sized : Sized en) (d : Device) (m₀ : List ℕ) (rs : L
     is : (b.number ≡ 0) × (b.refusal ≡ 0) × (b.done < n)
     is = due-is b n on
 
-    words : en.words m ≡ mark_words
-    unfolding sound_with
-    words = sized.alike m m₀ len ∙ eqb-true (en.words m₀) mark_words (and_right (sound_device d) (eqb (en.words m₀) mark_words) (f.ok on).1)
-
     pub sound-now : sound_with d (en.words m) ≡ true
-    sound-now = rw (sized.alike m m₀ len) (f.ok on).1
-
-    few : note.answer.count ≤ most_units
-    few = note-most en sized d m elem.id (write_in elem) words
+    sound-now = rw len (f.ok on).1
 
     -- what is left, the record apart
     before : left b m ≡ cond (eqb note.answer.number 0) (notes_from en d note.marks (b.done + 1) (b.count + note.answer.count) (drop (b.done + 1) rs))
@@ -193,8 +181,8 @@ module _ (en : Engine) (sized : Sized en) (d : Device) (m₀ : List ℕ) (rs : L
       cut-inv : left cut note.marks ≡ batch_by en d m₀ rs
       cut-inv = stays ∙ sym (before ∙ so-cut) ∙ f.inv
 
-    turned-at : Facts (tally_of b note.answer) note.marks
-    turned-at = go (eqb note.answer.number 0) refl
+    turned-at : note.answer.count ≤ most_units → Facts (tally_of b note.answer) note.marks
+    turned-at few = go (eqb note.answer.number 0) refl
       where
         go : (y : Bool) → eqb note.answer.number 0 ≡ y → Facts (tally_of b note.answer) note.marks
         go true y =
@@ -207,16 +195,16 @@ module _ (en : Engine) (sized : Sized en) (d : Device) (m₀ : List ℕ) (rs : L
             (record { ok = λ h. f.ok on; small = f.small; inv = cut-inv e })
 
     -- a note's answer w, the marks m' after it, and the tally b', as the callees' contracts say them
-    module _ (w : Written) (m' : List ℕ) (b' : Batched) (is-w : w ≡ note.answer) (is_m : m' ≡ note.marks) (is_b : b' ≡ tally_of b w) where
+    module _ (w : Written) (m' : List ℕ) (b' : Batched) (is-w : w ≡ note.answer) (is_m : m' ≡ note.marks) (few : w.count ≤ most_units) (is_b : b' ≡ tally_of b w) where
       is-b' : b' ≡ tally_of b note.answer
       is-b' = is_b ∙ ap (λ (k : Written). tally_of b k) is-w
 
       pub turned : Facts b' m'
-      turned = subst (λ (u : Batched). Facts u m') (sym is-b') (subst (λ (z : List ℕ). Facts (tally_of b note.answer) z) (sym is_m) turned-at)
+      turned = subst (λ (u : Batched). Facts u m') (sym is-b') (subst (λ (z : List ℕ). Facts (tally_of b note.answer) z) (sym is_m) (turned-at (rw is-w at few)))
 
     -- what `tally` requires
-    pub fits_in : (w : Written) → w ≡ note.answer → (b.done + 1 < 2 ^ 64) × (b.count + w.count < 2 ^ 64)
-    fits_in w e = rw e (omega (arith, is.2, (f.ok on).0), omega (arith, few, f.small, is.2, (f.ok on).0))
+    pub fits_in : (w : Written) → w.count ≤ most_units → (b.done + 1 < 2 ^ 64) × (b.count + w.count < 2 ^ 64)
+    fits_in w few = (omega (arith, is.2, (f.ok on).0), omega (arith, few, f.small, is.2, (f.ok on).0))
 
   -- ---- the loop is left
 
@@ -233,7 +221,7 @@ module _ (en : Engine) (sized : Sized en) (d : Device) (m₀ : List ℕ) (rs : L
 
   pub record Going (i : ℕ) (b : Batched) (m : List ℕ) : Type 0 where
     pub facts : Facts b m
-    pub same : length m ≡ length m₀
+    pub same : en.words m ≡ en.words m₀
     pub whole : b.number ≡ 0
     pub uncut : b.refusal ≡ 0
     pub done : b.done ≡ i
@@ -271,7 +259,8 @@ module _ (en : Engine) (sized : Sized en) (d : Device) (m₀ : List ℕ) (rs : L
       abbrev given : WriteRecord
       given = get_or rs i no_record
 
-      module _ (w : Written) (m' : List ℕ) (is-w : w ≡ (write_by en d m given.id (write_in given)).answer) (is_m : m' ≡ (write_by en d m given.id (write_in given)).marks) where
+      module _ (w : Written) (m' : List ℕ) (is-w : w ≡ (write_by en d m given.id (write_in given)).answer) (is_m : m' ≡ (write_by en d m given.id (write_in given)).marks)
+          (few : w.count ≤ most_units) where
         w-is : w ≡ (note b m g.same going-on g.facts).answer
         w-is = rw g.done is-w
 
@@ -279,16 +268,16 @@ module _ (en : Engine) (sized : Sized en) (d : Device) (m₀ : List ℕ) (rs : L
         m-is = rw g.done is_m
 
         pub going-fits : (b.done + 1 < 2 ^ 64) × (b.count + w.count < 2 ^ 64)
-        going-fits = fits_in b m g.same going-on g.facts w w-is
+        going-fits = fits_in b m g.same going-on g.facts w few
 
         module _ (b' : Batched) (is_b : b' ≡ tally_of b w) where
           after-facts : Facts b' m'
-          after-facts = turned b m g.same going-on g.facts w m' b' w-is m-is is_b
+          after-facts = turned b m g.same going-on g.facts w m' b' w-is m-is few is_b
 
           pub going-cut : b'.refusal ≢ 0 → Answered b' m'
           going-cut h = stopped b' m' (sym (due-cut b' n h)) after-facts
 
-          pub going-next : b'.refusal ≡ 0 → length m' ≡ length m₀ → Going (i + 1) b' m'
+          pub going-next : b'.refusal ≡ 0 → en.words m' ≡ en.words m₀ → Going (i + 1) b' m'
           going-next z s =
               let number : b'.number ≡ b.number = rw is_b (tally-number b w) in
               let went : b'.done ≡ b.done + 1 = rw is_b (tally-went b w (sym (ap (λ (t : Batched). t.refusal) is_b) ∙ z)) in

@@ -1,4 +1,4 @@
--- What a note to one controller does, and what the parts of a batch's loop compute. The plain engine (W9) has its notes' refusals and its batch's parts from here.
+-- What a note to one controller does, and what the parts of a batch's loop compute. The plain engine (W9) has its notes' refusals and its batch from here.
 use Rattle.std.specs.Prelude.{ℕ, ◌+◌, ◌^◌, ◌≤◌, ◌≡◌, Bool, true, not, ◌&&◌, cond, List, [], ◌∷◌, leb, ltb, eqb, length, take}
 use Rattle.bits.specs.Share.{Holds}
 use Rattle.rules.specs.Refusals.{Test, ◌else◌, verdict, refusal}

@@ -2,15 +2,19 @@
 // afterwards.
 #![tactic(auto)]
 
-ghost use Rattle.std.specs.Prelude.{◌≡◌, true, length, take, ◌+◌, ◌<◌, ◌^◌};
+ghost use Rattle.std.specs.Prelude.{◌≡◌, ℕ, List, true, length, take, ◌+◌, ◌<◌, ◌≤◌, ◌^◌};
 ghost use Rattle.rules.specs.Refusals.{refusal, refused_by};
+ghost use Rattle.rules.specs.Settings.{mark_words, most_units};
+ghost use Rattle.rules.specs.Units.{Unit, pending};
 ghost use Rattle.rules.specs.Order.{batch_order};
 ghost use Rattle.record.specs.Record.{sound_with};
-ghost use Rattle.calls.specs.Calls.{write_note, batch_change};
+ghost use Rattle.calls.specs.Calls.{Engine, in_words, write_note, write_by, batch_change, batch_by};
 ghost use Rattle.calls.specs.Inner.{written_by};
 ghost use Rattle.writes.specs.Inner.{MayNote, note_tests, note_on, begin_of, tally_of};
 
 use calls::{Batched, WriteRecord, Written};
+use measures::WrittenRange;
+use pieces::Rows;
 use rules::{Bytes, Controller, Device, MARK_WORDS, MOST_NOTES, Refusal, Tracking};
 
 // Whether a note to a controller is refused, in this order: 4 suspended, 14 a written range that ends past 2^64.
@@ -40,7 +44,14 @@ fn note_on(c: Controller, marks: &mut [u64], at: u64, bytes: Bytes) -> Result<us
         return Ok(0);
     };
     let last = at + (bytes.0 - 1);
-    Ok(marking::mark_ranges(marks, c.base as usize, g, n as usize, c.ranges, at, last))
+    let written = WrittenRange { at, last };
+    let ranges = c.ranges;
+    let rows = Rows {
+        granularity: g,
+        count: n as usize,
+        ranges,
+    };
+    Ok(marking::mark_ranges(marks, c.base as usize, rows, written))
 }
 
 // What a note on a record that is known to be sound comes to.
@@ -83,7 +94,7 @@ pub fn write(d: Device, marks: &mut [u64], id: u16, at: u64, bytes: Bytes) -> Wr
     calls::written_by(try_write(d, marks, id, at, bytes))
 }
 
-// ---- a batch: what begins it and tallies a note is public for the plain engine, which has the same loop
+// ---- a batch, on any engine: what begins it and tallies a note is public for the batch that is logged, which has the same loop
 
 // Whether a batch of `total` records is refused before its first note, in this order: 1, 22 more than 1,024 records.
 fn batch_refusal(d: Device, words: usize, total: usize) -> Result<(), Refusal>
@@ -133,17 +144,67 @@ pub fn tally(b: Batched, w: Written) -> Batched
     }
 }
 
-// Notes the writes of a list one after another, as `write` would, up to the first that is refused; that cuts the batch, and the batch is done. Refused, in
+// An engine that holds marks in cells: words, or bytes.
+pub trait Notes {
+    type Cell;
+
+    ghost engine: { Engine };
+
+    ghost area: { List Self.Cell → List ℕ };
+
+    // For how many words of marks some cells stand.
+    fn words(marks: &[Self::Cell]) -> usize
+        ensures { result ≡ engine.words (area marks.now) };
+
+    // Notes a write on a record that is known to be sound.
+    fn note(d: Device, marks: &mut [Self::Cell], id: u16, at: u64, bytes: Bytes) -> Written
+        requires { sound_with d (engine.words (area marks.old)) ≡ true }
+        ensures { (result ≡ (write_by engine d (area marks.old) id (record { address = at; bytes = bytes.0 })).answer)
+            × (area marks.new ≡ (write_by engine d (area marks.old) id (record { address = at; bytes = bytes.0 })).marks)
+            × (engine.words (area marks.new) ≡ engine.words (area marks.old))
+            × (result.count ≤ most_units) };
+
+    // How many of n units whose marks stand from a place on are pending.
+    // Nothing is refused: that they stand there is the caller's to keep.
+    fn count(marks: &[Self::Cell], base: usize, n: usize) -> usize
+        requires { (engine.words (area marks.now) ≡ mark_words) × (base + n ≤ most_units) }
+        ensures { (us : List Unit) → n ≡ length us → result ≡ length (pending us (engine.marks (area marks.now) base (length us))) };
+}
+
+// The engine of these calls.
+pub struct InWords;
+
+impl Notes for InWords {
+    type Cell = u64;
+
+    ghost engine = { in_words };
+
+    ghost area = { λ ws. ws };
+
+    fn words(marks: &[u64]) -> usize {
+        marks.len()
+    }
+
+    fn note(d: Device, marks: &mut [u64], id: u16, at: u64, bytes: Bytes) -> Written {
+        note(d, marks, id, at, bytes)
+    }
+
+    fn count(marks: &[u64], base: usize, n: usize) -> usize {
+        bits::count_span(marks, base, base + n)
+    }
+}
+
+// A batch on any engine: the writes of a list are noted one after another, up to the first that is refused; that cuts the batch, and the batch is done. Refused, in
 // this order: 1, 22 more than 1,024 records.
-pub fn batch(d: Device, marks: &mut [u64], list: &[WriteRecord]) -> Batched
-    ensures { (result ≡ (batch_change d marks.old list.now).answer) × (marks.new ≡ (batch_change d marks.old list.now).marks) }
+pub fn batch_on<E: Notes>(d: Device, marks: &mut [E::Cell], list: &[WriteRecord]) -> Batched
+    ensures { (result ≡ (batch_by E.engine d (E.area marks.old) list.now).answer) × (E.area marks.new ≡ (batch_by E.engine d (E.area marks.old) list.now).marks) }
 {
-    let mut b = begin(d, marks.len(), list.len());
+    let mut b = begin(d, E::words(marks), list.len());
     if b.number != 0 {
         return b;
     }
     for w in list {
-        b = tally(b, note(d, marks, w.id, w.address, w.bytes));
+        b = tally(b, E::note(d, marks, w.id, w.address, w.bytes));
         if b.refusal != 0 {
             return b;
         }
@@ -151,10 +212,31 @@ pub fn batch(d: Device, marks: &mut [u64], list: &[WriteRecord]) -> Batched
     b
 }
 
+// So is a batch of the first n of some records.
+pub fn batch_of_on<E: Notes>(
+    d: Device,
+    marks: &mut [E::Cell],
+    list: [WriteRecord; 1025],
+    n: usize,
+) -> Batched
+    ensures { (result ≡ (batch_by E.engine d (E.area marks.old) (take n list)).answer)
+        × (E.area marks.new ≡ (batch_by E.engine d (E.area marks.old) (take n list)).marks) }
+{
+    batch_on::<E>(d, marks, &list[..n.min(1025)])
+}
+
+// Notes the writes of a list one after another, as `write` would, up to the first that is refused; that cuts the batch, and the batch is done. Refused, in
+// this order: 1, 22 more than 1,024 records.
+pub fn batch(d: Device, marks: &mut [u64], list: &[WriteRecord]) -> Batched
+    ensures { (result ≡ (batch_change d marks.old list.now).answer) × (marks.new ≡ (batch_change d marks.old list.now).marks) }
+{
+    batch_on::<InWords>(d, marks, list)
+}
+
 // A batch of the first n of some records, for a caller that holds them by value. There is room for one more than a batch may have, so that a list that is too
 // long is seen.
 pub fn batch_of(d: Device, marks: &mut [u64], list: [WriteRecord; 1025], n: usize) -> Batched
     ensures { (result ≡ (batch_change d marks.old (take n list)).answer) × (marks.new ≡ (batch_change d marks.old (take n list)).marks) }
 {
-    batch(d, marks, &list[..n.min(1025)])
+    batch_of_on::<InWords>(d, marks, list, n)
 }

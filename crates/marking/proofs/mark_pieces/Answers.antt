@@ -16,19 +16,18 @@ use Rattle.marking.proofs.mark_pieces.Goals.{After-mark_range-sum, In-Some}
 marked : (c : After-mark_range-sum)
     → let a = c.args in
     let p = c.in-Some.piece in
-    Marking (write_to a.at a.last) (units_left (unit_size a.g) (take a.n a.ranges) p.row p.next.0) c.mark_range-sum.new.marks (c.loop-piece.bit + p.range.length) (c.loop-piece.sum + c.mark_range-sum.result)
-    (mark_in (write_to a.at a.last) (units_left (unit_size a.g) (take a.n a.ranges) a.row 0) (flat a.marks.now) a.from)
-    (newly_in (write_to a.at a.last) (units_left (unit_size a.g) (take a.n a.ranges) a.row 0) (flat a.marks.now) a.from)
+    Marking (write_to a.written.at a.written.last) (units_left (unit_size a.rows.granularity) (take a.rows.count a.rows.ranges) p.row p.next.0) c.mark_range-sum.new.marks (c.loop-piece.bit + p.range.length) (c.loop-piece.sum + c.mark_range-sum.result)
+    (mark_in (write_to a.written.at a.written.last) (units_left (unit_size a.rows.granularity) (take a.rows.count a.rows.ranges) a.row 0) (flat a.marks.now) a.from)
+    (newly_in (write_to a.written.at a.written.last) (units_left (unit_size a.rows.granularity) (take a.rows.count a.rows.ranges) a.row 0) (flat a.marks.now) a.from)
 marked c =
     let m = c.mark_range-sum in
     marking-next _ _ _ _ _ _ _ c.loop-piece.invariant.2 _ _ _ _ (piece-left _ _ _ _ _ c.in-Some.ensures) _ _ m.auto.marks m.ensures.1 m.ensures.0
 
 pub loop-piece-init : goal.loop-piece-init
-loop-piece-init c = (refl, omega arith, marking-start _ _ _ _ c.requires.4)
+loop-piece-init c = (refl, omega arith, marking-start _ _ _ _ c.requires)
 
 pub next_piece-requires : goal.next_piece-requires
-next_piece-requires c =
-    (c.requires.0, c.requires.2, c.requires.3, c.loop-piece.invariant.1)
+next_piece-requires c = c.loop-piece.invariant.1
 
 pub returns : goal.returns
 returns c =
@@ -36,7 +35,7 @@ returns c =
 
 pub mark_range-sum-requires : goal.mark_range-sum-requires
 mark_range-sum-requires c =
-    (c.requires.0, c.requires.1, range-held _ _ _ _ _ _ _ c.loop-piece.invariant.2 _ _ _ _ (piece-left _ _ _ _ _ c.in-Some.ensures))
+    (c.args.rows.small, range-held _ _ _ _ _ _ _ c.loop-piece.invariant.2 _ _ _ _ (piece-left _ _ _ _ _ c.in-Some.ensures))
 
 pub overflow_add-sum : goal.overflow_add-sum
 overflow_add-sum c =

@@ -12,10 +12,10 @@ use Rattle.marking.proofs.mark_pieces.Given as goal
 
 abbrev pub invariant-loop-piece : goal.invariant-loop-piece
 invariant-loop-piece l =
-    (length l.marks ≡ length l.initial.marks) × (l.unit.0 ≤ (row_of (take l.n l.ranges) l.i).length)
-    × Marking (write_to l.at l.last) (units_left (unit_size l.g) (take l.n l.ranges) l.i l.unit.0) l.marks l.bit l.sum
-    (mark_in (write_to l.at l.last) (units_left (unit_size l.g) (take l.n l.ranges) l.row 0) (flat l.initial.marks) l.from)
-    (newly_in (write_to l.at l.last) (units_left (unit_size l.g) (take l.n l.ranges) l.row 0) (flat l.initial.marks) l.from)
+    (length l.marks ≡ length l.initial.marks) × (l.unit.0 ≤ (row_of (take l.rows.count l.rows.ranges) l.i).length)
+    × Marking (write_to l.written.at l.written.last) (units_left (unit_size l.rows.granularity) (take l.rows.count l.rows.ranges) l.i l.unit.0) l.marks l.bit l.sum
+    (mark_in (write_to l.written.at l.written.last) (units_left (unit_size l.rows.granularity) (take l.rows.count l.rows.ranges) l.row 0) (flat l.initial.marks) l.from)
+    (newly_in (write_to l.written.at l.written.last) (units_left (unit_size l.rows.granularity) (take l.rows.count l.rows.ranges) l.row 0) (flat l.initial.marks) l.from)
 
 abbrev pub decreases-loop-piece : goal.decreases-loop-piece
-decreases-loop-piece l = length (units_left (unit_size l.g) (take l.n l.ranges) l.i l.unit.0)
+decreases-loop-piece l = length (units_left (unit_size l.rows.granularity) (take l.rows.count l.rows.ranges) l.i l.unit.0)

@@ -9,13 +9,13 @@ use Rattle.marking.proofs.NoteLaws.{range-bits, range-count}
 use Rattle.marking.proofs.mark_range.Goals as goal
 
 pub overflow_add-a : goal.overflow_add-a
-overflow_add-a c = omega (arith, c.touched-t.ensures.order, c.touched-t.ensures.within, c.requires.2.small)
+overflow_add-a c = omega (arith, c.touched-t.ensures.order, c.touched-t.ensures.within, c.requires.1.small)
 
 pub overflow_add-e : goal.overflow_add-e
-overflow_add-e c = omega (arith, c.touched-t.ensures.within, c.requires.2.small)
+overflow_add-e c = omega (arith, c.touched-t.ensures.within, c.requires.1.small)
 
 pub returns : goal.returns
 returns c =
-    let fits : c.args.from + c.args.r.length ≤ length (flat c.args.marks.now) = omega (arith, c.requires.2.within, flat-length c.args.marks.now) in
+    let fits : c.args.from + c.args.r.length ≤ length (flat c.args.marks.now) = omega (arith, c.requires.1.within, flat-length c.args.marks.now) in
     let e = c.mark_span.ensures in
     (e.count ∙ range-count _ _ _ _ _ fits _ _ c.touched-t.ensures, e.bits ∙ range-bits _ _ _ _ _ fits _ _ c.touched-t.ensures)

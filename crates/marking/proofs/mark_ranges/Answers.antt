@@ -18,21 +18,21 @@ use Rattle.marking.proofs.mark_ranges.Goals.{After-mark_range-count, Else-first-
 -- a row that begins at or past the end is one piece
 whole : (c : Else-first-end)
     → let a = c.args in
-    let r = row_of a.ranges c.loop-row.row in
-    (units_left (unit_size a.g) (take a.n a.ranges) c.loop-row.row 0 ≡ units_of_row c.loop-row.row (unit_size a.g) r.start r.length ++ units_left (unit_size a.g) (take a.n a.ranges) (c.loop-row.row + 1) 0)
-    × EndBy (unit_size a.g) (c.whole_units-first.result.0 + r.length) (take (c.loop-row.row + 1) (take a.n a.ranges))
+    let r = row_of a.rows.ranges c.loop-row.row in
+    (units_left (unit_size a.rows.granularity) (take a.rows.count a.rows.ranges) c.loop-row.row 0 ≡ units_of_row c.loop-row.row (unit_size a.rows.granularity) r.start r.length ++ units_left (unit_size a.rows.granularity) (take a.rows.count a.rows.ranges) (c.loop-row.row + 1) 0)
+    × EndBy (unit_size a.rows.granularity) (c.whole_units-first.result.0 + r.length) (take (c.loop-row.row + 1) (take a.rows.count a.rows.ranges))
 whole c =
     let a = c.args in
-    row-whole a.g a.n a.ranges c.loop-row.row c.loop-row.end.0 _ c.loop-row-test.true (omega (arith, c.requires.2, c.loop-row.invariant.1)) c.requires.3 c.loop-row.invariant.2
+    row-whole a.rows.granularity a.rows.count a.rows.ranges c.loop-row.row c.loop-row.end.0 _ c.loop-row-test.true (omega (arith, c.args.rows.few, c.loop-row.invariant.1)) c.args.rows.ok c.loop-row.invariant.2
     c.whole_units-first.ensures c.if-first-end.false
 
 -- what is to be marked after it
 marked : (c : After-mark_range-count)
     → let a = c.args in
     let m = c.mark_range-count in
-    Marking (write_to a.at a.last) (units_left (unit_size a.g) (take a.n a.ranges) (c.loop-row.row + 1) 0) m.new.marks (c.loop-row.from + (row_of a.ranges c.loop-row.row).length) (c.loop-row.count + m.result)
-    (mark_in (write_to a.at a.last) (units a.g (take a.n a.ranges)) (flat a.marks.now) a.base)
-    (newly_in (write_to a.at a.last) (units a.g (take a.n a.ranges)) (flat a.marks.now) a.base)
+    Marking (write_to a.written.at a.written.last) (units_left (unit_size a.rows.granularity) (take a.rows.count a.rows.ranges) (c.loop-row.row + 1) 0) m.new.marks (c.loop-row.from + (row_of a.rows.ranges c.loop-row.row).length) (c.loop-row.count + m.result)
+    (mark_in (write_to a.written.at a.written.last) (units a.rows.granularity (take a.rows.count a.rows.ranges)) (flat a.marks.now) a.base)
+    (newly_in (write_to a.written.at a.written.last) (units a.rows.granularity (take a.rows.count a.rows.ranges)) (flat a.marks.now) a.base)
 marked c =
     let m = c.mark_range-count in
     marking-next _ _ _ _ _ _ _ c.loop-row.invariant.3 _ _ _ _ (whole c.before.before).0 _ _ m.auto.marks m.ensures.1 m.ensures.0
@@ -43,14 +43,13 @@ loop-row-init c =
       refl,
       search rules,
       tt,
-      subst (λ us. Marking (write_to a.at a.last) us a.marks.now a.base 0 (mark_in (write_to a.at a.last) (units a.g (take a.n a.ranges)) (flat a.marks.now) a.base)
-          (newly_in (write_to a.at a.last) (units a.g (take a.n a.ranges)) (flat a.marks.now) a.base))
-          (left-all (unit_size a.g) (take a.n a.ranges)) (marking-start _ _ _ _ c.requires.4),
+      subst (λ us. Marking (write_to a.written.at a.written.last) us a.marks.now a.base 0 (mark_in (write_to a.written.at a.written.last) (units a.rows.granularity (take a.rows.count a.rows.ranges)) (flat a.marks.now) a.base)
+          (newly_in (write_to a.written.at a.written.last) (units a.rows.granularity (take a.rows.count a.rows.ranges)) (flat a.marks.now) a.base))
+          (left-all (unit_size a.rows.granularity) (take a.rows.count a.rows.ranges)) (marking-start _ _ _ _ c.requires),
     )
 
 pub mark_pieces-requires : goal.mark_pieces-requires
-mark_pieces-requires c =
-    (c.requires.0, c.requires.1, c.requires.2, c.requires.3, c.loop-row.invariant.3.held)
+mark_pieces-requires c = c.loop-row.invariant.3.held
 
 pub overflow_add-result : goal.overflow_add-result
 overflow_add-result c =
@@ -64,7 +63,7 @@ returns-then-first-end c =
 
 pub mark_range-count-requires : goal.mark_range-count-requires
 mark_range-count-requires c =
-    (c.requires.0, c.requires.1, range-held _ _ _ _ _ _ _ c.loop-row.invariant.3 _ _ _ _ (whole (goal.at.mark_range-count-requires c).Else-first-end).0)
+    (c.args.rows.small, range-held _ _ _ _ _ _ _ c.loop-row.invariant.3 _ _ _ _ (whole (goal.at.mark_range-count-requires c).Else-first-end).0)
 
 pub overflow_add-count : goal.overflow_add-count
 overflow_add-count c =
@@ -78,7 +77,7 @@ pub end_of-end-requires : goal.end_of-end-requires
 end_of-end-requires c =
     let a = c.args in
     let t = c.loop-row-test.true in
-    rw c.whole_units-first.ensures (end-small a.g _ (rows_ok-front a.g a.ranges a.n c.loop-row.row c.requires.3 t (omega (arith, t, c.requires.2, c.loop-row.invariant.1))))
+    rw c.whole_units-first.ensures (end-small a.rows.granularity _ (rows_ok-front a.rows.granularity a.rows.ranges a.rows.count c.loop-row.row c.args.rows.ok t (omega (arith, t, c.args.rows.few, c.loop-row.invariant.1))))
 
 pub loop-row-preserved : goal.loop-row-preserved
 loop-row-preserved c =
@@ -87,4 +86,4 @@ loop-row-preserved c =
 pub returns : goal.returns
 returns c =
     let a = c.args in
-    marking-end _ _ _ _ _ _ _ c.loop-row.invariant.3 (left-none (unit_size a.g) (take a.n a.ranges) c.loop-row.row 0 (omega (arith, length-take a.n a.ranges, c.loop-row-test.false)))
+    marking-end _ _ _ _ _ _ _ c.loop-row.invariant.3 (left-none (unit_size a.rows.granularity) (take a.rows.count a.rows.ranges) c.loop-row.row 0 (omega (arith, length-take a.rows.count a.rows.ranges, c.loop-row-test.false)))

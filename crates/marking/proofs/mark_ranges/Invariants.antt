@@ -14,7 +14,7 @@ use Rattle.marking.proofs.mark_ranges.Given as goal
 
 abbrev pub invariant-loop-row : goal.invariant-loop-row
 invariant-loop-row l =
-    (length l.marks ≡ length l.initial.marks) × (length l.ranges ≡ 16) × EndBy (unit_size l.g) l.end.0 (take l.row (take l.n l.ranges))
-    × Marking (write_to l.at l.last) (units_left (unit_size l.g) (take l.n l.ranges) l.row 0) l.marks l.from l.count
-    (mark_in (write_to l.at l.last) (units l.g (take l.n l.ranges)) (flat l.initial.marks) l.base)
-    (newly_in (write_to l.at l.last) (units l.g (take l.n l.ranges)) (flat l.initial.marks) l.base)
+    (length l.marks ≡ length l.initial.marks) × (length l.rows.ranges ≡ 16) × EndBy (unit_size l.rows.granularity) l.end.0 (take l.row (take l.rows.count l.rows.ranges))
+    × Marking (write_to l.written.at l.written.last) (units_left (unit_size l.rows.granularity) (take l.rows.count l.rows.ranges) l.row 0) l.marks l.from l.count
+    (mark_in (write_to l.written.at l.written.last) (units l.rows.granularity (take l.rows.count l.rows.ranges)) (flat l.initial.marks) l.base)
+    (newly_in (write_to l.written.at l.written.last) (units l.rows.granularity (take l.rows.count l.rows.ranges)) (flat l.initial.marks) l.base)

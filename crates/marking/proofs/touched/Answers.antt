@@ -12,25 +12,25 @@ use Rattle.marking.proofs.touched.Goals.{After-min}
 -- where the touched units end
 end_is : (c : After-min)
     → let a = c.args in
-    c.min.result ≡ min (whole_units a.g (a.last - a.r.start) + 1) a.r.length
+    c.min.result ≡ min (whole_units a.g (a.written.last - a.r.start) + 1) a.r.length
 end_is c = rw (sym c.whole_units-whole.ensures) (omega (arith, c.min.ensures, c.saturating_add.ensures, c.length_of-most.ensures))
 
-pub returns-then-last-r : goal.returns-then-last-r
-returns-then-last-r c =
+pub returns-then-written-r : goal.returns-then-written-r
+returns-then-written-r c =
     let a = c.args in
-    touched-before (unit_size a.g) (unit_size-pos a.g) a.r a.at a.last c.requires.1 c.if-last-r.true
+    touched-before (unit_size a.g) (unit_size-pos a.g) a.r a.written.at a.written.last a.written.ordered c.if-written-r.true
 
-pub returns-then-at-r : goal.returns-then-at-r
-returns-then-at-r c =
+pub returns-then-written-r-2 : goal.returns-then-written-r-2
+returns-then-written-r-2 c =
     let a = c.args in
-    touched-to (unit_size a.g) (unit_size-pos a.g) a.r a.at a.last c.requires.1 _ (end_is (goal.at.returns-then-at-r c).After-min) c.if-last-r.false c.if-at-r.true
+    touched-to (unit_size a.g) (unit_size-pos a.g) a.r a.written.at a.written.last a.written.ordered _ (end_is (goal.at.returns-then-written-r-2 c).After-min) c.if-written-r.false c.if-written-r-2.true
 
 pub returns-then-to-from : goal.returns-then-to-from
 returns-then-to-from c =
     let a = c.args in
-    touched-after (unit_size a.g) (unit_size-pos a.g) a.r a.at a.last c.requires.1 _ (end_is (goal.at.returns-then-to-from c).After-min) c.if-last-r.false _ c.whole_units-from.ensures c.if-at-r.false c.if-to-from.true
+    touched-after (unit_size a.g) (unit_size-pos a.g) a.r a.written.at a.written.last a.written.ordered _ (end_is (goal.at.returns-then-to-from c).After-min) c.if-written-r.false _ c.whole_units-from.ensures c.if-written-r-2.false c.if-to-from.true
 
 pub returns : goal.returns
 returns c =
     let a = c.args in
-    touched-span (unit_size a.g) (unit_size-pos a.g) a.r a.at a.last c.requires.1 _ (end_is (goal.at.returns c).After-min) c.if-last-r.false _ c.whole_units-from.ensures c.if-at-r.false c.if-to-from.false
+    touched-span (unit_size a.g) (unit_size-pos a.g) a.r a.written.at a.written.last a.written.ordered _ (end_is (goal.at.returns c).After-min) c.if-written-r.false _ c.whole_units-from.ensures c.if-written-r-2.false c.if-to-from.false

@@ -9,7 +9,7 @@ use Rattle.pieces.proofs.next_piece.Given as goal
 
 abbrev pub invariant-loop-i : goal.invariant-loop-i
 invariant-loop-i l =
-    (length l.ranges ≡ 16) × (l.j.0 ≤ (row_of (take l.n l.ranges) l.i).length) × (units_left (unit_size l.g) (take l.n l.ranges) l.row l.initial.j.0 ≡ units_left (unit_size l.g) (take l.n l.ranges) l.i l.j.0)
+    (length l.rows.ranges ≡ 16) × (l.j.0 ≤ (row_of (take l.rows.count l.rows.ranges) l.i).length) × (units_left (unit_size l.rows.granularity) (take l.rows.count l.rows.ranges) l.row l.initial.j.0 ≡ units_left (unit_size l.rows.granularity) (take l.rows.count l.rows.ranges) l.i l.j.0)
 
 abbrev pub decreases-loop-i : goal.decreases-loop-i
-decreases-loop-i l = (l.n - l.i) * 4294967296 - l.j.0
+decreases-loop-i l = (l.rows.count - l.i) * 4294967296 - l.j.0

@@ -9,4 +9,4 @@ use Rattle.pieces.proofs.PieceLaws.{Stretching}
 use Rattle.pieces.proofs.stretch_from.Given as goal
 
 abbrev pub invariant-loop-i : goal.invariant-loop-i
-invariant-loop-i l = (length l.ranges ≡ 16) × (l.i ≤ l.row) × (l.row < 16) × Stretching (unit_size l.g) (take l.i l.ranges) (row_of l.ranges l.row) l.at.0 l.to.0
+invariant-loop-i l = (length l.rows.ranges ≡ 16) × (l.i ≤ l.row) × (l.row < 16) × Stretching (unit_size l.rows.granularity) (take l.i l.rows.ranges) (row_of l.rows.ranges l.row) l.at.0 l.to.0

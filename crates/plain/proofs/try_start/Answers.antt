@@ -41,8 +41,8 @@ returns-in_err-start c =
 pub shares-shares-requires : goal.shares-shares-requires
 shares-shares-requires c = let p = (admitted c).starts.sound in ((sound_device-facts c.args.d p).settings, sound_device-all c.args.d p)
 
-pub units_in-units-requires : goal.units_in-units-requires
-units_in-units-requires c = let s = (admitted (goal.at.units_in-units-requires c).In_ok-start).starts in (s.small, s.few, s.rows)
+pub invariant_of-rows : goal.invariant_of-rows
+invariant_of-rows c = let s = (admitted (goal.at.invariant_of-rows c).In_ok-start).starts in record { small = s.small; few = s.few; ok = s.rows }
 
 pub sizes_with-sizes-requires : goal.sizes_with-sizes-requires
 sizes_with-sizes-requires c = let k = (goal.at.sizes_with-sizes-requires c).In_ok-start in starts-below c.args.d (eight k) _ (admitted k).starts

@@ -84,13 +84,13 @@ returns-then-c c = leaves-unchanged _ _ _ (stop-suspended in_bytes _ _ _ _ _ (fo
 pub returns-in_default : goal.returns-in_default
 returns-in_default c = leaves-unchanged _ _ _ (stop-off in_bytes _ _ _ _ _ (found (goal.at.returns-in_default c).In_ok-i) c.if-c.false (sym c.tracking_by.ensures ∙ c.in_default.is))
 
-pub units_in-units-requires : goal.units_in-units-requires
-units_in-units-requires c = let h = held (goal.at.units_in-units-requires c).In-On in (h.small, h.few, rw c.ranges_of.ensures.0 h.rows)
+pub invariant_of-rows : goal.invariant_of-rows
+invariant_of-rows c = let h = held (goal.at.invariant_of-rows c).In-On in record { small = h.small; few = h.few; ok = rw c.ranges_of-ranges.ensures.0 h.rows }
 
 -- its bytes lie within the area
 pub clear-requires : goal.clear-requires
 clear-requires c =
-    let r = c.ranges_of in
+    let r = c.ranges_of-ranges in
     let u = c.units_in-units.ensures.0 in
     let a = c.args in
     omega (arith, rw r.ensures.0 at u, area-whole (length a.area.now) (where_is-at _ _ _ _ (placed' (goal.at.clear-requires c).In-On)).whole, share-within _ _ _ _ (placed' (goal.at.clear-requires c).In-On) (there' (goal.at.clear-requires c).In-On) _ _ (tracked (goal.at.clear-requires c).In-On) (omega (arith, ap length r.ensures.0, r.ensures.1)))
@@ -101,7 +101,7 @@ forgotten-requires c = below (goal.at.forgotten-requires c).In_ok-i
 pub returns : goal.returns
 returns c =
     let a = c.args in
-    let r = c.ranges_of in
+    let r = c.ranges_of-ranges in
     let u = c.units_in-units.ensures.0 in
     leaves _ _ _ _ _ (stop-done in_bytes a.d a.manager a.id a.area.now _ (found' (goal.at.returns c).In-On) _ _ c.if-c.false (by (goal.at.returns c).In-On))
     (rw c.forgotten.ensures) (c.clear.ensures ∙ rw (u, r.ensures.0))

@@ -76,7 +76,7 @@ overflow_add-last c =
     omega (arith, w, c.if-bytes-eq0.false)
 
 pub mark_units-requires : goal.mark_units-requires
-mark_units-requires c = let s = asks (goal.at.mark_units-requires c).After-bytes_of-size in (s.some, omega arith, s.few, s.within, s.ends)
+mark_units-requires c = let s = asks (goal.at.mark_units-requires c).After-bytes_of-size in (s.some, s.few, s.within, s.ends)
 
 pub returns : goal.returns
 returns c =

@@ -23,13 +23,13 @@ ends : (c : In-loop-unit)
 ends c =
     let a = c.args in
     unit-within a.size (row_of a.ranges c.loop-row.row).start (row_of a.ranges c.loop-row.row).length c.loop-unit.unit c.loop-unit-test.true
-    (c.requires.4 c.loop-row.row (omega arith))
+    (c.requires.3 c.loop-row.row (omega arith))
 
 -- what is left to mark, where the unit is the controller's next
 own : (c : After-covered) → c.covered.result ≡ false → (final : List ℕ) (total : ℕ)
     → let a = c.args in
-    Marking (write_to a.at a.last) (units_left a.size (take a.n a.ranges) c.loop-row.row 0) c.loop-row.area c.loop-row.place c.loop-row.count final total
-    → Marking (write_to a.at a.last)
+    Marking (write_to a.written.at a.written.last) (units_left a.size (take a.n a.ranges) c.loop-row.row 0) c.loop-row.area c.loop-row.place c.loop-row.count final total
+    → Marking (write_to a.written.at a.written.last)
     (record { row = c.loop-row.row; address = (row_of a.ranges c.loop-row.row).start + c.loop-unit.unit * a.size; size = a.size } ∷ units_left a.size (take a.n a.ranges) c.loop-row.row (c.loop-unit.unit + 1))
     c.loop-unit.area c.loop-unit.place c.loop-unit.count final total
 own c h final total m =
@@ -47,7 +47,7 @@ loop-row-init c =
     let a = c.args in (
       refl,
       search rules,
-      marking-of _ (left-all a.size (take a.n a.ranges)) (marking-start _ _ _ _ c.requires.3),
+      marking-of _ (left-all a.size (take a.n a.ranges)) (marking-start _ _ _ _ c.requires.2),
     )
 
 pub loop-unit-init : goal.loop-unit-init
@@ -60,7 +60,7 @@ pub overflow_add-address : goal.overflow_add-address
 overflow_add-address c = omega (arith, ends (goal.at.overflow_add-address c).In-loop-unit)
 
 pub touches-requires : goal.touches-requires
-touches-requires c = (c.requires.0, omega arith, ends (goal.at.touches-requires c).In-loop-unit)
+touches-requires c = (c.requires.0, ends (goal.at.touches-requires c).In-loop-unit)
 
 pub bounds-area-place : goal.bounds-area-place
 bounds-area-place c = omega (arith, there (goal.at.bounds-area-place c).After-covered c.if-not-covered.true)
@@ -71,7 +71,7 @@ bounds-area-place-then-area-place-eq0 c = omega (arith, there (goal.at.bounds-ar
 pub overflow_add-count : goal.overflow_add-count
 overflow_add-count c =
     let a = c.args in
-    let w = write_to a.at a.last in
+    let w = write_to a.written.at a.written.last in
     let us = units_from a.size 0 [] (take a.n a.ranges) in
     let m = marking-hit w _ _ _ _ _ _ _ (own (goal.at.overflow_add-count c).After-covered c.if-not-covered.true _ _ c.loop-row.invariant.2) _ _ (sym c.touches.ensures ∙ c.if-touches.true) c.if-area-place-eq0.true refl refl in
     omega (arith, m.counted, newly-le w us (marks_of a.area.now a.base (length us)))
@@ -118,5 +118,5 @@ loop-row-preserved c =
 pub returns : goal.returns
 returns c =
     let a = c.args in
-    marking-done _ _ _ _ _ _ _ c.requires.3
+    marking-done _ _ _ _ _ _ _ c.requires.2
     (marking-of _ (left-none a.size (take a.n a.ranges) c.loop-row.row 0 (omega (arith, length-take a.n a.ranges, c.loop-row-test.false))) c.loop-row.invariant.2)

@@ -60,10 +60,10 @@ returns-then-total-le-MOST_UNITS c =
       omega arith,
     )
 
-pub units_in-requires : goal.units_in-requires
-units_in-requires c =
+pub invariant_of-rows-clause-ok : goal.invariant_of-rows-clause-ok
+invariant_of-rows-clause-ok c =
     let a = c.args in
-    (c.requires, omega arith, each_rows a.s a.g (take a.n a.ranges) (passed (goal.at.units_in-requires c).After-loop-i))
+    each_rows a.s a.g (take a.n a.ranges) (passed (goal.at.invariant_of-rows-clause-ok c).After-loop-i)
 
 pub returns : goal.returns
 returns c =

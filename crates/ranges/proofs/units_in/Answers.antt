@@ -12,33 +12,32 @@ use Rattle.ranges.proofs.units_in.Goals as goal
 use Rattle.ranges.proofs.units_in.Goals.{In-Some, Start}
 
 -- there are few: 16 ranges of at most 2^52 units
-few : (c : Start) → length (units c.args.g (take c.args.n c.args.ranges)) ≤ 2 ^ 56
+few : (c : Start) → length (units c.args.rows.granularity (take c.args.rows.count c.args.rows.ranges)) ≤ 2 ^ 56
 few c =
-    let rs = take c.args.n c.args.ranges in
-    omega (arith, units-lengths c.args.g rs, lengths-small c.args.g rs c.requires.2, length-take c.args.n c.args.ranges, c.requires.1)
+    let rs = take c.args.rows.count c.args.rows.ranges in
+    omega (arith, units-lengths c.args.rows.granularity rs, lengths-small c.args.rows.granularity rs c.args.rows.ok, length-take c.args.rows.count c.args.rows.ranges, c.args.rows.few)
 
 -- the piece that was found
 found : (c : In-Some)
     → let a = c.args in
     let l = c.loop-piece in
-    PieceFound (unit_size a.g) (take a.n a.ranges) l.row l.unit.0 c.in-Some.piece
+    PieceFound (unit_size a.rows.granularity) (take a.rows.count a.rows.ranges) l.row l.unit.0 c.in-Some.piece
 found c =
     let a = c.args in
     let l = c.loop-piece in
-    subst (NextIs (unit_size a.g) (take a.n a.ranges) l.row l.unit.0) c.in-Some.is c.next_piece.ensures
+    subst (NextIs (unit_size a.rows.granularity) (take a.rows.count a.rows.ranges) l.row l.unit.0) c.in-Some.is c.next_piece.ensures
 
 pub loop-piece-init : goal.loop-piece-init
-loop-piece-init c = (omega arith, zero-add _ ∙ ap length (sym (left-all (unit_size c.args.g) (take c.args.n c.args.ranges))))
+loop-piece-init c = (omega arith, zero-add _ ∙ ap length (sym (left-all (unit_size c.args.rows.granularity) (take c.args.rows.count c.args.rows.ranges))))
 
 pub next_piece-requires : goal.next_piece-requires
-next_piece-requires c =
-    (c.requires.0, c.requires.1, c.requires.2, c.loop-piece.invariant.0)
+next_piece-requires c = c.loop-piece.invariant.0
 
 pub returns : goal.returns
 returns c =
     let l = c.loop-piece in
     let a = c.args in
-    let q = subst (NextIs (unit_size a.g) (take a.n a.ranges) l.row l.unit.0) c.in_default.is c.next_piece.ensures in
+    let q = subst (NextIs (unit_size a.rows.granularity) (take a.rows.count a.rows.ranges) l.row l.unit.0) c.in_default.is c.next_piece.ensures in
     let e = sym (add-zero _) ∙ (rw q at l.invariant.1) in
     (e, omega (arith, e, few (goal.at.returns c).Start))
 

@@ -10,7 +10,7 @@ use Rattle.ranges.proofs.units_in.Given as goal
 
 abbrev pub invariant-loop-piece : goal.invariant-loop-piece
 invariant-loop-piece l =
-    (l.unit.0 ≤ (row_of (take l.n l.ranges) l.row).length) × (l.total + length (units_left (unit_size l.g) (take l.n l.ranges) l.row l.unit.0) ≡ length (units l.g (take l.n l.ranges)))
+    (l.unit.0 ≤ (row_of (take l.rows.count l.rows.ranges) l.row).length) × (l.total + length (units_left (unit_size l.rows.granularity) (take l.rows.count l.rows.ranges) l.row l.unit.0) ≡ length (units l.rows.granularity (take l.rows.count l.rows.ranges)))
 
 abbrev pub decreases-loop-piece : goal.decreases-loop-piece
-decreases-loop-piece l = length (units_left (unit_size l.g) (take l.n l.ranges) l.row l.unit.0)
+decreases-loop-piece l = length (units_left (unit_size l.rows.granularity) (take l.rows.count l.rows.ranges) l.row l.unit.0)

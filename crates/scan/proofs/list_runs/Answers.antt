@@ -22,50 +22,50 @@ use Rattle.scan.proofs.list_runs.Goals.{At-loop-found, In-Ok}
 -- the ranges' marks are there
 fits : (c : At-loop-found)
     → let a = c.args in
-    a.base + length (units a.g (take a.n a.ranges)) ≤ length (flat a.marks.now)
-fits c = omega (arith, c.requires.space.0.within, flat-length c.args.marks.now)
+    a.base + length (units a.rows.granularity (take a.rows.count a.rows.ranges)) ≤ length (flat a.marks.now)
+fits c = omega (arith, c.requires.0.within, flat-length c.args.marks.now)
 
 -- what was found
 module _ (k : In-Ok) where
   abbrev rs : List Range
-  rs = take k.args.n k.args.ranges
+  rs = take k.args.rows.count k.args.rows.ranges
 
   abbrev bits : List Bool
   bits = flat k.loop-found.marks
 
   abbrev p : List Bool
-  p = get_share bits k.args.base (length (units k.args.g rs))
+  p = get_share bits k.args.base (length (units k.args.rows.granularity rs))
 
   abbrev unit : Found
   unit = k.in-Ok.found
 
-  pending : PendingFound k.args.g rs p k.loop-found.pos unit
+  pending : PendingFound k.args.rows.granularity rs p k.loop-found.pos unit
   pending = k.in-Ok.ensures
 
-  run_at : (to : ℕ) → to ≡ next false p unit.from (piece_end unit) → RunFound k.args.g rs p k.loop-found.pos (run_of k.args.g unit to)
-  run_at = run-found k.args.g rs p _ unit pending
+  run_at : (to : ℕ) → to ≡ next false p unit.from (piece_end unit) → RunFound k.args.rows.granularity rs p k.loop-found.pos (run_of k.args.rows.granularity unit to)
+  run_at = run-found k.args.rows.granularity rs p _ unit pending
 
-  small : k.args.base + length (units k.args.g rs) < 2 ^ 64
-  small = k.requires.space.0.small
+  small : k.args.base + length (units k.args.rows.granularity rs) < 2 ^ 64
+  small = k.requires.0.small
 
-  held : k.args.base + length (units k.args.g rs) ≤ length bits
-  held = omega (arith, k.requires.space.0.within, flat-length k.loop-found.marks, k.loop-found.invariant.0)
+  held : k.args.base + length (units k.args.rows.granularity rs) ≤ length bits
+  held = omega (arith, k.requires.0.within, flat-length k.loop-found.marks, k.loop-found.invariant.0)
 
   -- the run that begins there, as `run_from` answers it
-  run_found : (r : Run) → r ≡ run_of k.args.g unit (next false bits (k.args.base + unit.from) (k.args.base + piece_end unit) - k.args.base) → RunFound k.args.g rs p k.loop-found.pos r
+  run_found : (r : Run) → r ≡ run_of k.args.rows.granularity unit (next false bits (k.args.base + unit.from) (k.args.base + piece_end unit) - k.args.base) → RunFound k.args.rows.granularity rs p k.loop-found.pos r
   run_found r h =
-      let e = next-from false bits k.args.base _ unit.from (piece_end unit) _ held (found-end k.args.g rs p _ unit pending) refl in
-      subst (RunFound k.args.g rs p k.loop-found.pos) (sym h) (run_at _ e.1)
+      let e = next-from false bits k.args.base _ unit.from (piece_end unit) _ held (found-end k.args.rows.granularity rs p _ unit pending) refl in
+      subst (RunFound k.args.rows.granularity rs p k.loop-found.pos) (sym h) (run_at _ e.1)
 
 pub loop-found-init : goal.loop-found-init
 loop-found-init c =
-    (refl, refl, listing_start _ _ _ _ _ _ (omega (arith, c.requires.space.0.within, flat-length c.args.marks.now)))
+    (refl, refl, listing_start _ _ _ _ _ _ (omega (arith, c.requires.0.within, flat-length c.args.marks.now)))
 
 pub next_pending-requires : goal.next_pending-requires
 next_pending-requires c =
     let l = c.loop-found in
-    let h = c.requires.space.0 in
-    (c.requires.rows.0, c.requires.rows.1, c.requires.rows.2, record { within = omega (arith, h.within, l.invariant.0); small = h.small }, l.invariant.2.stands)
+    let h = c.requires.0 in
+    (record { within = omega (arith, h.within, l.invariant.0); small = h.small }, l.invariant.2.stands)
 
 pub returns-in-Err : goal.returns-in-Err
 returns-in-Err c =
@@ -78,7 +78,7 @@ returns-then-runs-room c =
 pub run_from-run-requires : goal.run_from-run-requires
 run_from-run-requires c =
     let k = (goal.at.run_from-run-requires c).In-Ok in
-    (c.requires.rows.0, found-begins c.args.g (rs k) (p k) _ (unit k) (pending k) (bits k) c.args.base c.requires.rows.2 (small k) refl)
+    (c.args.rows.small, found-begins c.args.rows.granularity (rs k) (p k) _ (unit k) (pending k) (bits k) c.args.base c.args.rows.ok (small k) refl)
 
 pub overflow_add-base : goal.overflow_add-base
 overflow_add-base c =

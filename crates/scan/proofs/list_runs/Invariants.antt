@@ -10,7 +10,7 @@ use Rattle.scan.proofs.list_runs.Given as goal
 abbrev pub invariant-loop-found : goal.invariant-loop-found
 invariant-loop-found l =
     (length l.marks ≡ length l.initial.marks) × (length l.buffer ≡ length l.initial.buffer)
-    × Listing l.g (take l.n l.ranges) (flat l.initial.marks) l.base l.initial.buffer l.room (flat l.marks) l.buffer l.runs l.row l.unit.0 l.pos
+    × Listing l.rows.granularity (take l.rows.count l.rows.ranges) (flat l.initial.marks) l.base l.initial.buffer l.room (flat l.marks) l.buffer l.runs l.row l.unit.0 l.pos
 
 abbrev pub decreases-loop-found : goal.decreases-loop-found
 decreases-loop-found l = l.room + 1 - l.runs

@@ -34,46 +34,45 @@ module _ (k : In-Some) where
   q = k.in-Some.piece
 
   abbrev rs : List Range
-  rs = take k.args.n k.args.ranges
+  rs = take k.args.rows.count k.args.rows.ranges
 
   abbrev total : ℕ
-  total = length (units k.args.g rs)
+  total = length (units k.args.rows.granularity rs)
 
   abbrev marks : List Bool
   marks = get_share (flat k.args.marks.now) k.args.base total
 
   fits : k.args.base + total ≤ length (flat k.args.marks.now)
-  fits = omega (arith, k.requires.3.within, flat-length k.args.marks.now)
+  fits = omega (arith, k.requires.0.within, flat-length k.args.marks.now)
 
-  stood : Scanned k.args.g rs marks k.args.pos i u p
+  stood : Scanned k.args.rows.granularity rs marks k.args.pos i u p
   stood = k.loop-piece.invariant
 
-  found : PieceFound (unit_size k.args.g) rs i u q
+  found : PieceFound (unit_size k.args.rows.granularity) rs i u q
   found = k.in-Some.ensures
 
   abbrev end : ℕ
   end = p + q.range.length
 
   ended : end ≤ total
-  ended = piece-end k.args.g rs marks k.args.pos i u p stood q found
+  ended = piece-end k.args.rows.granularity rs marks k.args.pos i u p stood q found
 
   small : k.args.base + end < 2 ^ 64
-  small = omega (arith, ended, k.requires.3.small)
+  small = omega (arith, ended, k.requires.0.small)
 
   -- the next set mark of it
   module _ (r : ℕ) (e : r ≡ next true (flat k.args.marks.now) (k.args.base + p) (k.args.base + end)) where
     set : (k.args.base ≤ r) × (r - k.args.base ≡ next true marks p end)
     set = next-from true (flat k.args.marks.now) k.args.base total p end r fits ended e
 
-    none : end ≤ r - k.args.base → Scanned k.args.g rs marks k.args.pos q.row q.next.0 end
-    none h = scanned-piece k.args.g rs marks k.args.pos i u p stood q found (r - k.args.base) set.1 h
+    none : end ≤ r - k.args.base → Scanned k.args.rows.granularity rs marks k.args.pos q.row q.next.0 end
+    none h = scanned-piece k.args.rows.granularity rs marks k.args.pos i u p stood q found (r - k.args.base) set.1 h
 
 pub loop-piece-init : goal.loop-piece-init
-loop-piece-init c = scanned-start _ _ _ _ _ _ c.requires.4
+loop-piece-init c = scanned-start _ _ _ _ _ _ c.requires.1
 
 pub next_piece-requires : goal.next_piece-requires
-next_piece-requires c =
-    (c.requires.0, c.requires.1, c.requires.2, c.loop-piece.invariant.stands.within)
+next_piece-requires c = (c.loop-piece.invariant.stands.within)
 
 pub returns : goal.returns
 returns c =

@@ -11,7 +11,7 @@ use Rattle.scan.proofs.next_pending.Given as goal
 
 abbrev pub invariant-loop-piece : goal.invariant-loop-piece
 invariant-loop-piece l =
-    Scanned l.g (take l.n l.ranges) (get_share (flat l.marks) l.base (length (units l.g (take l.n l.ranges)))) l.pos l.i l.u.0 l.at
+    Scanned l.rows.granularity (take l.rows.count l.rows.ranges) (get_share (flat l.marks) l.base (length (units l.rows.granularity (take l.rows.count l.rows.ranges)))) l.pos l.i l.u.0 l.at
 
 abbrev pub decreases-loop-piece : goal.decreases-loop-piece
-decreases-loop-piece l = length (units_left (unit_size l.g) (take l.n l.ranges) l.i l.u.0)
+decreases-loop-piece l = length (units_left (unit_size l.rows.granularity) (take l.rows.count l.rows.ranges) l.i l.u.0)

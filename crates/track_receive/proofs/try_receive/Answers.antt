@@ -77,9 +77,13 @@ pub list_runs-listed-requires : goal.list_runs-listed-requires
 list_runs-listed-requires c =
     let on = (goal.at.list_runs-listed-requires c).In-On in
     let w = (where_is-at _ _ _ _ (placed on)).whole in
-    let h = held on in
     let f = fits on (ap length (sym c.ranges_of-ranges.ensures.0) ∙ c.ranges_of-ranges.ensures.1) in
-    rw c.ranges_of-ranges.ensures.0 (record { rows = (h.small, h.few, h.rows); space = (record { within = omega (arith, f, w); small = omega (arith, f) }, omega arith) })
+    rw c.ranges_of-ranges.ensures.0 (record { within = omega (arith, f, w); small = omega (arith, f) }, omega arith)
+
+pub invariant_of-rows : goal.invariant_of-rows
+invariant_of-rows c =
+    let h = held (goal.at.invariant_of-rows c).In-On in
+    record { small = h.small; few = h.few; ok = rw c.ranges_of-ranges.ensures.0 h.rows }
 
 pub overflow_cast-listed : goal.overflow_cast-listed
 overflow_cast-listed c =

@@ -26,8 +26,8 @@ sizes c =
 pub shares-shares-requires : goal.shares-shares-requires
 shares-shares-requires c = let p = c.requires.starts in ((sound_device-facts c.args.d p.sound).settings, sound_device-all c.args.d p.sound)
 
-pub units_in-units-requires : goal.units_in-units-requires
-units_in-units-requires c = let p = c.requires.starts in (p.small, p.few, p.rows)
+pub invariant_of-rows : goal.invariant_of-rows
+invariant_of-rows c = let p = c.requires.starts in record { small = p.small; few = p.few; ok = p.rows }
 
 pub sizes_with-sizes-requires : goal.sizes_with-sizes-requires
 sizes_with-sizes-requires c = starts-below c.args.d (search (length-mapped, rules)) _ c.requires.starts

@@ -89,13 +89,13 @@ returns-in_err-list_refusal c =
     ap refused_at (handed_on _ _ c.from_residual.ensures.1 ∙ sym c.in_err-list_refusal.was)
     ∙ listed-rules _ _ _ _ _ _ _ _ c.requires.2 (allowed (goal.at.returns-in_err-list_refusal c).Else-not-granularity_ok) c.if-data-count.false c.if-count-gt16.false _ (c.list_refusal.ensures ∙ rw (read (goal.at.returns-in_err-list_refusal c).After-read_ranges-ranges)) (λ z. number_of-pos _ (sym (ap (λ o. (refused_at o).number) c.in_err-list_refusal.was) ∙ z))
 
-pub units_in-units-requires : goal.units_in-units-requires
-units_in-units-requires c =
-    let r = read (goal.at.units_in-units-requires c).After-read_ranges-ranges in (
-      small (goal.at.units_in-units-requires c).Else-not-granularity_ok,
-      c.if-count-gt16.false,
-      rw r (listed-rows c.args.d.settings 0 0 0 0 _ _ _ c.requires.2 (allowed (goal.at.units_in-units-requires c).Else-not-granularity_ok) c.if-data-count.false c.if-count-gt16.false _ (c.list_refusal.ensures ∙ rw r) (ap (λ o. (refused_at o).number) c.in_ok-list_refusal.was)),
-    )
+pub invariant_of-rows : goal.invariant_of-rows
+invariant_of-rows c =
+    let r = read (goal.at.invariant_of-rows c).After-read_ranges-ranges in record {
+      small = small (goal.at.invariant_of-rows c).Else-not-granularity_ok;
+      few = c.if-count-gt16.false;
+      ok = rw r (listed-rows c.args.d.settings 0 0 0 0 _ _ _ c.requires.2 (allowed (goal.at.invariant_of-rows c).Else-not-granularity_ok) c.if-data-count.false c.if-count-gt16.false _ (c.list_refusal.ensures ∙ rw r) (ap (λ o. (refused_at o).number) c.in_ok-list_refusal.was));
+    }
 
 pub shares-requires : goal.shares-requires
 shares-requires c = ((sound_device-facts c.args.d c.requires.0).settings, sound_device-all c.args.d c.requires.0)

@@ -78,12 +78,12 @@ returns-then-c c = leaves-unchanged _ _ _ (stop-suspended _ _ _ _ _ _ (found (go
 pub returns-in_default : goal.returns-in_default
 returns-in_default c = leaves-unchanged _ _ _ (stop-off _ _ _ _ _ _ (found (goal.at.returns-in_default c).In_ok-i) c.if-c.false (sym c.tracking_by.ensures ∙ c.in_default.is))
 
-pub units_in-units-requires : goal.units_in-units-requires
-units_in-units-requires c = let h = held (goal.at.units_in-units-requires c).In-On in (h.small, h.few, rw c.ranges_of.ensures.0 h.rows)
+pub invariant_of-rows : goal.invariant_of-rows
+invariant_of-rows c = let h = held (goal.at.invariant_of-rows c).In-On in record { small = h.small; few = h.few; ok = rw c.ranges_of-ranges.ensures.0 h.rows }
 
 pub clear_share-requires : goal.clear_share-requires
 clear_share-requires c =
-    let r = c.ranges_of.ensures in
+    let r = c.ranges_of-ranges.ensures in
     let u = c.units_in-units.ensures.0 in
     let on = (goal.at.clear_share-requires c).In-On in
     let p = placed' on in
@@ -96,4 +96,4 @@ pub returns : goal.returns
 returns c =
     let a = c.args in
     leaves _ _ _ _ _ (stop-done _ a.d a.manager a.id a.marks.now _ (found (goal.at.returns c).In_ok-i) _ _ c.if-c.false (by (goal.at.returns c).In-On))
-    (rw c.forgotten.ensures) (c.clear_share.ensures ∙ rw (c.units_in-units.ensures.0, c.ranges_of.ensures.0))
+    (rw c.forgotten.ensures) (c.clear_share.ensures ∙ rw (c.units_in-units.ensures.0, c.ranges_of-ranges.ensures.0))

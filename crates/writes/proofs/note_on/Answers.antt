@@ -47,7 +47,12 @@ pub overflow_add-last : goal.overflow_add-last
 overflow_add-last c = omega (arith, within (goal.at.overflow_add-last c).In-On, c.if-bytes-eq0.false)
 
 pub mark_ranges-requires : goal.mark_ranges-requires
-mark_ranges-requires c = let l = lies (goal.at.mark_ranges-requires c).In-On in (l.small, omega arith, l.few, l.rows, l.within)
+mark_ranges-requires c = (lies (goal.at.mark_ranges-requires c).In-On).within
+
+pub invariant_of-rows : goal.invariant_of-rows
+invariant_of-rows c =
+    let l = lies (goal.at.invariant_of-rows c).In-On in
+    record { small = l.small; few = l.few; ok = l.rows }
 
 pub returns : goal.returns
 returns c =
