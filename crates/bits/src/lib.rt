@@ -42,11 +42,14 @@ fn search(words: &[u64], want: bool, from: usize, to: usize) -> usize
         return to;
     }
     let last = (to - 1) / 64;
+    // Behind the first word all bits are looked at: to work out the first one anew for each word takes twice the time.
+    let mut b = from % 64;
     for i in from / 64..words.len().min(last + 1) {
-        let z = low_from(words[i], want, from.saturating_sub(64 * i));
+        let z = low_from(words[i], want, b);
         if z != 64 {
             return to.min(64 * i + z);
         }
+        b = 0;
     }
     if want || last < words.len() {
         return to;

@@ -1,6 +1,8 @@
 // The lines that a shelf listing has beside document 01's: `batch` and `burst` (W4), read and played. Any bytes are met with an answer.
 #![tactic(auto)]
 
+ghost use Rattle.std.specs.Prelude.{◌<◌, length, IfSome};
+
 use calls::{Batched, WriteRecord};
 use engines::Engine;
 use fields::Fields;
@@ -22,7 +24,9 @@ struct Records {
 // ---- lines
 
 // The record in the next three fields.
-fn read_record(fields: &mut Fields<'_>) -> Option<WriteRecord> {
+fn read_record(fields: &mut Fields<'_>) -> Option<WriteRecord>
+    ensures { IfSome result (λ _. length fields.new < length fields.old) }
+{
     let id = fields.number(65535)? as u16;
     let address = fields.number(u64::MAX)?;
     let bytes = Bytes(fields.number(u64::MAX)?);

@@ -51,14 +51,22 @@ pub fn try_fresh(s: Settings, words: usize) -> Result<Device, Refusal>
     Ok(untracked(settings::clean(s)))
 }
 
+// What a fresh answers on marks of so many words, however they are held: the refusal, and the device.
+pub fn made(s: Settings, words: usize) -> Changed
+    ensures { result ≡ record { number = refusal (fresh_order s words); device = fresh_of s words } }
+{
+    calls::changed_by(closed(), try_fresh(s, words))
+}
+
 // Makes a fresh device from settings: all marks are 0, nobody is tracked or suspended. Refused, in this order: 16 settings that break the rules, 1
 // marks of another number of words; then the device is closed, all zeros, and answers 1 to every call.
 pub fn fresh(s: Settings, marks: &mut [u64]) -> Changed
     ensures { (result ≡ (fresh_change s marks.old).answer) × (marks.new ≡ (fresh_change s marks.old).marks) }
 {
-    let made = try_fresh(s, marks.len());
-    if made.is_ok() {
-        bits::clear_span(marks, 0, 64 * MARK_WORDS);
+    let answer = made(s, marks.len());
+    if answer.number != 0 {
+        return answer;
     }
-    calls::changed_by(closed(), made)
+    bits::clear_span(marks, 0, 64 * MARK_WORDS);
+    answer
 }

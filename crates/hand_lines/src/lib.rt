@@ -66,8 +66,13 @@ impl<E: Engine> Answers for ByHand<E> {
 const LINE_BYTES: usize = 1087;
 
 // Plays what is read from this reader on this engine, to its end or until writing fails.
-pub fn run<E: Engine, R: Read, W: Write>(engine: E, from: &mut R, out: &mut W) -> io::Result<()> {
+pub fn play<E: Engine, R: Read, W: Write>(engine: E, from: &mut R, out: &mut W) -> io::Result<()> {
     let player = Player::new(engine);
     let mut lines = Lines::<'_, R, LINE_BYTES>::new(from);
     lines.answer_all(&mut ByHand { player }, out)
+}
+
+// The same, and nobody is told where writing fails.
+pub fn run<E: Engine, R: Read, W: Write>(engine: E, from: &mut R, out: &mut W) {
+    let _ = play(engine, from, out);
 }

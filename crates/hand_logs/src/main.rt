@@ -10,5 +10,5 @@ fn main(rt: HostRuntime) {
     let mut marks = [0u64; MARK_WORDS];
     let engine = Words { marks: &mut marks };
     let mut out = Buffer::new(rt.stdout());
-    let _ = hand_lines::run(engine, &mut rt.stdin(), &mut out);
+    hand_lines::run(engine, &mut rt.stdin(), &mut out);
 }

@@ -1,7 +1,7 @@
 // Input on its way into lines, and answered line by line. What a line says is nothing to this.
 #![tactic(auto)]
 
-ghost use Rattle.std.specs.Prelude.{◌≤◌, ◌≡◌, ◌+◌, length};
+ghost use Rattle.std.specs.Prelude.{◌≤◌, ◌≡◌, ◌+◌, length, IfOk, IfSome};
 
 use std::io;
 use std::io::{Read, Write};
@@ -21,7 +21,20 @@ struct Input<'a, R: Read> {
     ghost within: { end ≤ 65536 },
 }
 
-impl<R: Read> Input<'_, R> {
+impl<'a, R: Read> Input<'a, R> {
+    // What this reader gives, of which nothing is read yet.
+    fn new(from: &'a mut R) -> Input<'a, R>
+        ensures { (result.at ≡ 0) × (result.end ≡ 0) }
+    {
+        Input {
+            from,
+            bytes: [0; SIZE],
+            at: 0,
+            end: 0,
+            over: false,
+        }
+    }
+
     // What is left to take in.
     fn left(&self) -> &[u8]
         ensures { self.now.at + length result.now ≡ self.now.end }
@@ -75,23 +88,21 @@ fn append(line: &mut [u8], used: usize, part: &[u8]) -> usize
 }
 
 impl<'a, R: Read, const LINE: usize> Lines<'a, R, LINE> {
-    // The lines that this reader gives.
-    pub fn new(from: &'a mut R) -> Lines<'a, R, LINE> {
+    // The lines that this reader gives, of which nothing is read yet.
+    pub fn new(from: &'a mut R) -> Lines<'a, R, LINE>
+        ensures { (result.input.at ≡ 0) × (result.input.end ≡ 0) }
+    {
         Lines {
-            input: Input {
-                from,
-                bytes: [0; SIZE],
-                at: 0,
-                end: 0,
-                over: false,
-            },
+            input: Input::new(from),
             line: [0; LINE],
         }
     }
 
     // The next line without its line feed, or none where the input is over: a rest that has no line feed is the last line. What was written is flushed before more
     // input is waited for.
-    pub fn next_line<W: Write>(&mut self, out: &mut W) -> io::Result<Option<&[u8]>> {
+    pub fn next_line<W: Write>(&mut self, out: &mut W) -> io::Result<Option<&[u8]>>
+        ensures { IfOk result (λ some. IfSome some (λ line. length line.now ≤ LINE)) }
+    {
         let line = self.line.as_mut_slice();
         let mut used = 0;
         for _ in 0..u64::MAX {

@@ -19,15 +19,24 @@ const SHELF_BYTES: usize = 16384;
 
 // ---- document 01's listing
 
-// Plays the session listing that is read from this reader on this engine, to its end or until writing fails. Answers the settings and the log that its last line leaves.
+// Plays the session listing that is read from this reader on this player, to its end or until writing fails: the device and the log that its last line leaves are the player's.
+pub fn session_on<E: Engine, R: Read, W: Write>(
+    player: &mut Player<E>,
+    from: &mut R,
+    out: &mut W,
+) -> io::Result<()> {
+    let mut lines = Lines::<'_, R, SESSION_BYTES>::new(from);
+    lines.answer_all(player, out)
+}
+
+// The same on this engine. Answers the settings and the log that its last line leaves.
 pub fn play_session<E: Engine, R: Read, W: Write>(
     engine: E,
     from: &mut R,
     out: &mut W,
 ) -> io::Result<(Settings, Log)> {
     let mut player = Player::new(engine);
-    let mut lines = Lines::<'_, R, SESSION_BYTES>::new(from);
-    lines.answer_all(&mut player, out)?;
+    session_on(&mut player, from, out)?;
     Ok((player.device.settings, player.log))
 }
 
@@ -35,10 +44,21 @@ pub fn play_session<E: Engine, R: Read, W: Write>(
 
 // What a shelf's lines are played on: a player, the area for the parts of a state, and those of the queues.
 #[derive(Drop)]
-struct Shelf<E: Engine> {
-    player: Player<E>,
-    area: Area,
-    areas: Areas,
+pub struct Shelf<E: Engine> {
+    pub player: Player<E>,
+    pub area: Area,
+    pub areas: Areas,
+}
+
+impl<E: Engine> Shelf<E> {
+    // On a device of which every call answers 1, as before a done `dev`.
+    pub fn new(engine: E) -> Shelf<E> {
+        Shelf {
+            player: Player::new(engine),
+            area: [0; STATE_BYTES],
+            areas: [0; AREAS_BYTES],
+        }
+    }
 }
 
 impl<E: Engine> Answers for Shelf<E> {
@@ -67,17 +87,21 @@ impl<E: Engine> Answers for Shelf<E> {
     }
 }
 
-// Plays the shelf listing that is read from this reader on this engine, to its end or until writing fails.
+// Plays the shelf listing that is read from this reader on this shelf, to its end or until writing fails: what its last line leaves is the shelf's.
+pub fn shelf_on<E: Engine, R: Read, W: Write>(
+    shelf: &mut Shelf<E>,
+    from: &mut R,
+    out: &mut W,
+) -> io::Result<()> {
+    let mut lines = Lines::<'_, R, SHELF_BYTES>::new(from);
+    lines.answer_all(shelf, out)
+}
+
+// The same on this engine.
 pub fn play_shelf<E: Engine, R: Read, W: Write>(
     engine: E,
     from: &mut R,
     out: &mut W,
 ) -> io::Result<()> {
-    let mut shelf = Shelf {
-        player: Player::new(engine),
-        area: [0; STATE_BYTES],
-        areas: [0; AREAS_BYTES],
-    };
-    let mut lines = Lines::<'_, R, SHELF_BYTES>::new(from);
-    lines.answer_all(&mut shelf, out)
+    shelf_on(&mut Shelf::new(engine), from, out)
 }

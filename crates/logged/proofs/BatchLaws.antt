@@ -1,7 +1,6 @@
 -- What a turn of a batch that is logged does to the log, for any engine: beside the invariant of the batch itself (`Turns` of `writes`), what is left of the notes makes of the
 -- log what the whole batch makes of it. Assumes nothing.
 use mathlib.Core.Path.{◌≡◌, refl, sym, ap, subst, ◌∙◌}
-use mathlib.Core.Logic.{◌≢◌}
 use mathlib.Core.Bool.{Bool, true, false, ◌&&◌, cond}
 use mathlib.Core.List.{List, ◌∷◌}
 use Prim.Native.Nat.{ℕ, ◌+◌, ◌<◌, ◌≤◌, min}
@@ -23,8 +22,8 @@ use Rattle.calls.specs.declared.Batched.{Batched}
 use Rattle.calls.specs.Calls.{Engine, Note, write_by, write_in, batch_by}
 use Rattle.booking.specs.Booking.{booked_by, write_log, notes_log, batch_log}
 use Rattle.writes.specs.Inner.{begin_of, is_due, tally_of}
-use Rattle.writes.proofs.BatchLaws.{due-refused, due-left, due-cut, due-is, due-over, tally-cut, tally-done, take-least}
-use Rattle.writes.proofs.Turns.{no_record, Answered, Going, going-refused, going-first, going-over, going-on, going-cut, going-next}
+use Rattle.writes.proofs.BatchLaws.{due-left, due-cut, due-is, tally-cut, tally-done, take-least}
+use Rattle.writes.proofs.Turns.{no_record, Answered, Going, going-first, going-stops, over-due, going-next}
 
 module _ (en : Engine) (d : Device) (m₀ : List ℕ) (l₀ : Log) (rs : List WriteRecord) where
   abbrev n : ℕ
@@ -102,44 +101,35 @@ module _ (en : Engine) (d : Device) (m₀ : List ℕ) (l₀ : Log) (rs : List Wr
   abbrev pub Logged : Batched → List ℕ → Log → Type 0
   Logged b m l = Answered en d m₀ rs b m × (l ≡ batch_log en l₀ d m₀ rs)
 
-  -- its invariant: i notes are done and booked
+  -- its invariant before record i: that many notes are done and booked where one is due
   pub record Logs (i : ℕ) (b : Batched) (m : List ℕ) (l : Log) : Type 0 where
     pub going : Going en d m₀ rs i b m
     pub books : Books en d m₀ l₀ rs b m l
 
-  module _ (b : Batched) (e : b ≡ begin_of d (en.words m₀) (length rs)) where
-    at-first : Books en d m₀ l₀ rs b m₀ l₀
-    at-first = rw e (books-start en d m₀ l₀ rs)
-
-    pub logs-refused : b.number ≢ 0 → Logged b m₀ l₀
-    logs-refused h = (going-refused en d m₀ rs b e h, books-end en d m₀ l₀ rs b m₀ l₀ (sym (due-refused b (length rs) h)) at-first)
-
-    pub logs-first : b.number ≡ 0 → Logs 0 b m₀ l₀
-    logs-first h = record { going = going-first en d m₀ rs b e h; books = at-first }
+  pub logs-first : (b : Batched) → b ≡ begin_of d (en.words m₀) (length rs) → Logs 0 b m₀ l₀
+  logs-first b e = record { going = going-first en d m₀ rs b e; books = rw e (books-start en d m₀ l₀ rs) }
 
   module _ (i : ℕ) (b : Batched) (m : List ℕ) (l : Log) (g : Logs i b m l) where
+    pub logs-stops : is_due b (length rs) ≡ false → Logged b m l
+    logs-stops off = (going-stops en d m₀ rs i b m g.going off, books-end en d m₀ l₀ rs b m l off g.books)
+
     pub logs-over : length rs ≤ i → Logged b m l
-    logs-over h =
-        (going-over en d m₀ rs i b m g.going h, books-end en d m₀ l₀ rs b m l (due-over b (length rs) (omega (arith, g.going.done))) g.books)
+    logs-over h = logs-stops (over-due en d m₀ rs i b m g.going h)
 
     -- a note's answer w, the marks m' and the log l' after it, and the tally b'
-    module _ (inside : i < length rs) where
+    module _ (on : is_due b (length rs) ≡ true) where
       abbrev given : WriteRecord
       given = get_or rs i no_record
 
-      module _ (w : Written) (m' : List ℕ) (is-w : w ≡ (write_by en d m given.id (write_in given)).answer) (is_m : m' ≡ (write_by en d m given.id (write_in given)).marks)
-          (few : w.count ≤ most_units)
-          (l' : Log) (is-l : l' ≡ booked_by l (place_of d.settings given.id) w.number w.count 0 0) (b' : Batched) (is_b : b' ≡ tally_of b w) where
-        after : Books en d m₀ l₀ rs b' m' l'
-        after =
-            books-turned en d m₀ l₀ rs b m l (going-on en d m₀ rs i b m g.going inside) g.books w m' b' l' (rw g.going.done is-w) (rw g.going.done is_m) is_b (rw g.going.done is-l)
-
-        pub logs-cut : b'.refusal ≢ 0 → Logged b' m' l'
-        logs-cut h =
-            (going-cut en d m₀ rs i b m g.going inside w m' is-w is_m few b' is_b h, books-end en d m₀ l₀ rs b' m' l' (sym (due-cut b' (length rs) h)) after)
-
-        pub logs-next : b'.refusal ≡ 0 → en.words m' ≡ en.words m₀ → Logs (i + 1) b' m' l'
-        logs-next h s = record { going = going-next en d m₀ rs i b m g.going inside w m' is-w is_m few b' is_b h s; books = after }
+      pub logs-next : (w : Written) (m' : List ℕ) → w ≡ (write_by en d m given.id (write_in given)).answer → m' ≡ (write_by en d m given.id (write_in given)).marks
+          → w.count ≤ most_units → (l' : Log) → l' ≡ booked_by l (place_of d.settings given.id) w.number w.count 0 0 → (b' : Batched) → b' ≡ tally_of b w
+          → en.words m' ≡ en.words m₀ → Logs (i + 1) b' m' l'
+      logs-next w m' is-w is_m few l' is-l b' is_b s =
+          let done = g.going.done on in
+          record {
+            going = going-next en d m₀ rs i b m g.going on w m' is-w is_m few b' is_b s;
+            books = books-turned en d m₀ l₀ rs b m l on g.books w m' b' l' (rw done is-w) (rw done is_m) is_b (rw done is-l);
+          }
 
 -- the first n of 1,025 records are the first min n 1,025
 pub logged_of : (en : Engine) (d : Device) (m₀ : List ℕ) (l₀ : Log) (list : List WriteRecord) (n k : ℕ) (b : Batched) (m : List ℕ) (l : Log)

@@ -91,16 +91,13 @@ pub fn batch_of_on<E: Notes>(
     let notes = &list[..n.min(1025)];
     let mut answer = writes::begin(d, E::words(marks), notes.len());
     let mut log = l;
-    if answer.number != 0 {
-        return Logged { answer, log };
-    }
     for w in notes {
+        if !writes::due(answer, notes.len()) {
+            return Logged { answer, log };
+        }
         let r = E::note(d, marks, w.id, w.address, w.bytes);
         log = booking::book(log, d.settings, w.id, r.number, r.count, 0, 0);
         answer = writes::tally(answer, r);
-        if answer.refusal != 0 {
-            return Logged { answer, log };
-        }
     }
     Logged { answer, log }
 }

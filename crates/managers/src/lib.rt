@@ -2,6 +2,8 @@
 // Any bytes are met with an answer.
 #![tactic(auto)]
 
+ghost use Rattle.std.specs.Prelude.{◌≤◌, length, IfSome};
+
 use engines::Engine;
 use fields::Fields;
 use playing::Player;
@@ -24,21 +26,28 @@ pub fn dev2<E: Engine, W: Write>(
 
 // ---- `by`
 
-// Who makes the call of a line that begins with `by`, and the call's own line: behind a manager, where the word of a call follows that a manager makes.
-fn by(line: &[u8]) -> Option<(u16, &[u8])> {
+// Who makes the call of a line that begins with `by`, and the call's own line, the end of it: behind a manager, where the word of a call follows that a manager makes.
+fn by(line: &[u8]) -> Option<(u16, &[u8])>
+    ensures { IfSome result (λ by. length by.1.now ≤ length line.now) }
+{
     let (b"by", mut fields) = fields::split(line) else {
         return None;
     };
     let manager = fields.number(65535)? as u16;
     let call = fields.rest()?;
     match fields::split(call).0 {
-        b"start" | b"stop" | b"recv" | b"susp" | b"resume" | b"part" => Some((manager, call)),
+        b"start" | b"stop" | b"recv" | b"susp" | b"resume" | b"part" => {
+            let from = line.len().checked_sub(call.len())?;
+            Some((manager, line.get(from..)?))
+        }
         _ => None,
     }
 }
 
 // Who makes the call of a line, and the call's own line. A line that begins otherwise is played whole, by the first manager; so a `by` before anything else is bad, as a
 // word that no line begins with.
-pub fn caller_of(first: u16, line: &[u8]) -> (u16, &[u8]) {
+pub fn caller_of(first: u16, line: &[u8]) -> (u16, &[u8])
+    ensures { length result.1.now ≤ length line.now }
+{
     by(line).unwrap_or((first, line))
 }

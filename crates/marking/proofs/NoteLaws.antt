@@ -17,7 +17,9 @@ use Rattle.bits.specs.Share.{Holds, get_share, put_share}
 use Rattle.bits.proofs.Flat.{flat-length}
 use Rattle.bits.proofs.Span.{fill-length, fill-at-below, fill-at-in, fill-at-above, clears-cons, clears-ext}
 use Rattle.bits.proofs.Share.{get_share-length, get_share-put_share-above, put_share-append, fill-share, clears-share}
-use Rattle.rules.specs.Units.{Unit, Write, units_of_row, touches, mark, newly}
+use Rattle.rules.specs.Lists.{keep}
+use Rattle.rules.specs.Settings.{unit_size}
+use Rattle.rules.specs.Units.{Unit, Write, units_of_row, uncovered, units, touches, mark, newly}
 use Rattle.rules.specs.declared.Range.{Range}
 use Rattle.rules.proofs.UnitLaws.{units_of_row-length, units_of_row-at, mark-length, mark-append, newly-append, newly-le, mark-at}
 use Rattle.pieces.specs.Pieces.{unit_of}
@@ -328,3 +330,17 @@ module _ (w : Write) (us : List Unit) (words : List ℕ) (at count : ℕ) (bits 
         sym (take-append-drop at (flat words)) ∙ ap (λ k. take at (flat words) ++ drop k (flat words)) (sym e)
             ∙ subst (λ us. mark_in w us (flat words) at ≡ bits) none m.marked,
       )
+
+-- ---- a range that is listed alone
+
+-- no range covers a unit before it
+kept_whole : (size : ℕ) (us : List Unit) → keep (uncovered size []) us ++ [] ≡ us
+kept_whole size [] = refl
+kept_whole size (u ∷ us) = ap (λ l. u ∷ l) (kept_whole size us)
+
+pub units-alone : (g : ℕ) (r : Range) → units g (r ∷ []) ≡ units_of (unit_size g) r
+units-alone g r = kept_whole (unit_size g) (units_of_row 0 (unit_size g) r.start r.length)
+
+pub alone-held : (ws : List ℕ) (base g : ℕ) (r : Range) → Holds ws base (length (units g (r ∷ []))) → Holds ws base r.length
+alone-held ws base g r h =
+    subst (Holds ws base) (ap length (units-alone g r) ∙ units_of_row-length 0 (unit_size g) r.start r.length) h

@@ -2,7 +2,7 @@
 // pieces themselves.
 #![tactic(auto)]
 
-ghost use Rattle.std.specs.Prelude.{◌≡◌, true, ◌+◌, ◌^◌, ◌<◌, ◌≤◌, length, take};
+ghost use Rattle.std.specs.Prelude.{◌≡◌, true, [], ◌∷◌, ◌+◌, ◌^◌, ◌<◌, ◌≤◌, length, take};
 ghost use Rattle.bits.specs.Flat.{flat};
 ghost use Rattle.bits.specs.Share.{Holds, get_share, put_share};
 ghost use Rattle.rules.specs.Settings.{unit_size};
@@ -51,6 +51,15 @@ fn mark_range(marks: &mut [u64], from: usize, g: u8, r: Range, written: WrittenR
     let a = from + t.from.0 as usize;
     let e = from + t.to.0 as usize;
     bits::mark_span(marks, a, e)
+}
+
+// The same of a range that is listed alone, whatever its bytes: no other covers its units.
+pub fn mark_one(marks: &mut [u64], base: usize, g: u8, r: Range, at: u64, last: u64) -> usize
+    requires { (g ≤ 20) × (at ≤ last) × Holds marks.old base (length (units g (r ∷ []))) }
+    ensures { (result ≡ newly_in (write_to at last) (units g (r ∷ [])) (flat marks.old) base)
+        × (flat marks.new ≡ mark_in (write_to at last) (units g (r ∷ [])) (flat marks.old) base) }
+{
+    mark_range(marks, base, g, r, WrittenRange { at, last })
 }
 
 // The same as `mark_range` for listed ranges from a row on, piece by piece, as they may overlap. The marks of that row stand from bit `from` on.

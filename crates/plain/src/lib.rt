@@ -11,7 +11,7 @@ ghost use Rattle.plain.specs.Bytes.{words_for, cleared_bytes, packed_bytes, in_b
 
 use calls::{Batched, Changed, Posted, Received, Started, StateSet, Taken, WriteRecord, Written};
 use measures::WrittenRange;
-use pieces::Rows;
+use ranges::Rows;
 use rules::{Bytes, Device, MARK_WORDS, Refusal, RowRefusal, Settings, Tracking, Units};
 use writes::Notes;
 
@@ -43,11 +43,12 @@ pub fn fresh(s: Settings, area: &mut [u8]) -> Changed
     ensures { (result ≡ (fresh_by in_bytes s area.old).answer) × (area.new ≡ (fresh_by in_bytes s area.old).marks) }
 {
     let bytes = area.len();
-    let made = fresh::try_fresh(s, words_for(bytes));
-    if made.is_ok() {
-        clear(area, 0, bytes);
+    let answer = fresh::made(s, words_for(bytes));
+    if answer.number != 0 {
+        return answer;
     }
-    calls::changed_by(fresh::closed(), made)
+    clear(area, 0, bytes);
+    answer
 }
 
 // ---- start and stop
@@ -68,7 +69,9 @@ fn pack(area: &mut [u8], bases: [usize; 8], sizes: [usize; 8], new: usize)
             place += 1;
         }
     }
-    area.copy_from_slice(&packed);
+    for i in 0..AREA_BYTES {
+        area[i] = packed[i];
+    }
 }
 
 // What a start makes of the record and of the area.
@@ -201,7 +204,7 @@ pub fn batch(d: Device, area: &mut [u8], list: &[WriteRecord]) -> Batched
 pub fn batch_of(d: Device, area: &mut [u8], list: [WriteRecord; 1025], n: usize) -> Batched
     ensures { (result ≡ (batch_by in_bytes d area.old (take n list)).answer) × (area.new ≡ (batch_by in_bytes d area.old (take n list)).marks) }
 {
-    writes::batch_of_on::<InBytes>(d, area, list, n)
+    batch(d, area, &list[..n.min(1025)])
 }
 
 // ---- receive

@@ -10,5 +10,5 @@ fn main(rt: HostRuntime) {
     let mut area = [0u8; AREA_BYTES];
     let engine = Plain { area: &mut area };
     let mut out = Buffer::new(rt.stdout());
-    let _ = hand_lines::run(engine, &mut rt.stdin(), &mut out);
+    hand_lines::run(engine, &mut rt.stdin(), &mut out);
 }

@@ -7,7 +7,7 @@ ghost use Rattle.rules.specs.Units.{units};
 ghost use Rattle.rules.specs.Ranges.{row_tests, row_ok, rows_tests, is_power, powers_ok, list_tests};
 ghost use Rattle.ranges.specs.Kept.{kept_of, most_in};
 
-use pieces::Rows;
+pub use pieces::Rows;
 use rules::{MOST_UNITS, Range, Refusal, RowRefusal, Settings, Units};
 
 // The first rule of a row that a range breaks: 19 it has no units, 20 its start is no multiple of the unit, 21 it ends past 2^64. Its last byte is

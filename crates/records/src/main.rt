@@ -341,7 +341,7 @@ fn records_of(lent: &[u8]) -> [WriteRecord; RECORDS] {
 
 // ---- an answer, written
 
-// Writes the bytes of a number, or of some.
+// Writes the bytes of a number, or of some. A write takes longer than its bytes, so what is many is written some at once.
 fn put<W: Write, const N: usize>(out: &mut W, bytes: [u8; N]) -> io::Result<()> {
     out.write_all(&bytes)
 }
@@ -377,8 +377,10 @@ fn put_controller<W: Write>(out: &mut W, c: &Controller) -> io::Result<()> {
     put(out, c.manager.to_le_bytes())?;
     put_queue(out, c.queue)?;
     for range in &c.ranges {
-        put(out, range.start.to_le_bytes())?;
-        put(out, range.length.to_le_bytes())?;
+        let mut bytes = [0u8; 12];
+        bytes[..8].copy_from_slice(&range.start.to_le_bytes());
+        bytes[8..].copy_from_slice(&range.length.to_le_bytes());
+        put(out, bytes)?;
     }
     Ok(())
 }
@@ -455,12 +457,14 @@ fn put_shown<W: Write>(out: &mut W, bytes: &[u8], from: usize, count: usize) -> 
 
 // Writes the plain engine's bytes as the bits of 512 words, each set where a byte is not 0.
 fn put_bits<W: Write>(out: &mut W, bytes: &[u8]) -> io::Result<()> {
-    for eight in bytes.chunks(8) {
-        let mut bits = 0;
-        for byte in eight.iter().rev() {
-            bits = (bits << 1) | u8::from(*byte != 0);
+    for some in bytes.chunks(512) {
+        let mut bits = [0u8; 64];
+        for (bits, eight) in bits.iter_mut().zip(some.chunks(8)) {
+            for byte in eight.iter().rev() {
+                *bits = (*bits << 1) | u8::from(*byte != 0);
+            }
         }
-        put(out, [bits])?;
+        out.write_all(&bits[..some.len().div_ceil(8).min(64)])?;
     }
     Ok(())
 }
@@ -470,8 +474,12 @@ fn put_marks<W: Write>(out: &mut W, case: &Case, marks: &[u64], bytes: &[u8]) ->
     if case.plain {
         return put_bits(out, bytes);
     }
-    for word in marks {
-        put(out, word.to_le_bytes())?;
+    for some in marks.chunks(64) {
+        let mut bytes = [0u8; 512];
+        for (at, word) in bytes.chunks_exact_mut(8).zip(some) {
+            at.copy_from_slice(&word.to_le_bytes());
+        }
+        out.write_all(&bytes[..8 * some.len().min(64)])?;
     }
     Ok(())
 }

@@ -37,7 +37,7 @@ pub fn put_sums<W: Write>(out: &mut W, s: Sums) -> io::Result<()> {
 }
 
 // Puts a number, and behind it a controller's totals: they are the sums over it alone.
-pub fn put_totals<W: Write>(out: &mut W, number: u16, t: Option<Totals>) -> io::Result<()> {
+pub fn put_totals<W: Write>(out: &mut W, number: u64, t: Option<Totals>) -> io::Result<()> {
     write!(out, "{number}")?;
     put_sums(out, log_numbers::summed(log_numbers::no_sums(), t))
 }
@@ -45,7 +45,7 @@ pub fn put_totals<W: Write>(out: &mut W, number: u16, t: Option<Totals>) -> io::
 // Puts a line for each controller in the settings: what the log says of it. The settings before a done `dev` have none.
 pub fn put_log<W: Write>(out: &mut W, s: Settings, l: Log) -> io::Result<()> {
     for (id, account) in s.identifiers.iter().zip(&l.accounts).take(s.count) {
-        put_totals(out, *id, account.totals)?;
+        put_totals(out, u64::from(*id), account.totals)?;
     }
     Ok(())
 }

@@ -18,7 +18,7 @@ ghost use Rattle.rules.specs.Order.{start_listed, start_shared, start_order};
 
 use calls::{Changed, Started};
 use pieces::Rows;
-use rules::{Controller, Device, MOST_UNITS, Range, Refusal, RowRefusal, Share, Tracking};
+use rules::{Controller, Device, Header, MOST_UNITS, Range, Refusal, RowRefusal, Share, Tracking};
 
 // ---- start
 
@@ -171,10 +171,9 @@ pub fn admit(
     let Tracking::Off = c.tracking else {
         return Err(RowRefusal::from(Refusal::Tracked));
     };
-    let header = start_data::try_header(data);
-    // `let .. else`, as document 01 names this form.
-    let Ok((granularity, count)) = header else {
-        return Err(RowRefusal::from(header.unwrap_err()));
+    // The header reader's enum is taken apart by `let .. else`, as document 01 names this form; its refusal has its name from `try_header`.
+    let Header::Is(granularity, count) = start_data::read_header(data) else {
+        return Err(RowRefusal::from(start_data::try_header(data).unwrap_err()));
     };
     listed_refusal(d, manager, granularity, count, data)?;
     Ok(Admitted {

@@ -1,7 +1,7 @@
 -- What a turn of a batch does, over plain values, for any engine: no word of memory here. Assumes nothing.
 --     left         what a batch that has come to (b, m) will answer and leave
 --     Facts b m    what holds before and after each turn: `starts`, `turned`.        stopped      the contract, where no note is due
---     Going i b m  the loop's invariant, where i notes are done
+--     Going i b m  the loop's invariant before record i
 use mathlib.Core.Path.{◌≡◌, refl, sym, ap, subst, ◌∙◌}
 use mathlib.Core.Logic.{◌≢◌}
 use mathlib.Core.Bool.{Bool, true, false, ◌&&◌, not, cond, true≢false}
@@ -34,7 +34,7 @@ use Rattle.calls.specs.declared.WriteRecord.{WriteRecord}
 use Rattle.calls.specs.declared.Batched.{Batched}
 use Rattle.calls.specs.Calls.{Engine, in_words, Change, Note, noted, note_in, write_done, write_by, write_in, batched, notes_from, batch_by}
 use Rattle.writes.specs.Inner.{begin_of, is_due, tally_of}
-use Rattle.writes.proofs.BatchLaws.{due-refused, due-left, due-cut, due-is, due-on, due-over, tally-cut, tally-done, tally-number, tally-went}
+use Rattle.writes.proofs.BatchLaws.{due-left, due-cut, due-is, tally-cut, tally-done, tally-went}
 
 -- ---- a note makes at most as many units pending as there are marks
 
@@ -214,7 +214,7 @@ module _ (en : Engine) (d : Device) (m₀ : List ℕ) (rs : List WriteRecord) wh
       e : record { answer = b; marks = m } ≡ batch_by en d m₀ rs
       e = sym (ap (λ (y : Bool). cond y (notes_from en d m b.done b.count (drop b.done rs)) (record { answer = b; marks = m })) off) ∙ f.inv
 
-  -- ---- the loop over the list: i notes are done, and none was refused
+  -- ---- the loop over the list: before record i, that many notes are done where one is due
 
   abbrev pub Answered : Batched → List ℕ → Type 0
   Answered b m = (b ≡ (batch_by en d m₀ rs).answer) × (m ≡ (batch_by en d m₀ rs).marks)
@@ -222,38 +222,29 @@ module _ (en : Engine) (d : Device) (m₀ : List ℕ) (rs : List WriteRecord) wh
   pub record Going (i : ℕ) (b : Batched) (m : List ℕ) : Type 0 where
     pub facts : Facts b m
     pub same : en.words m ≡ en.words m₀
-    pub whole : b.number ≡ 0
-    pub uncut : b.refusal ≡ 0
-    pub done : b.done ≡ i
+    pub done : is_due b n ≡ true → b.done ≡ i
 
-  module _ (b : Batched) (e : b ≡ begin_of d (en.words m₀) n) where
-    at-first : Facts b m₀
-    at-first = rw e starts
-
-    uncut-first : b.refusal ≡ 0
-    unfolding begin_of
-    uncut-first = rw e
-
-    none-first : b.done ≡ 0
-    unfolding begin_of
-    none-first = rw e
-
-    pub going-refused : b.number ≢ 0 → Answered b m₀
-    going-refused h = stopped b m₀ (sym (due-refused b n h)) at-first
-
-    pub going-first : b.number ≡ 0 → Going 0 b m₀
-    going-first h = record { facts = at-first; same = refl; whole = h; uncut = uncut-first; done = none-first }
+  pub going-first : (b : Batched) → b ≡ begin_of d (en.words m₀) n → Going 0 b m₀
+  unfolding begin_of
+  going-first b e = record { facts = rw e starts; same = refl; done = λ h. rw e }
 
   module _ (i : ℕ) (b : Batched) (m : List ℕ) (g : Going i b m) where
+    pub going-stops : is_due b n ≡ false → Answered b m
+    going-stops off = stopped b m off g.facts
+
+    pub over-due : n ≤ i → is_due b n ≡ false
+    over-due h = go (is_due b n) refl
+      where
+        go : (y : Bool) → is_due b n ≡ y → y ≡ false
+        go true e = absurd (omega (arith, g.done e, (due-is b n e).2))
+        go false e = refl
+
     pub going-over : n ≤ i → Answered b m
-    going-over h = stopped b m (due-over b n (omega (arith, g.done))) g.facts
+    going-over h = going-stops (over-due h)
 
-    module _ (inside : i < n) where
-      pub going-on : is_due b n ≡ true
-      going-on = due-on b n g.whole g.uncut (omega (arith, g.done))
-
+    module _ (on : is_due b n ≡ true) where
       pub going-sound : sound_with d (en.words m) ≡ true
-      going-sound = sound-now b m g.same going-on g.facts
+      going-sound = sound-now b m g.same on g.facts
 
       -- a note's answer w, the marks m' after it, and the tally b'
       abbrev given : WriteRecord
@@ -261,24 +252,21 @@ module _ (en : Engine) (d : Device) (m₀ : List ℕ) (rs : List WriteRecord) wh
 
       module _ (w : Written) (m' : List ℕ) (is-w : w ≡ (write_by en d m given.id (write_in given)).answer) (is_m : m' ≡ (write_by en d m given.id (write_in given)).marks)
           (few : w.count ≤ most_units) where
-        w-is : w ≡ (note b m g.same going-on g.facts).answer
-        w-is = rw g.done is-w
+        w-is : w ≡ (note b m g.same on g.facts).answer
+        w-is = rw (g.done on) is-w
 
-        m-is : m' ≡ (note b m g.same going-on g.facts).marks
-        m-is = rw g.done is_m
+        m-is : m' ≡ (note b m g.same on g.facts).marks
+        m-is = rw (g.done on) is_m
 
         pub going-fits : (b.done + 1 < 2 ^ 64) × (b.count + w.count < 2 ^ 64)
-        going-fits = fits_in b m g.same going-on g.facts w few
+        going-fits = fits_in b m g.same on g.facts w few
 
-        module _ (b' : Batched) (is_b : b' ≡ tally_of b w) where
-          after-facts : Facts b' m'
-          after-facts = turned b m g.same going-on g.facts w m' b' w-is m-is few is_b
-
-          pub going-cut : b'.refusal ≢ 0 → Answered b' m'
-          going-cut h = stopped b' m' (sym (due-cut b' n h)) after-facts
-
-          pub going-next : b'.refusal ≡ 0 → en.words m' ≡ en.words m₀ → Going (i + 1) b' m'
-          going-next z s =
-              let number : b'.number ≡ b.number = rw is_b (tally-number b w) in
-              let went : b'.done ≡ b.done + 1 = rw is_b (tally-went b w (sym (ap (λ (t : Batched). t.refusal) is_b) ∙ z)) in
-              record { facts = after-facts; same = s; whole = number ∙ g.whole; uncut = z; done = omega (arith, went, g.done) }
+        pub going-next : (b' : Batched) → b' ≡ tally_of b w → en.words m' ≡ en.words m₀ → Going (i + 1) b' m'
+        going-next b' is_b s =
+            record {
+              facts = turned b m g.same on g.facts w m' b' w-is m-is few is_b;
+              same = s;
+              done = λ h.
+                  let went : b'.done ≡ b.done + 1 = rw is_b (tally-went b w (sym (ap (λ (t : Batched). t.refusal) is_b) ∙ (due-is b' n h).1)) in
+                  omega (arith, went, g.done on);
+            }

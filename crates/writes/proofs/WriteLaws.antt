@@ -10,7 +10,7 @@ use native.Mathlib.Omega.{arith}
 use native.Mathlib.Nat.{zero-add}
 use lib.ListN.{length, get_or, take, drop}
 use lib.Dec.{leb}
-use borrow.Author.Tests.{le-leb, leb-true, eq-eqb, ne_eqb}
+use borrow.Author.Tests.{le-leb, leb-true, eq-eqb, eqb-true, ne_eqb}
 use Rattle.bits.specs.Flat.{flat, Words}
 use Rattle.bits.specs.Share.{put_share}
 use Rattle.bits.specs.Pack.{pack}
@@ -18,10 +18,12 @@ use Rattle.bits.proofs.Flat.{flat-length}
 use Rattle.bits.proofs.Pack.{pack-only, pack-flat}
 use Rattle.bits.proofs.Share.{get_share-length, put_share-get_share}
 use Rattle.rules.specs.Settings.{mark_words, place_of}
-use Rattle.rules.specs.Refusals.{refusal, number_of}
+use Rattle.rules.specs.Refusals.{refusal, number_of, verdict}
 use Rattle.rules.specs.Units.{Unit, Write, units, touches, mark, newly}
 use Rattle.rules.specs.Order.{write_order}
 use Rattle.rules.specs.Device.{sound_device}
+use Rattle.rules.specs.StartData.{no_range}
+use Rattle.rules.specs.declared.Range.{Range}
 use Rattle.rules.specs.declared.Controller.{Controller}
 use Rattle.rules.specs.declared.Device.{Device}
 use Rattle.rules.specs.declared.Tracking.{Tracking}
@@ -30,11 +32,11 @@ use Rattle.rules.proofs.RefusalLaws.{verdict-refused}
 use Rattle.record.specs.Record.{no_controller, where_is, seen_in, sound_with, place_at}
 use Rattle.std.specs.declared.result.Result.TheVariants.{Err, Ok}
 use Rattle.rules.specs.declared.Refusal.{Refusal}
-use Rattle.rules.specs.declared.Refusal.TheVariants.{Unknown}
+use Rattle.rules.specs.declared.Refusal.TheVariants.{Unknown, Unsound}
 use Rattle.record.proofs.RecordLaws.{where_is-at, where_is-refused}
-use Rattle.calls.specs.Calls.{Engine, in_words, write_by, with_marks, marks_at, noted, write_done}
+use Rattle.calls.specs.Calls.{Engine, in_words, Note, write_by, with_marks, marks_at, noted, note_in, write_done}
 use Rattle.calls.proofs.PlaceLaws.{held_at, share-within}
-use Rattle.writes.specs.Inner.{Lies, MayNote, note_tests, note_by, note_on}
+use Rattle.writes.specs.Inner.{Lies, MayNote, note_tests, note_by, note_on, is_one, alone}
 
 -- ---- the place, on a record that is known to be sound
 
@@ -54,6 +56,11 @@ module _ (d : Device) (words id : ℕ) (s : sound_with d words ≡ true) where
       go : (p : Option ℕ) → p ≡ None → place_at p ≡ Err Unknown
       go None e = refl
       go (Some j) e = let z : ◌≡◌ {A = ℕ} 0 1 = cc in absurd (omega arith)
+
+-- on one that is not, whoever is named
+pub unsound-place : (d : Device) (words id : ℕ) → sound_with d words ≡ false → where_is d words id ≡ Err Unsound
+unfolding where_is
+unsound-place d words id e = rw e
 
 -- whether it is, by its two parts
 pub few-words : (d : Device) (words : ℕ) → words ≢ mark_words → sound_with d words ≡ false
@@ -145,12 +152,42 @@ module _ (c : Controller) (ws : List ℕ) (base : ℕ) (w : Write) (k : ℕ) (e 
         ∙ ap (pack (length ws)) (put_share-get_share (flat ws) base (length us) m)
         ∙ pack-flat ws h)
 
-  pub on-empty : MayNote c ws base → 1 ≤ length c.ranges → Words ws → w.bytes ≡ 0 → note_on c ws base w ≡ noted 0 0 ws
-  on-empty l r h y = go c.tracking refl
+  pub on-empty : ((g n : ℕ) → c.tracking ≡ On g n → Lies g n c.ranges ws base) → Words ws → w.bytes ≡ 0 → note_on c ws base w ≡ noted 0 0 ws
+  on-empty l h y = go c.tracking refl
     where
       go : (t : Tracking) → c.tracking ≡ t → note_on c ws base w ≡ noted 0 0 ws
       go Off t = on-off in_words c ws base w k e z t
-      go (On g n) t = on-empty-marks g n t (l r g n t) h y
+      go (On g n) t = on-empty-marks g n t (l g n t) h y
+
+-- ---- a controller that has one range or is not tracked: its first range says all that a note asks
+
+module _ (c : Controller) (r : 1 ≤ length c.ranges) (o : is_one c.tracking ≡ true) where
+  abbrev first : List Range
+  first = get_or c.ranges 0 no_range ∷ []
+
+  front : take 1 first ≡ take 1 c.ranges
+  front = go c.ranges r
+    where
+      go : (rs : List Range) → 1 ≤ length rs → take 1 (get_or rs 0 no_range ∷ []) ≡ take 1 rs
+      go [] h = absurd (omega arith)
+      go (r ∷ rs) h = refl
+
+  same : (n : ℕ) → n ≡ 1 → take n c.ranges ≡ take n first
+  same n z = rw z (sym front)
+
+  pub one-note : (ws : List ℕ) (base : ℕ) (w : Write) → note_on c ws base w ≡ note_on (alone c) ws base w
+  unfolding note_by
+  one-note ws base w = go c.tracking o
+    where
+      marked_in : ℕ → List Range → Note
+      marked_in g rs =
+          noted 0 (newly w (units g rs) (marks_at ws base (length (units g rs)))) (with_marks ws base (mark w (units g rs) (marks_at ws base (length (units g rs)))))
+
+      go : (t : Tracking) → is_one t ≡ true
+          → verdict (note_tests c.suspended w) (note_in in_words ws base t c.ranges w) (λ n i. noted n 0 ws)
+          ≡ verdict (note_tests c.suspended w) (note_in in_words ws base t first w) (λ n i. noted n 0 ws)
+      go Off o = refl
+      go (On g n) o = ap (λ (rs : List Range). verdict (note_tests c.suspended w) (marked_in g rs) (λ n i. noted n 0 ws)) (same n (eqb-true n 1 o))
 
 -- ---- the controller of a call
 

@@ -1,12 +1,15 @@
 -- What a note to one controller does, and what the parts of a batch's loop compute. The plain engine (W9) has its notes' refusals and its batch from here.
-use Rattle.std.specs.Prelude.{ℕ, ◌+◌, ◌^◌, ◌≤◌, ◌≡◌, Bool, true, not, ◌&&◌, cond, List, [], ◌∷◌, leb, ltb, eqb, length, take}
+use Rattle.std.specs.Prelude.{ℕ, ◌+◌, ◌^◌, ◌≤◌, ◌≡◌, Bool, true, not, ◌&&◌, cond, List, [], ◌∷◌, leb, ltb, eqb, length, take, get_or}
 use Rattle.bits.specs.Share.{Holds}
 use Rattle.rules.specs.Refusals.{Test, ◌else◌, verdict, refusal}
 use Rattle.rules.specs.Units.{Write, units}
 use Rattle.rules.specs.Ranges.{rows_ok}
 use Rattle.rules.specs.Order.{batch_order}
 use Rattle.rules.specs.declared.Range.{Range}
-use Rattle.rules.specs.declared.Tracking.TheVariants.{On}
+use Rattle.rules.specs.StartData.{no_range}
+use Rattle.rules.specs.declared.Tracking.{Tracking}
+use Rattle.rules.specs.declared.Tracking.TheVariants.{Off, On}
+use Rattle.std.specs.declared.option.Option.TheVariants.{None}
 use Rattle.rules.specs.declared.Controller.{Controller}
 use Rattle.rules.specs.declared.Device.{Device}
 use Rattle.record.specs.Record.{sound_with}
@@ -39,6 +42,16 @@ note_by e c ws base w =
 
 abbrev pub note_on : Controller → List ℕ → ℕ → Write → Note
 note_on c ws base w = note_by in_words c ws base w
+
+-- ---- a controller that has one range or is not tracked
+
+abbrev pub is_one : Tracking → Bool
+is_one Off = true
+is_one (On g n) = eqb n 1
+
+-- it, as far as its first range and what a note asks beside it say
+abbrev pub alone : Controller → Controller
+alone c = record { tracking = c.tracking; manager = 0; base = c.base; suspended = c.suspended; ranges = get_or c.ranges 0 no_range ∷ []; queue = None }
 
 -- ---- a batch
 

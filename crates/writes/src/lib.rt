@@ -10,7 +10,7 @@ ghost use Rattle.rules.specs.Order.{batch_order};
 ghost use Rattle.record.specs.Record.{sound_with};
 ghost use Rattle.calls.specs.Calls.{Engine, in_words, write_note, write_by, batch_change, batch_by};
 ghost use Rattle.calls.specs.Inner.{written_by};
-ghost use Rattle.writes.specs.Inner.{MayNote, note_tests, note_on, begin_of, tally_of};
+ghost use Rattle.writes.specs.Inner.{MayNote, note_tests, note_on, begin_of, is_due, tally_of};
 
 use calls::{Batched, WriteRecord, Written};
 use measures::WrittenRange;
@@ -76,13 +76,23 @@ pub fn note(d: Device, marks: &mut [u64], id: u16, at: u64, bytes: Bytes) -> Wri
     calls::written_by(try_note(d, marks, id, at, bytes))
 }
 
+// Whether the record is sound and the marks have their words.
+fn ready(d: Device, words: usize) -> bool
+    ensures { result ≡ sound_with d words }
+{
+    words == MARK_WORDS && record::sound(d)
+}
+
 // What a note comes to.
 fn try_write(d: Device, marks: &mut [u64], id: u16, at: u64, bytes: Bytes) -> Result<usize, Refusal>
     ensures { (written_by result ≡ (write_note d marks.old id (record { address = at; bytes = bytes.0 })).answer)
         × (marks.new ≡ (write_note d marks.old id (record { address = at; bytes = bytes.0 })).marks) }
 {
-    let i = record::locate(d, marks.len(), id)?;
-    note_on(d.controllers[i], marks, at, bytes)
+    if ready(d, marks.len()) {
+        try_note(d, marks, id, at, bytes)
+    } else {
+        Err(Refusal::Unsound)
+    }
 }
 
 // Notes that controller `id` wrote `bytes` bytes at address `at`: the touched units of its tracked ranges become pending. Answers how many were not
@@ -94,13 +104,13 @@ pub fn write(d: Device, marks: &mut [u64], id: u16, at: u64, bytes: Bytes) -> Wr
     calls::written_by(try_write(d, marks, id, at, bytes))
 }
 
-// ---- a batch, on any engine: what begins it and tallies a note is public for the batch that is logged, which has the same loop
+// ---- a batch, on any engine: what begins it, asks for its next note and tallies one is public for the batch that is logged, which has the same loop
 
 // Whether a batch of `total` records is refused before its first note, in this order: 1, 22 more than 1,024 records.
 fn batch_refusal(d: Device, words: usize, total: usize) -> Result<(), Refusal>
     ensures { refused_by result ≡ refusal (batch_order (sound_with d words) total) }
 {
-    if words != MARK_WORDS || !record::sound(d) {
+    if !ready(d, words) {
         return Err(Refusal::Unsound);
     }
     if total > MOST_NOTES {
@@ -123,6 +133,19 @@ pub fn begin(d: Device, words: usize, total: usize) -> Batched
         count: 0,
         refusal: 0,
     }
+}
+
+// Whether a batch of `total` records that has come so far has a note to do.
+pub fn due(b: Batched, total: usize) -> bool
+    ensures { result ≡ is_due b total }
+{
+    if b.number != 0 {
+        return false;
+    }
+    if b.refusal != 0 {
+        return false;
+    }
+    b.done < total
 }
 
 // A batch after one more note: done, it is counted; refused, it cuts the batch.
@@ -200,29 +223,13 @@ pub fn batch_on<E: Notes>(d: Device, marks: &mut [E::Cell], list: &[WriteRecord]
     ensures { (result ≡ (batch_by E.engine d (E.area marks.old) list.now).answer) × (E.area marks.new ≡ (batch_by E.engine d (E.area marks.old) list.now).marks) }
 {
     let mut b = begin(d, E::words(marks), list.len());
-    if b.number != 0 {
-        return b;
-    }
     for w in list {
-        b = tally(b, E::note(d, marks, w.id, w.address, w.bytes));
-        if b.refusal != 0 {
+        if !due(b, list.len()) {
             return b;
         }
+        b = tally(b, E::note(d, marks, w.id, w.address, w.bytes));
     }
     b
-}
-
-// So is a batch of the first n of some records.
-pub fn batch_of_on<E: Notes>(
-    d: Device,
-    marks: &mut [E::Cell],
-    list: [WriteRecord; 1025],
-    n: usize,
-) -> Batched
-    ensures { (result ≡ (batch_by E.engine d (E.area marks.old) (take n list)).answer)
-        × (E.area marks.new ≡ (batch_by E.engine d (E.area marks.old) (take n list)).marks) }
-{
-    batch_on::<E>(d, marks, &list[..n.min(1025)])
 }
 
 // Notes the writes of a list one after another, as `write` would, up to the first that is refused; that cuts the batch, and the batch is done. Refused, in
@@ -238,5 +245,5 @@ pub fn batch(d: Device, marks: &mut [u64], list: &[WriteRecord]) -> Batched
 pub fn batch_of(d: Device, marks: &mut [u64], list: [WriteRecord; 1025], n: usize) -> Batched
     ensures { (result ≡ (batch_change d marks.old (take n list)).answer) × (marks.new ≡ (batch_change d marks.old (take n list)).marks) }
 {
-    batch_of_on::<InWords>(d, marks, list, n)
+    batch(d, marks, &list[..n.min(1025)])
 }

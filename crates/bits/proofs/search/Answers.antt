@@ -14,30 +14,31 @@ pub returns-then-to-from : goal.returns-then-to-from
 returns-then-to-from c = sym (next-none _ _ _ _ c.if-to-from.true)
 
 pub overflow_add-i : goal.overflow_add-i
-overflow_add-i c = omega (arith, next-high c.args.want (digits 64 (get_or c.args.words.now c.loop-i.i 0)) c.saturating_sub.result 64)
+overflow_add-i c = omega (arith, next-high c.args.want (digits 64 (get_or c.args.words.now c.loop-i.i 0)) c.loop-i.b 64)
 
 pub returns-then-z-ne64 : goal.returns-then-z-ne64
 returns-then-z-ne64 c =
     let a = c.args in
     let i = c.loop-i.i in
-    let b = c.saturating_sub.result in
+    let b = c.loop-i.b in
     let z = c.low_from-z in
-    let here : 64 * i + b ≡ max a.from (64 * i) = omega arith in
+    let here : 64 * i + b ≡ max a.from (64 * i) = omega (arith, c.loop-i.invariant.2) in
     let least : c.min.result ≡ min (64 * i + z.result) a.to = omega arith in
-    least ∙ low-found a.want a.words.now i b z.result a.to (omega arith) (omega arith) z.ensures c.if-z-ne64.true
+    least ∙ low-found a.want a.words.now i b z.result a.to (omega (arith, c.loop-i.invariant.2)) (omega (arith, c.loop-i.invariant.2)) z.ensures c.if-z-ne64.true
     ∙ ap (λ (p : ℕ). next a.want (flat a.words.now) p a.to) here ∙ c.loop-i.invariant.0
 
 pub loop-i-preserved : goal.loop-i-preserved
 loop-i-preserved c =
     let a = c.args in
     let i = c.loop-i.i in
-    let b = c.saturating_sub.result in
+    let b = c.loop-i.b in
     let z = c.low_from-z in
-    let here : 64 * i + b ≡ max a.from (64 * i) = omega arith in
+    let here : 64 * i + b ≡ max a.from (64 * i) = omega (arith, c.loop-i.invariant.2) in
     let there : max a.from (64 * (i + 1)) ≡ 64 * (i + 1) = omega arith in (
       ap (λ (p : ℕ). next a.want (flat a.words.now) p a.to) there
-          ∙ low-none a.want a.words.now i b z.result a.to (omega arith) (omega arith) z.ensures c.if-z-ne64.false
+          ∙ low-none a.want a.words.now i b z.result a.to (omega (arith, c.loop-i.invariant.2)) (omega (arith, c.loop-i.invariant.2)) z.ensures c.if-z-ne64.false
           ∙ ap (λ (p : ℕ). next a.want (flat a.words.now) p a.to) here ∙ c.loop-i.invariant.0,
+      omega arith,
       omega arith,
     )
 

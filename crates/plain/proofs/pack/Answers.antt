@@ -1,8 +1,10 @@
-use mathlib.Core.Path.{◌≡◌, sym, ap, ◌∙◌}
+use mathlib.Core.Path.{◌≡◌, refl, sym, ap, ◌∙◌}
 use Prim.Native.Nat.{◌+◌, ◌<◌}
 use native.Mathlib.Omega.{arith}
-use lib.ListN.{get_or}
+use lib.ListN.{get_or, length-set}
+use lib.Seq.{take_all}
 use Rattle.pool.specs.Pool.{new_base}
+use Rattle.pool.proofs.Pool.{words-turn}
 use Rattle.plain.proofs.PackLaws.{packing-none, packing-length, packing-kept, packing-clear, packing-room, packing-there, packing-share, packing-all}
 use Rattle.plain.proofs.pack.Goals as goal
 use Rattle.plain.proofs.pack.Goals.{In-loop-unit, Then-i-new, then-i-new, else-i-new}
@@ -59,12 +61,23 @@ loop-unit-preserved c =
 pub loop-i-preserved : goal.loop-i-preserved
 loop-i-preserved c = (packing-share _ _ _ _ c.loop-unit.invariant.0 (omega arith), omega arith)
 
-pub copy_from_slice-requires : goal.copy_from_slice-requires
-copy_from_slice-requires c =
+pub loop-i-2-init : goal.loop-i-2-init
+loop-i-2-init c =
     let l = c.loop-i in
     let p = c.requires in
     let e : l.i ≡ 8 = omega arith in
-    sym (packing-length _ _ _ _ l.invariant.0 (omega (arith, l.invariant.0.next, p.0, p.1.fits, ap (new_base c.args.sizes) e)))
+    (refl, p.0, packing-length _ _ _ _ l.invariant.0 (omega (arith, l.invariant.0.next, p.1.fits, ap (new_base c.args.sizes) e)) ∙ p.0)
+
+pub loop-i-2-preserved : goal.loop-i-2-preserved
+loop-i-2-preserved c =
+    let l = c.loop-i-2 in (
+      words-turn l.area _ l.i (omega arith) (omega arith) l.invariant.0,
+      length-set l.area l.i _ ∙ l.invariant.1,
+      l.invariant.2,
+    )
 
 pub returns : goal.returns
-returns c = c.copy_from_slice.ensures.after ∙ packing-all _ _ _ _ c.loop-i.invariant.0 (omega arith)
+returns c =
+    let l = c.loop-i-2 in
+    let k = c.loop-i in
+    sym (take_all l.i l.area (omega arith)) ∙ l.invariant.0 ∙ take_all l.i k.packed (omega arith) ∙ packing-all _ _ _ _ k.invariant.0 (omega arith)

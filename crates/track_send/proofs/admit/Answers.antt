@@ -15,7 +15,7 @@ use Rattle.std.specs.declared.result.Result.TheVariants.{Err, Ok}
 use Rattle.record.proofs.RecordLaws.{Located, where_is-at, where_by-at}
 use Rattle.track_send.proofs.StartedLaws.{start-refused, start-suspended, start-tracked, start-header, start-listed, start-known, Listed, listed-known}
 use Rattle.track_send.proofs.admit.Goals as goal
-use Rattle.track_send.proofs.admit.Goals.{In_ok-place, In_ok-listed_refusal, In-Ok}
+use Rattle.track_send.proofs.admit.Goals.{In_ok-place, In_ok-listed_refusal, In-Is}
 
 -- the place that was found
 found : (c : In_ok-place)
@@ -35,14 +35,14 @@ located : (c : In_ok-place)
 located c = where_is-at _ _ _ _ (where_by-at _ _ _ _ _ (found c)).1
 
 -- the header that was read
-header : (c : In-Ok) → header_of c.args.«data».now ≡ Is c.in-Ok.granularity c.in-Ok.count
-header c = sym c.try_header-header.ensures ∙ ap header_by c.in-Ok.is
+header : (c : In-Is) → header_of c.args.«data».now ≡ Is c.in-Is.granularity c.in-Is.count
+header c = sym c.read_header.ensures.is ∙ c.in-Is.is
 
 -- what is known of its ranges, once they have passed
 known : (c : In_ok-listed_refusal)
     → let a = c.args in
-    Listed a.d.settings a.manager (units_of a.d) (managed_of a.d a.manager) (counts_of a.d) a.«data».now c.in-Ok.granularity c.in-Ok.count (sym c.try_header-header.ensures ∙ ap header_by c.in-Ok.is)
-known c = listed-known _ _ _ _ _ _ _ _ (sym c.try_header-header.ensures ∙ ap header_by c.in-Ok.is) _ c.listed_refusal.ensures (ap (λ o. (refused_at o).number) c.in_ok-listed_refusal.was)
+    Listed a.d.settings a.manager (units_of a.d) (managed_of a.d a.manager) (counts_of a.d) a.«data».now c.in-Is.granularity c.in-Is.count (sym c.read_header.ensures.is ∙ c.in-Is.is)
+known c = listed-known _ _ _ _ _ _ _ _ (sym c.read_header.ensures.is ∙ c.in-Is.is) _ c.listed_refusal.ensures (ap (λ o. (refused_at o).number) c.in_ok-listed_refusal.was)
 
 pub returns-in_err-place-clause-refusal : goal.returns-in_err-place-clause-refusal
 returns-in_err-place-clause-refusal c =
@@ -65,12 +65,12 @@ returns-in_default-clause-refusal c =
     let a = c.args in
     rw c.from-in_default.ensures (sym (start-tracked a.d a.words a.manager a.id a.«data».now _ (found (goal.at.returns-in_default-clause-refusal c).In_ok-place) c.if-c.false _ _ c.in_default.is))
 
-pub returns-in_default-header-clause-refusal : goal.returns-in_default-header-clause-refusal
-returns-in_default-header-clause-refusal c =
+pub returns-in_default-read_header-clause-refusal : goal.returns-in_default-read_header-clause-refusal
+returns-in_default-read_header-clause-refusal c =
     let a = c.args in
-    let e : c.try_header-header.result ≡ Err c.unwrap_err.result = search rules in
-    rw c.from-in_default-header.ensures
-    (sym (start-header a.d a.words a.manager a.id a.«data».now _ (found (goal.at.returns-in_default-header-clause-refusal c).In_ok-place) c.if-c.false c.in-Off.is _ _ (sym c.try_header-header.ensures ∙ ap header_by e)))
+    let e : c.try_header.result ≡ Err c.unwrap_err.result = search rules in
+    rw c.from-in_default-read_header.ensures
+    (sym (start-header a.d a.words a.manager a.id a.«data».now _ (found (goal.at.returns-in_default-read_header-clause-refusal c).In_ok-place) c.if-c.false c.in-Off.is _ _ (sym c.try_header.ensures ∙ ap header_by e)))
 
 pub listed_refusal-requires : goal.listed_refusal-requires
 listed_refusal-requires c = ((located (goal.at.listed_refusal-requires c).In_ok-place).sound, by (goal.at.listed_refusal-requires c).In_ok-place, header c)
@@ -80,7 +80,7 @@ pub returns-in_err-listed_refusal-clause-refusal : goal.returns-in_err-listed_re
 returns-in_err-listed_refusal-clause-refusal c =
     let a = c.args in
     ap refused_at (handed_on _ _ c.from_residual-in_err-listed_refusal.ensures.1) ∙ sym (ap refused_at c.in_err-listed_refusal.was) ∙ c.listed_refusal.ensures
-    ∙ sym (start-listed a.d a.words a.manager a.id a.«data».now _ (found (goal.at.returns-in_err-listed_refusal-clause-refusal c).In_ok-place) c.if-c.false c.in-Off.is _ _ (sym c.try_header-header.ensures ∙ ap header_by c.in-Ok.is))
+    ∙ sym (start-listed a.d a.words a.manager a.id a.«data».now _ (found (goal.at.returns-in_err-listed_refusal-clause-refusal c).In_ok-place) c.if-c.false c.in-Off.is _ _ (sym c.read_header.ensures.is ∙ c.in-Is.is))
 
 pub overflow_cast-result : goal.overflow_cast-result
 overflow_cast-result c = omega (arith, (known (goal.at.overflow_cast-result c).In_ok-listed_refusal).few)
@@ -89,14 +89,14 @@ pub returns-clause-refusal : goal.returns-clause-refusal
 returns-clause-refusal c =
     let a = c.args in
     sym (ap refused_at c.in_ok-listed_refusal.was) ∙ c.listed_refusal.ensures
-    ∙ sym (start-listed a.d a.words a.manager a.id a.«data».now _ (found (goal.at.returns-clause-refusal c).In_ok-place) c.if-c.false c.in-Off.is _ _ (sym c.try_header-header.ensures ∙ ap header_by c.in-Ok.is))
+    ∙ sym (start-listed a.d a.words a.manager a.id a.«data».now _ (found (goal.at.returns-clause-refusal c).In_ok-place) c.if-c.false c.in-Off.is _ _ (sym c.read_header.ensures.is ∙ c.in-Is.is))
 
 pub returns-clause-admits : goal.returns-clause-admits
 returns-clause-admits c =
     let a = c.args in
     let k = known (goal.at.returns-clause-admits c).In_ok-listed_refusal in
     let l = located (goal.at.returns-clause-admits c).In_ok-place in
-    let h = header (goal.at.returns-clause-admits c).In-Ok in
+    let h = header (goal.at.returns-clause-admits c).In-Is in
     let r = c.read_ranges.ensures ∙ ranges_read-there _ _ k.few k.there in
     record {
       found = found (goal.at.returns-clause-admits c).In_ok-place;
@@ -104,5 +104,5 @@ returns-clause-admits c =
       header = h;
       read = r;
       passed = sym c.listed_refusal.ensures ∙ ap refused_at c.in_ok-listed_refusal.was;
-      starts = start-known a.d a.manager a.«data».now _ l.sound l.used c.in-Off.is (sym c.try_header-header.ensures ∙ ap header_by c.in-Ok.is) r k;
+      starts = start-known a.d a.manager a.«data».now _ l.sound l.used c.in-Off.is (sym c.read_header.ensures.is ∙ c.in-Is.is) r k;
     }

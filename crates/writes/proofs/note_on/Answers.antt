@@ -38,7 +38,7 @@ returns-in_err-note_refusal c =
 pub returns-then-bytes-eq0 : goal.returns-then-bytes-eq0
 returns-then-bytes-eq0 c =
     leaves-unchanged _ _ _
-    (on-empty _ _ _ _ _ c.in_ok-note_refusal.ensures refl c.requires (omega (arith, sixteen (goal.at.returns-then-bytes-eq0 c).Start)) (λ i. (c.type_inv.marks i).fits) c.if-bytes-eq0.true)
+    (on-empty _ _ _ _ _ c.in_ok-note_refusal.ensures refl (c.requires (omega (arith, sixteen (goal.at.returns-then-bytes-eq0 c).Start))) (λ i. (c.type_inv.marks i).fits) c.if-bytes-eq0.true)
 
 pub returns-in_default : goal.returns-in_default
 returns-in_default c = leaves-unchanged _ _ _ (on-off _ _ _ _ _ _ c.in_ok-note_refusal.ensures refl c.in_default.is)

@@ -1,4 +1,4 @@
--- `writes::batch_of_on` is right: the first n of 1,025 records are the first min n 1,025. Assumes nothing.
+-- `plain::batch_of` is right: the first n of 1,025 records are the first min n 1,025. Assumes nothing.
 use mathlib.Core.Path.{◌≡◌, sym, ap}
 use lib.ListN.{length}
 use borrow.Author.Rules.{rules}
@@ -6,10 +6,11 @@ use Rattle.rules.proofs.LoopLaws.{length-mapped}
 use Rattle.calls.specs.Calls.{batch_by}
 use Rattle.calls.proofs.Answers.{leaves-as}
 use Rattle.writes.proofs.BatchLaws.{take-least}
-use Rattle.writes.proofs.batch_of_on.Goals as goal
+use Rattle.plain.specs.Bytes.{in_bytes}
+use Rattle.plain.proofs.batch_of.Goals as goal
 
 pub returns : goal.returns
-returns g c =
+returns c =
     let a = c.args in
     let all : length a.list ≡ 1025 = search (length-mapped, rules) in
-    leaves-as _ _ _ _ (ap (batch_by g.E.Notes.engine _ _) (sym (take-least _ _ _ all c.min.ensures))) c.batch_on.ensures
+    leaves-as _ _ _ _ (ap (batch_by in_bytes _ _) (sym (take-least _ _ _ all c.min.ensures))) c.batch.ensures
