@@ -2,7 +2,7 @@
 // Any bytes are met with an answer.
 #![tactic(auto)]
 
-ghost use Rattle.std.specs.Prelude.{◌≤◌, length, IfSome};
+ghost use Rattle.std.specs.Prelude.{◌≡◌, ℕ, drop, IfSome};
 
 use engines::Engine;
 use fields::Fields;
@@ -28,7 +28,7 @@ pub fn dev2<E: Engine, W: Write>(
 
 // Who makes the call of a line that begins with `by`, and the call's own line, the end of it: behind a manager, where the word of a call follows that a manager makes.
 fn by(line: &[u8]) -> Option<(u16, &[u8])>
-    ensures { IfSome result (λ by. length by.1.now ≤ length line.now) }
+    ensures { IfSome result (λ by. (n : ℕ) × (by.1.now ≡ drop n line.now)) }
 {
     let (b"by", mut fields) = fields::split(line) else {
         return None;
@@ -47,7 +47,7 @@ fn by(line: &[u8]) -> Option<(u16, &[u8])>
 // Who makes the call of a line, and the call's own line. A line that begins otherwise is played whole, by the first manager; so a `by` before anything else is bad, as a
 // word that no line begins with.
 pub fn caller_of(first: u16, line: &[u8]) -> (u16, &[u8])
-    ensures { length result.1.now ≤ length line.now }
+    ensures { (n : ℕ) × (result.1.now ≡ drop n line.now) }
 {
     by(line).unwrap_or((first, line))
 }

@@ -1,12 +1,12 @@
 -- What a start answers, case by case of its table. Assumes nothing.
 use mathlib.Core.Path.{◌≡◌, refl, sym, ap, ◌∙◌}
 use mathlib.Core.Logic.{◌≢◌}
-use mathlib.Core.Bool.{true, false}
+use mathlib.Core.Bool.{true, false, cond}
 use mathlib.Core.List.{List, [], ◌∷◌, ◌++◌}
 use Rattle.std.specs.declared.option.Option.TheVariants.{Some}
 use Prim.Native.Nat.{ℕ, ◌+◌, ◌*◌, ◌≤◌, ◌<◌}
 use native.Mathlib.Omega.{arith}
-use lib.Dec.{leb}
+use lib.Dec.{leb, eqb}
 use lib.ListN.{length, get_or, take, drop, replicate}
 use borrow.Author.Tests.{le-leb, lt-leb, leb-true, eq-eqb}
 use Rattle.little.specs.Little.{records_at}
@@ -38,6 +38,14 @@ use Rattle.start_data.proofs.Answers.{header_of-is, HeaderIs, header_of-refused,
 use Rattle.calls.specs.Calls.{Engine, start_by, started_with, bases_of, sizes_of, packed_device, start_done}
 use Rattle.track_send.specs.declared.Admitted.{Admitted}
 use Rattle.track_send.specs.Inner.{tracking, Starts, Admission, Admits}
+
+-- a header is refused with 6 or with 8
+pub refused-name : (x : List ℕ) (k at : ℕ) → header_of x ≡ header.Refused k at → cond (eqb k 6) 6 8 ≡ k
+refused-name x k at q = go k at (header_of-refused x k at q)
+  where
+    go : (k at : ℕ) → HeaderRefused x k at → cond (eqb k 6) 6 8 ≡ k
+    go k at (no_header t) = refl
+    go k at (other_version t v) = refl
 
 -- the tests of a start by a manager after those of its header: 7, 8 (listed ranges), 18 to 21, 10, 11, 12 and 34
 abbrev pub listed_tests : Settings → ℕ → ℕ → ℕ → ℕ → List ℕ → List Test

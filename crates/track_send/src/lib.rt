@@ -2,9 +2,9 @@
 // every returned value, every field of the record and every word of the marks afterwards.
 #![tactic(auto)]
 
-ghost use Rattle.std.specs.Prelude.{◌≡◌, true, ◌++◌, map, ◌+◌, ◌<◌, ◌≤◌, length, get_or, set};
+ghost use Rattle.std.specs.Prelude.{◌≡◌, true, cond, eqb, ◌++◌, map, ◌+◌, ◌<◌, ◌≤◌, length, get_or, set};
 ghost use Rattle.rules.specs.Lists.{sum};
-ghost use Rattle.rules.specs.Refusals.{refused_at, refusal_at};
+ghost use Rattle.rules.specs.Refusals.{number_of, refused_at, refusal_at};
 ghost use Rattle.rules.specs.Settings.{mark_words, is_manager, place_of};
 ghost use Rattle.rules.specs.StartData.{header_of};
 ghost use Rattle.rules.specs.declared.Header.TheVariants.{Is};
@@ -13,6 +13,7 @@ ghost use Rattle.record.specs.Record.{no_controller, with_controller, seen_in, m
 ghost use Rattle.calls.specs.Calls.{with_clear, bases_of, sizes_of, packed_from, packed_device, packed_words, stopped, start_change, stop_change};
 ghost use Rattle.calls.specs.Inner.{changed_by, started_by};
 ghost use Rattle.pool.specs.Pool.{new_base, new_bases};
+ghost use Rattle.start_data.specs.Answer.{header_says};
 ghost use Rattle.track_send.specs.Inner.{tracking, Admits, Installs};
 ghost use Rattle.rules.specs.Order.{start_listed, start_shared, start_order};
 
@@ -152,6 +153,16 @@ fn install(d: Device, marks: &mut [u64], manager: u16, start: Admitted) -> Devic
     recorded(d, manager, start, sizes)
 }
 
+// Why a header is refused, by name: of the two numbers that its reader refuses with, 6 is the version's.
+fn header_refusal(header: Header) -> Refusal
+    ensures { number_of result ≡ cond (eqb (header_says header).number 6) 6 8 }
+{
+    match header {
+        Header::Refused(6, _) => Refusal::Version,
+        _ => Refusal::Short,
+    }
+}
+
 // What a start records, where it passes its table, on marks of so many words, however they are held.
 pub fn admit(
     d: Device,
@@ -171,9 +182,9 @@ pub fn admit(
     let Tracking::Off = c.tracking else {
         return Err(RowRefusal::from(Refusal::Tracked));
     };
-    // The header reader's enum is taken apart by `let .. else`, as document 01 names this form; its refusal has its name from `try_header`.
-    let Header::Is(granularity, count) = start_data::read_header(data) else {
-        return Err(RowRefusal::from(start_data::try_header(data).unwrap_err()));
+    let header = start_data::read_header(data);
+    let Header::Is(granularity, count) = header else {
+        return Err(RowRefusal::from(header_refusal(header)));
     };
     listed_refusal(d, manager, granularity, count, data)?;
     Ok(Admitted {
