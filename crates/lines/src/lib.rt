@@ -1,7 +1,7 @@
 // Input on its way into lines, and answered line by line. What a line says is nothing to this.
 #![tactic(auto)]
 
-ghost use Rattle.std.specs.Prelude.{◌≤◌, ◌≡◌, ◌+◌, length, IfOk, IfSome};
+ghost use Rattle.std.specs.Prelude.{◌≤◌, ◌≡◌, ◌+◌, [], length, IfOk, IfSome};
 
 use std::io;
 use std::io::{Read, Write};
@@ -88,9 +88,11 @@ fn append(line: &mut [u8], used: usize, part: &[u8]) -> usize
 }
 
 impl<'a, R: Read, const LINE: usize> Lines<'a, R, LINE> {
+    ghost use Rattle.lines.specs.Unread.{unread};
+
     // The lines that this reader gives, of which nothing is read yet.
     pub fn new(from: &'a mut R) -> Lines<'a, R, LINE>
-        ensures { (result.input.at ≡ 0) × (result.input.end ≡ 0) }
+        ensures { unread result ≡ [] }
     {
         Lines {
             input: Input::new(from),
