@@ -2,12 +2,12 @@
 // afterwards.
 #![tactic(auto)]
 
-ghost use Rattle.std.specs.Prelude.{◌≡◌, ℕ, List, true, length, take, ◌+◌, ◌<◌, ◌≤◌, ◌^◌};
+ghost use Rattle.std.specs.Prelude.{◌≡◌, ℕ, List, true, length, take, get_or, ◌+◌, ◌<◌, ◌≤◌, ◌^◌};
 ghost use Rattle.rules.specs.Refusals.{refusal, refused_by};
 ghost use Rattle.rules.specs.Settings.{mark_words, most_units};
 ghost use Rattle.rules.specs.Units.{Unit, pending};
 ghost use Rattle.rules.specs.Order.{batch_order};
-ghost use Rattle.record.specs.Record.{sound_with};
+ghost use Rattle.record.specs.Record.{no_controller, sound_with};
 ghost use Rattle.calls.specs.Calls.{Engine, in_words, write_note, write_by, batch_change, batch_by};
 ghost use Rattle.calls.specs.Inner.{written_by};
 ghost use Rattle.writes.specs.Inner.{MayNote, note_tests, note_on, begin_of, is_due, tally_of};
@@ -54,6 +54,14 @@ fn note_on(c: Controller, marks: &mut [u64], at: u64, bytes: Bytes) -> Result<us
     Ok(marking::mark_ranges(marks, c.base as usize, rows, written))
 }
 
+// The controller at a place, whose ranges a note is held to.
+fn controller_at(d: Device, i: usize) -> Controller
+    requires { i < 8 }
+    ensures { result ≡ get_or d.controllers i no_controller }
+{
+    d.controllers[i]
+}
+
 // What a note on a record that is known to be sound comes to.
 fn try_note(d: Device, marks: &mut [u64], id: u16, at: u64, bytes: Bytes) -> Result<usize, Refusal>
     requires { sound_with d (length marks.old) ≡ true }
@@ -63,7 +71,7 @@ fn try_note(d: Device, marks: &mut [u64], id: u16, at: u64, bytes: Bytes) -> Res
     let Some(i) = settings::find(d.settings, id) else {
         return Err(Refusal::Unknown);
     };
-    note_on(d.controllers[i], marks, at, bytes)
+    note_on(controller_at(d, i), marks, at, bytes)
 }
 
 // Notes a write on a record that is known to be sound: the touched units of the controller's tracked ranges become pending. Refused, in this order: 2,

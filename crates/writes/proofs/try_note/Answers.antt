@@ -1,7 +1,6 @@
 -- `writes::try_note` is right: it refuses an identifier that is not in the settings, and else is the note of the controller at its place. Assumes nothing.
 use mathlib.Core.Path.{◌≡◌, refl, sym, ◌∙◌}
 use Prim.Native.Nat.{◌<◌}
-use native.Mathlib.Omega.{arith}
 use lib.ListN.{length}
 use borrow.Author.Rules.{rules}
 use Rattle.record.specs.Record.{where_is}
@@ -29,16 +28,14 @@ below c = (where_is-at _ _ _ _ (found c)).below
 pub returns-in_default : goal.returns-in_default
 returns-in_default c = leaves _ _ _ _ _ (write-refused _ _ _ _ _ _ (sound-nothing _ _ _ c.requires (sym c.find.ensures ∙ c.in_default.is))) refl refl
 
-pub offset_bounds-d-i : goal.offset_bounds-d-i
-offset_bounds-d-i c = omega (arith, below c)
-
-pub bounds-d-i : goal.bounds-d-i
-bounds-d-i c = below c
+pub controller_at-requires : goal.controller_at-requires
+controller_at-requires c = below (goal.at.controller_at-requires c).In-Some
 
 pub note_on-requires : goal.note_on-requires
 note_on-requires c =
     let a = (goal.at.note_on-requires c).In-Some in
-    may-note _ _ _ _ (found a) (eight a)
+    rw c.controller_at.ensures (may-note _ _ _ _ (found a) (eight a))
 
 pub returns : goal.returns
-returns c = leaves-as _ _ _ _ (write-on _ _ _ _ _ (found (goal.at.returns c).In-Some) _) c.note_on.ensures
+returns c =
+    leaves-as _ _ _ _ (rw c.controller_at.ensures (write-on _ _ _ _ _ (found (goal.at.returns c).In-Some) _)) c.note_on.ensures
