@@ -5,7 +5,7 @@ use mathlib.Core.Bool.{Bool, true, false, cond, or-false, and-true, and-false}
 use mathlib.Core.List.{List, [], ◌∷◌}
 use Rattle.std.specs.declared.option.Option.{Option}
 use Rattle.std.specs.declared.option.Option.TheVariants.{None, Some}
-use Prim.Native.Nat.{ℕ, ◌+◌, ◌^◌, ◌≤◌, ◌<◌}
+use Prim.Native.Nat.{ℕ, zero, suc, ◌+◌, ◌^◌, ◌≤◌, ◌<◌}
 use native.Mathlib.Omega.{arith}
 use native.Mathlib.Nat.{zero-add}
 use lib.ListN.{length, get_or, take, drop}
@@ -204,10 +204,16 @@ module _ (en : Engine) (d : Device) (ws : List ℕ) (id : ℕ) where
   unfolding write_by note_by
   write-on i e w = let l = where_is-at d (en.words ws) id i e in rw (l.place, l.seen)
 
-pub may-note : (d : Device) (ws : List ℕ) (id i : ℕ) → where_is d (length ws) id ≡ Ok i → length d.controllers ≡ 8 → let c = get_or d.controllers i no_controller in MayNote c ws c.base
-may-note d ws id i e h listed g n t =
+-- a place whose controller lists a range is one of the record's
+listed-below : (cs : List Controller) (i : ℕ) → 1 ≤ length (get_or cs i no_controller).ranges → i < length cs
+listed-below [] i h = absurd (omega (arith, h))
+listed-below (c ∷ cs) zero h = omega arith
+listed-below (c ∷ cs) (suc i) h = omega (arith, listed-below cs i h)
+
+pub may-note : (d : Device) (ws : List ℕ) (id i : ℕ) → where_is d (length ws) id ≡ Ok i → let c = get_or d.controllers i no_controller in MayNote c ws c.base
+may-note d ws id i e listed g n t =
     let l = where_is-at d (length ws) id i e in
-    let there : i < length d.controllers = omega (arith, l.below) in
+    let there : i < length d.controllers = listed-below d.controllers i listed in
     let f = held_at d (length ws) id i e there g n t in
     let fits = share-within d (length ws) id i e there g n t listed in
     record {

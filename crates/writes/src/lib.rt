@@ -55,18 +55,18 @@ fn note_on(c: Controller, marks: &mut [u64], at: u64, bytes: Bytes) -> Result<us
 }
 
 // The controller at a place, whose ranges a note is held to.
-fn controller_at(d: Device, i: usize) -> Controller
+fn controller_at(d: &Device, i: usize) -> Controller
     requires { i < 8 }
-    ensures { result ≡ get_or d.controllers i no_controller }
+    ensures { result ≡ get_or d.now.controllers i no_controller }
 {
     d.controllers[i]
 }
 
 // What a note on a record that is known to be sound comes to.
-fn try_note(d: Device, marks: &mut [u64], id: u16, at: u64, bytes: Bytes) -> Result<usize, Refusal>
-    requires { sound_with d (length marks.old) ≡ true }
-    ensures { (written_by result ≡ (write_note d marks.old id (record { address = at; bytes = bytes.0 })).answer)
-        × (marks.new ≡ (write_note d marks.old id (record { address = at; bytes = bytes.0 })).marks) }
+fn try_note(d: &Device, marks: &mut [u64], id: u16, at: u64, bytes: Bytes) -> Result<usize, Refusal>
+    requires { sound_with d.now (length marks.old) ≡ true }
+    ensures { (written_by result ≡ (write_note d.now marks.old id (record { address = at; bytes = bytes.0 })).answer)
+        × (marks.new ≡ (write_note d.now marks.old id (record { address = at; bytes = bytes.0 })).marks) }
 {
     let Some(i) = settings::find(d.settings, id) else {
         return Err(Refusal::Unknown);
@@ -81,7 +81,7 @@ pub fn note(d: Device, marks: &mut [u64], id: u16, at: u64, bytes: Bytes) -> Wri
     ensures { (result ≡ (write_note d marks.old id (record { address = at; bytes = bytes.0 })).answer)
         × (marks.new ≡ (write_note d marks.old id (record { address = at; bytes = bytes.0 })).marks) }
 {
-    calls::written_by(try_note(d, marks, id, at, bytes))
+    calls::written_by(try_note(&d, marks, id, at, bytes))
 }
 
 // Whether the record is sound and the marks have their words.
@@ -97,7 +97,7 @@ fn try_write(d: Device, marks: &mut [u64], id: u16, at: u64, bytes: Bytes) -> Re
         × (marks.new ≡ (write_note d marks.old id (record { address = at; bytes = bytes.0 })).marks) }
 {
     if ready(d, marks.len()) {
-        try_note(d, marks, id, at, bytes)
+        try_note(&d, marks, id, at, bytes)
     } else {
         Err(Refusal::Unsound)
     }

@@ -2,11 +2,9 @@
 use mathlib.Core.Path.{◌≡◌, refl, sym, ◌∙◌}
 use Prim.Native.Nat.{◌<◌}
 use lib.ListN.{length}
-use borrow.Author.Rules.{rules}
 use Rattle.record.specs.Record.{where_is}
 use Rattle.std.specs.declared.result.Result.TheVariants.{Ok}
 use Rattle.record.proofs.RecordLaws.{where_is-at}
-use Rattle.rules.proofs.LoopLaws.{length-mapped}
 use Rattle.calls.proofs.Answers.{leaves, leaves-as}
 use Rattle.writes.proofs.WriteLaws.{sound-found, sound-nothing, write-refused, write-on, may-note}
 use Rattle.writes.proofs.try_note.Goals as goal
@@ -15,12 +13,8 @@ use Rattle.writes.proofs.try_note.Goals.{In-Some}
 -- the place that was found
 found : (c : In-Some)
     → let a = c.args in
-    where_is a.d (length a.marks.now) a.id ≡ Ok c.in-Some.i
+    where_is a.d.now (length a.marks.now) a.id ≡ Ok c.in-Some.i
 found c = sound-found _ _ _ c.requires _ (sym c.find.ensures ∙ c.in-Some.is)
-
--- the record has its eight controllers
-eight : (c : In-Some) → length c.args.d.controllers ≡ 8
-eight c = search (length-mapped, rules)
 
 below : (c : In-Some) → c.in-Some.i < 8
 below c = (where_is-at _ _ _ _ (found c)).below
@@ -32,9 +26,7 @@ pub controller_at-requires : goal.controller_at-requires
 controller_at-requires c = below (goal.at.controller_at-requires c).In-Some
 
 pub note_on-requires : goal.note_on-requires
-note_on-requires c =
-    let a = (goal.at.note_on-requires c).In-Some in
-    rw c.controller_at.ensures (may-note _ _ _ _ (found a) (eight a))
+note_on-requires c = rw c.controller_at.ensures (may-note _ _ _ _ (found (goal.at.note_on-requires c).In-Some))
 
 pub returns : goal.returns
 returns c =
