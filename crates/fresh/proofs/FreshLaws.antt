@@ -1,7 +1,7 @@
 -- Laws of a fresh device: clear marks are words of zeros. Assumes nothing.
 use mathlib.Core.Path.{◌≡◌, refl, sym, ap, ◌∙◌}
 use mathlib.Core.Logic.{◌≢◌}
-use mathlib.Core.Bool.{Bool, true, false, cond}
+use mathlib.Core.Bool.{Bool, true, false, cond, true≢false}
 use mathlib.Core.List.{List}
 use Prim.Native.Nat.{ℕ, zero, suc, ◌*◌}
 use native.Mathlib.Omega.{arith}
@@ -17,8 +17,14 @@ use Rattle.rules.specs.Settings.{mark_words, settings_ok}
 use Rattle.rules.specs.Order.{fresh_order}
 use Rattle.rules.specs.Device.{fresh_device, closed_device, fresh_of}
 use Rattle.rules.specs.declared.Settings.{Settings}
-use Rattle.rules.proofs.RefusalLaws.{verdict-refused}
+use Rattle.rules.proofs.RefusalLaws.{number_of-pos, verdict-refused}
+use Rattle.rules.specs.declared.Device.{Device}
+use Rattle.rules.specs.declared.Refusal.{Refusal}
+use Rattle.std.specs.Result.{is_ok}
+use Rattle.std.specs.declared.result.Result.{Result}
+use Rattle.std.specs.declared.result.Result.TheVariants.{Err, Ok}
 use Rattle.calls.specs.declared.Changed.{Changed}
+use Rattle.calls.specs.Inner.{changed_by}
 use Rattle.calls.specs.Calls.{Engine, fresh_by, changed}
 
 -- ---- all marks clear
@@ -53,6 +59,15 @@ pub made-done : (s : Settings) (words : ℕ) → settings_ok s ≡ true → word
 unfolding fresh_of
 made-done s words e h = rw (e, eq-eqb words mark_words h)
 
+-- a fresh answers 0 where it is done
+done-number : (d : Device) (made : Result Device Refusal) → is_ok made ≡ true → (changed_by d made).number ≡ 0
+done-number d (Ok e) h = refl
+done-number d (Err r) h = absurd (true≢false (sym h))
+
+refused-number : (d : Device) (made : Result Device Refusal) → is_ok made ≡ false → (changed_by d made).number ≢ 0
+refused-number d (Ok e) h = absurd (true≢false h)
+refused-number d (Err r) h = number_of-pos r
+
 -- ---- what it leaves, in any engine
 
 pub fresh-refused : (en : Engine) (s : Settings) (ws : List ℕ) → (answer_of s (en.words ws)).number ≢ 0 → fresh_by en s ws ≡ record { answer = answer_of s (en.words ws); marks = ws }
@@ -75,3 +90,11 @@ fresh-whole s words z = (passed s words z).1
 pub fresh-done : (en : Engine) (s : Settings) (ws : List ℕ) → (answer_of s (en.words ws)).number ≡ 0 → fresh_by en s ws ≡ record { answer = answer_of s (en.words ws); marks = en.emptied ws }
 unfolding fresh_by fresh_of
 fresh-done en s ws z = let p = passed s (en.words ws) z in rw (p.0, eq-eqb (en.words ws) mark_words p.1)
+
+-- by what is made of the settings
+module _ (en : Engine) (s : Settings) (ws : List ℕ) (made : Result Device Refusal) (r : changed_by closed_device made ≡ answer_of s (en.words ws)) where
+  pub fresh-refuses : is_ok made ≡ false → fresh_by en s ws ≡ record { answer = answer_of s (en.words ws); marks = ws }
+  fresh-refuses h = fresh-refused en s ws (λ z. refused-number closed_device made h (ap (λ (x : Changed). x.number) r ∙ z))
+
+  pub fresh-does : is_ok made ≡ true → (en.words ws ≡ mark_words) × (fresh_by en s ws ≡ record { answer = answer_of s (en.words ws); marks = en.emptied ws })
+  fresh-does h = let z = sym (ap (λ (x : Changed). x.number) r) ∙ done-number closed_device made h in (fresh-whole s (en.words ws) z, fresh-done en s ws z)

@@ -1,6 +1,7 @@
 -- What a turn of a batch that is logged does to the log, for any engine: beside the invariant of the batch itself (`Turns` of `writes`), what is left of the notes makes of the
 -- log what the whole batch makes of it. Assumes nothing.
 use mathlib.Core.Path.{◌≡◌, refl, sym, ap, subst, ◌∙◌}
+use mathlib.Core.Logic.{◌≢◌}
 use mathlib.Core.Bool.{Bool, true, false, ◌&&◌, cond}
 use mathlib.Core.List.{List, ◌∷◌}
 use Prim.Native.Nat.{ℕ, ◌+◌, ◌<◌, ◌≤◌, min}
@@ -22,8 +23,8 @@ use Rattle.calls.specs.declared.Batched.{Batched}
 use Rattle.calls.specs.Calls.{Engine, Note, write_by, write_in, batch_by}
 use Rattle.booking.specs.Booking.{booked_by, write_log, notes_log, batch_log}
 use Rattle.writes.specs.Inner.{begin_of, is_due, tally_of}
-use Rattle.writes.proofs.BatchLaws.{due-left, due-cut, due-is, tally-cut, tally-done, take-least}
-use Rattle.writes.proofs.Turns.{no_record, Answered, Going, going-first, going-stops, over-due, going-next}
+use Rattle.writes.proofs.BatchLaws.{due-refused, due-left, due-cut, due-is, tally-cut, tally-done, take-least}
+use Rattle.writes.proofs.Turns.{no_record, Answered, Going, going-refused, going-first, going-stops, going-cut, over-due, going-next}
 
 module _ (en : Engine) (d : Device) (m₀ : List ℕ) (l₀ : Log) (rs : List WriteRecord) where
   abbrev n : ℕ
@@ -109,6 +110,10 @@ module _ (en : Engine) (d : Device) (m₀ : List ℕ) (l₀ : Log) (rs : List Wr
   pub logs-first : (b : Batched) → b ≡ begin_of d (en.words m₀) (length rs) → Logs 0 b m₀ l₀
   logs-first b e = record { going = going-first en d m₀ rs b e; books = rw e (books-start en d m₀ l₀ rs) }
 
+  pub logs-refused : (b : Batched) → b ≡ begin_of d (en.words m₀) (length rs) → b.number ≢ 0 → Logged b m₀ l₀
+  logs-refused b e h =
+      (going-refused en d m₀ rs b e h, books-end en d m₀ l₀ rs b m₀ l₀ (sym (due-refused b (length rs) h)) (rw e (books-start en d m₀ l₀ rs)))
+
   module _ (i : ℕ) (b : Batched) (m : List ℕ) (l : Log) (g : Logs i b m l) where
     pub logs-stops : is_due b (length rs) ≡ false → Logged b m l
     logs-stops off = (going-stops en d m₀ rs i b m g.going off, books-end en d m₀ l₀ rs b m l off g.books)
@@ -121,15 +126,18 @@ module _ (en : Engine) (d : Device) (m₀ : List ℕ) (l₀ : Log) (rs : List Wr
       abbrev given : WriteRecord
       given = get_or rs i no_record
 
-      pub logs-next : (w : Written) (m' : List ℕ) → w ≡ (write_by en d m given.id (write_in given)).answer → m' ≡ (write_by en d m given.id (write_in given)).marks
-          → w.count ≤ most_units → (l' : Log) → l' ≡ booked_by l (place_of d.settings given.id) w.number w.count 0 0 → (b' : Batched) → b' ≡ tally_of b w
-          → en.words m' ≡ en.words m₀ → Logs (i + 1) b' m' l'
-      logs-next w m' is-w is_m few l' is-l b' is_b s =
-          let done = g.going.done on in
-          record {
-            going = going-next en d m₀ rs i b m g.going on w m' is-w is_m few b' is_b s;
-            books = books-turned en d m₀ l₀ rs b m l on g.books w m' b' l' (rw done is-w) (rw done is_m) is_b (rw done is-l);
-          }
+      module _ (w : Written) (m' : List ℕ) (is-w : w ≡ (write_by en d m given.id (write_in given)).answer) (is_m : m' ≡ (write_by en d m given.id (write_in given)).marks)
+          (few : w.count ≤ most_units)
+          (l' : Log) (is-l : l' ≡ booked_by l (place_of d.settings given.id) w.number w.count 0 0) (b' : Batched) (is_b : b' ≡ tally_of b w) where
+        after : Books en d m₀ l₀ rs b' m' l'
+        after = let done = g.going.done on in books-turned en d m₀ l₀ rs b m l on g.books w m' b' l' (rw done is-w) (rw done is_m) is_b (rw done is-l)
+
+        pub logs-cut : b'.refusal ≢ 0 → Logged b' m' l'
+        logs-cut h =
+            (going-cut en d m₀ rs i b m g.going on w m' is-w is_m few b' is_b h, books-end en d m₀ l₀ rs b' m' l' (sym (due-cut b' (length rs) h)) after)
+
+        pub logs-next : en.words m' ≡ en.words m₀ → Logs (i + 1) b' m' l'
+        logs-next s = record { going = going-next en d m₀ rs i b m g.going on w m' is-w is_m few b' is_b s; books = after }
 
 -- the first n of 1,025 records are the first min n 1,025
 pub logged_of : (en : Engine) (d : Device) (m₀ : List ℕ) (l₀ : Log) (list : List WriteRecord) (n k : ℕ) (b : Batched) (m : List ℕ) (l : Log)

@@ -3,12 +3,12 @@ use mathlib.Core.Path.{◌≡◌, refl, sym, ap, ◌∙◌}
 use mathlib.Core.Logic.{◌≢◌}
 use mathlib.Core.Bool.{Bool, true, false, ◌&&◌, cond, and-false}
 use mathlib.Core.List.{List}
-use Prim.Native.Nat.{ℕ, ◌+◌, ◌<◌, min}
+use Prim.Native.Nat.{ℕ, ◌+◌, ◌<◌, ◌≤◌, min}
 use native.Mathlib.Omega.{arith}
 use lib.Dec.{ltb, leb, eqb}
 use lib.ListN.{length, take}
 use lib.Seq.{take_all}
-use borrow.Author.Tests.{leb-true, leb-false, eqb-true, eqb-false, eq-eqb, ne_eqb, ltb-true}
+use borrow.Author.Tests.{leb-true, leb-false, eqb-true, eqb-false, eq-eqb, ne_eqb, lt-ltb, le-ltb, ltb-true}
 use Rattle.rules.specs.Refusals.{refusal}
 use Rattle.rules.specs.Order.{batch_order}
 use Rattle.rules.specs.declared.Device.{Device}
@@ -42,6 +42,13 @@ module _ (b : Batched) (total : ℕ) where
   unfolding is_due
   due-left h k = rw (eq-eqb b.number 0 h, eq-eqb b.refusal 0 k)
 
+  pub due-on : b.number ≡ 0 → b.refusal ≡ 0 → b.done < total → is_due b total ≡ true
+  due-on h k l = sym (due-left h k) ∙ lt-ltb b.done total l
+
+  pub due-over : total ≤ b.done → is_due b total ≡ false
+  unfolding is_due
+  due-over l = rw (le-ltb b.done total l, and-false, and-false)
+
   -- where one is, nothing was refused, and records are left
   pub due-is : is_due b total ≡ true → (b.number ≡ 0) × (b.refusal ≡ 0) × (b.done < total)
   unfolding is_due
@@ -63,9 +70,17 @@ module _ (b : Batched) (w : Written) where
   unfolding tally_of
   tally-done h = rw (eq-eqb w.number 0 h)
 
-  -- a note that was not refused is done
+  -- it stays as it began, and a note that was not refused is done
   abbrev tallied : Bool → Batched
   tallied y = cond y (record { number = b.number; done = b.done + 1; count = b.count + w.count; refusal = b.refusal }) (record { number = b.number; done = b.done; count = b.count; refusal = w.number })
+
+  pub tally-number : (tally_of b w).number ≡ b.number
+  unfolding tally_of
+  tally-number = go (eqb w.number 0)
+    where
+      go : (y : Bool) → (tallied y).number ≡ b.number
+      go true = refl
+      go false = refl
 
   pub tally-went : (tally_of b w).refusal ≡ 0 → (tally_of b w).done ≡ b.done + 1
   unfolding tally_of

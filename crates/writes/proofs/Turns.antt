@@ -34,7 +34,7 @@ use Rattle.calls.specs.declared.WriteRecord.{WriteRecord}
 use Rattle.calls.specs.declared.Batched.{Batched}
 use Rattle.calls.specs.Calls.{Engine, in_words, Change, Note, noted, note_in, write_done, write_by, write_in, batched, notes_from, batch_by}
 use Rattle.writes.specs.Inner.{begin_of, is_due, tally_of}
-use Rattle.writes.proofs.BatchLaws.{due-left, due-cut, due-is, tally-cut, tally-done, tally-went}
+use Rattle.writes.proofs.BatchLaws.{due-refused, due-left, due-cut, due-is, tally-cut, tally-done, tally-went}
 
 -- ---- a note makes at most as many units pending as there are marks
 
@@ -228,6 +228,10 @@ module _ (en : Engine) (d : Device) (m₀ : List ℕ) (rs : List WriteRecord) wh
   unfolding begin_of
   going-first b e = record { facts = rw e starts; same = refl; done = λ h. rw e }
 
+  -- one that is refused before its first note is answered as it begins
+  pub going-refused : (b : Batched) → b ≡ begin_of d (en.words m₀) n → b.number ≢ 0 → Answered b m₀
+  going-refused b e h = stopped b m₀ (sym (due-refused b n h)) (rw e starts)
+
   module _ (i : ℕ) (b : Batched) (m : List ℕ) (g : Going i b m) where
     pub going-stops : is_due b n ≡ false → Answered b m
     going-stops off = stopped b m off g.facts
@@ -260,6 +264,10 @@ module _ (en : Engine) (d : Device) (m₀ : List ℕ) (rs : List WriteRecord) wh
 
         pub going-fits : (b.done + 1 < 2 ^ 64) × (b.count + w.count < 2 ^ 64)
         going-fits = fits_in b m g.same on g.facts w few
+
+        -- one that this note cuts is answered as it is tallied
+        pub going-cut : (b' : Batched) → b' ≡ tally_of b w → b'.refusal ≢ 0 → Answered b' m'
+        going-cut b' is_b h = stopped b' m' (sym (due-cut b' n h)) (turned b m g.same on g.facts w m' b' w-is m-is few is_b)
 
         pub going-next : (b' : Batched) → b' ≡ tally_of b w → en.words m' ≡ en.words m₀ → Going (i + 1) b' m'
         going-next b' is_b s =
